@@ -67,6 +67,7 @@ fn open(alloc: Global) -> anyhow::Result<Opened<Shared>>
     let limits = Limits {
         lanes: 4,
         tries: 64,
+        keys: 64,
         numbers: 100,
         keep_faults: true,
     };

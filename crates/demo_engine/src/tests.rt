@@ -195,7 +195,7 @@ fn keep<R: Wait>(
     requires node { node < length store.now.tree }
     ensures { IsLaneOf store.now.id lane.new }
 {
-    let kept = match store.keep_wait(rt, lane, value) {
+    let kept = match store.keep_wait(lane, value) {
         Ok(kept) => kept,
         Err((_, why)) => bail!(why),
     };

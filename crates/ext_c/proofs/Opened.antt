@@ -120,7 +120,7 @@ left_none seats left slots i so_far none lt same =
 
 -- ---- what an opening says that is refused
 
-pub open_no_tree : (bytes lengths : List ℕ) (tries numbers : ℕ) (keeps : Bool) (slots : List ExtSlot) (said : Code) → AreEmpty slots → AreStoreLimits (length slots) tries numbers
+pub open_no_tree : (bytes lengths : List ℕ) (tries numbers : ℕ) (keeps : Bool) (slots : List ExtSlot) (said : Code) → AreEmpty slots → AreStoreLimits 64 (length slots) tries numbers
     → NamesNoTree bytes lengths said ⊎ (AreTexts bytes lengths × (said ≡ code.NoMemory)) → OpenSays bytes lengths tries numbers keeps slots slots said
 open_no_tree bytes lengths tries numbers keeps slots said empty limits (inl none) = OpenSays.no_tree empty limits none refl
 open_no_tree bytes lengths tries numbers keeps slots said empty limits (inr memory) = OpenSays.no_memory empty limits memory.0 refl memory.1

@@ -90,7 +90,7 @@ TellsStood context number before after told said =
 pub data NotAsked (context key : ℕ) (seat : Seat) : Code → Type 0 where
   claiming : (claim : ℕ) → seat.claim ≡ Some claim → NotAsked context key seat code.Claiming
   no_context : seat.claim ≡ None → length (store_of seat).tree ≤ context → NotAsked context key seat code.BadContext
-  no_key : seat.claim ≡ None → 64 ≤ key → NotAsked context key seat code.BadKey
+  no_key : seat.claim ≡ None → length (store_of seat).id.keys ≤ key → NotAsked context key seat code.BadKey
 
 -- ---- get
 

@@ -21,7 +21,7 @@ AreEmpty slots = All (λ (s : ExtSlot). s.state ≡ 0) slots
 
 -- The store has these ids and limits, and 64 keys.
 pub record IsStoreOf (ids : List Id) (lanes tries numbers : ℕ) (keeps : Bool) (store : StoreView) : Type 0 where
-  pub within : AreStoreLimits lanes tries numbers
+  pub within : AreStoreLimits 64 lanes tries numbers
   pub tree : store.tree ≡ ids
   pub limits : store.id.cells.limits ≡ record { cells = length ids * 64; lanes = lanes; numbers = numbers; keep_faults = keeps }
   pub tries_are : store.tries ≡ tries
@@ -94,9 +94,9 @@ pub record AreOpened (ids : List Id) (lanes tries numbers : ℕ) (keeps : Bool) 
 -- store with these ids and limits, and the slots have its lanes.
 pub data OpenSays (bytes lengths : List ℕ) (tries numbers : ℕ) (keeps : Bool) (before after : List ExtSlot) (said : Code) : Type 0 where
   not_empty : ¬ AreEmpty before → after ≡ before → said ≡ code.NotEmpty → OpenSays bytes lengths tries numbers keeps before after said
-  bad_limit : AreEmpty before → ¬ AreStoreLimits (length before) tries numbers → after ≡ before → said ≡ code.BadLimit → OpenSays bytes lengths tries numbers keeps before after said
-  no_tree : AreEmpty before → AreStoreLimits (length before) tries numbers → NamesNoTree bytes lengths said → after ≡ before → OpenSays bytes lengths tries numbers keeps before after said
-  no_memory : AreEmpty before → AreStoreLimits (length before) tries numbers → AreTexts bytes lengths → after ≡ before → said ≡ code.NoMemory
+  bad_limit : AreEmpty before → ¬ AreStoreLimits 64 (length before) tries numbers → after ≡ before → said ≡ code.BadLimit → OpenSays bytes lengths tries numbers keeps before after said
+  no_tree : AreEmpty before → AreStoreLimits 64 (length before) tries numbers → NamesNoTree bytes lengths said → after ≡ before → OpenSays bytes lengths tries numbers keeps before after said
+  no_memory : AreEmpty before → AreStoreLimits 64 (length before) tries numbers → AreTexts bytes lengths → after ≡ before → said ≡ code.NoMemory
       → OpenSays bytes lengths tries numbers keeps before after said
   opened : AreEmpty before → AreTexts bytes lengths → (ids : List Id) → AllZip IsIdText (texts_in bytes lengths) ids → IsTree ids
       → (store : StoreView) → IsStoreOf ids (length before) tries numbers keeps store → HaveLanes store (lanes_below store (length before)) after

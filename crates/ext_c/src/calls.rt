@@ -23,7 +23,7 @@ impl Seat {
         ensures barred { IfSome result (NotAsked context key self.now) }
         ensures idle { result ≡ None → self.now.claim ≡ None }
         ensures context { result ≡ None → context < length (store_of self.now).tree }
-        ensures key { result ≡ None → key < 64 }
+        ensures key { result ≡ None → key < length (store_of self.now).id.keys }
     {
         if self.claim.is_some() {
             return Some(Code::Claiming);
@@ -32,7 +32,7 @@ impl Seat {
         if context >= shared.tree().len() {
             return Some(Code::BadContext);
         }
-        if key >= 64 {
+        if key >= shared.key_count() {
             return Some(Code::BadKey);
         }
         None
@@ -41,7 +41,7 @@ impl Seat {
     // `Store::get_numbered`.
     pub(crate) fn look(&mut self, context: usize, key: usize) -> Result<Look, Refusal>
         requires context { context < length (store_of self.old).tree }
-        requires key { key < 64 }
+        requires key { key < length (store_of self.old).id.keys }
         requires idle { self.old.claim ≡ None }
         ensures store { self.new.store ≡ self.old.store }
         ensures closers { self.new.closers ≡ self.old.closers }
@@ -78,7 +78,7 @@ impl Seat {
         kept: Kept,
     ) -> Result<Option<u32>, (Kept, Refusal)>
         requires context { context < length (store_of self.old).tree }
-        requires key { key < 64 }
+        requires key { key < length (store_of self.old).id.keys }
         requires idle { self.old.claim ≡ None }
         requires kept { IsKeptBy self.old.lane kept }
         ensures store { self.new.store ≡ self.old.store }
@@ -95,7 +95,7 @@ impl Seat {
     // `Store::remove_numbered`.
     pub(crate) fn take_out(&mut self, context: usize, key: usize) -> Result<Option<u32>, Refusal>
         requires context { context < length (store_of self.old).tree }
-        requires key { key < 64 }
+        requires key { key < length (store_of self.old).id.keys }
         requires idle { self.old.claim ≡ None }
         ensures store { self.new.store ≡ self.old.store }
         ensures closers { self.new.closers ≡ self.old.closers }
@@ -111,7 +111,7 @@ impl Seat {
     // `Store::begin_numbered_quietly`; the seat has the claim afterwards.
     pub(crate) fn claim_missing(&mut self, context: usize, key: usize) -> Option<Unused>
         requires context { context < length (store_of self.old).tree }
-        requires key { key < 64 }
+        requires key { key < length (store_of self.old).id.keys }
         requires idle { self.old.claim ≡ None }
         ensures store { self.new.store ≡ self.old.store }
         ensures closers { self.new.closers ≡ self.old.closers }

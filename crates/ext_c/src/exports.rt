@@ -57,6 +57,7 @@ fn open(
     let limits = Limits {
         lanes: slots.len(),
         tries,
+        keys: 64,
         numbers,
         keep_faults,
     };

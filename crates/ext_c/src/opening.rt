@@ -114,19 +114,22 @@ fn seats(
 
 // Whether a store can have these limits.
 pub(crate) fn are_limits(limits: Limits) -> bool
-    ensures { IsTrue result ↔ AreStoreLimits limits.lanes limits.tries limits.numbers }
+    ensures { IsTrue result ↔ AreStoreLimits limits.keys limits.lanes limits.tries limits.numbers }
 {
     1 <= limits.lanes
         && limits.lanes <= 16
+        && 1 <= limits.keys
+        && limits.keys <= 1024
         && 1 <= limits.tries
         && limits.tries <= 64
         && 1 <= limits.numbers
         && limits.numbers <= 65_535
 }
 
-// The seats of a new store, if there is memory.
+// The seats of a new store with 64 keys, if there is memory.
 pub(crate) fn open_seats(alloc: Global, tree: Tree, limits: Limits) -> Option<Vec<Box<Seat>>>
-    requires limits { AreStoreLimits limits.lanes limits.tries limits.numbers }
+    requires limits { AreStoreLimits limits.keys limits.lanes limits.tries limits.numbers }
+    requires keys { limits.keys ≡ 64 }
     ensures { IfSome result (λ seats. AreOpened tree limits.lanes limits.tries limits.numbers limits.keep_faults seats.items) }
 {
     parts_cross();

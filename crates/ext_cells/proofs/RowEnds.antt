@@ -13,10 +13,11 @@ use Rattle.ext_history.proofs.Composed.{calls_moved}
 use Rattle.ext_history.proofs.Fronts.{moved_seen, moved_once}
 use Rattle.ext_model.specs.declared.event.Act.{Act}
 use Rattle.ext_model.specs.declared.event.Act.TheVariants.{Seal}
+use Rattle.ext_model.specs.Closing.{IsSealedUnused}
 use Rattle.ext_model.specs.History.{History, Limits, lane_of, state_after}
 use Rattle.ext_model.specs.CallActs.{LaneView, Calls, GoesOn}
 use Rattle.ext_rows.specs.declared.view.View.{View}
-use Rattle.ext_rows.specs.Standings.{Open, Ended, IsEnded, MayEnd, seals}
+use Rattle.ext_rows.specs.Standings.{Open, Ended, MayEnd, seals}
 use Rattle.ext_rows.specs.Views.{limits_of}
 use Rattle.ext_rows.specs.Steps.{EndOf}
 use Rattle.ext_rows.specs.Marks.{row_place, is_ended, mark_of, has_mark, standing_by, standing_in, marks}
@@ -24,7 +25,7 @@ use Rattle.ext_rows.proofs.Ends.{end_legal, end_own}
 use Rattle.ext_rows.proofs.Marked.{tells_of, tells_so}
 use Rattle.ext_rows.proofs.MarkedRows.{when_open}
 use Rattle.ext_cells.specs.Lanes.{Lane}
-use Rattle.ext_cells.specs.CellCalls.{EndsHalf}
+use Rattle.ext_cells.specs.CellCalls.{EndsBlock}
 use Rattle.ext_cells.proofs.Lanes.{IsLaneView, lane_of as lane_with, stays_lane}
 
 -- ---- marks
@@ -89,7 +90,7 @@ module _ (table table' : TableId) (me after : Me (Act ℕ) View) (number row pla
   moved_is : lane_with table' after.0 number ≡ record { cells = record { table = table; limits = limits }; view = moved old (new_history ∷ []) }
   moved_is = λ i. lane_with (same i) (ap (λ z. z.0) did.after_is i) number
 
-  ends_of : EndsHalf (lane_with table me.0 number) (record { cells = record { table = table; limits = limits }; view = moved old (new_history ∷ []) }) row marks_are
+  ends_of : EndsBlock (lane_with table me.0 number) (record { cells = record { table = table; limits = limits }; view = moved old (new_history ∷ []) }) row marks_are
   ends_of = record {
     cells = did.cells;
     calls = ended_calls limits old did.history did.cells (record { legal = did.legal; begins = did.begins; own_same = did.own_is }) did.lane_is did.may;
@@ -98,19 +99,19 @@ module _ (table table' : TableId) (me after : Me (Act ℕ) View) (number row pla
     may = did.may;
     within = λ cell there.
         let t = tells_of limits place found cell Open (did.opened cell there) in
-        record { half_is = row_of me.0.limits.cells row place cell at t.0; mark = bits (cell % 32) (omega arith) ∙ no_mark found cell (when_open (has_mark found cell) (is_ended found) cell t.1).0 };
+        record { block_is = row_of me.0.limits.cells row place cell at t.0; mark = bits (cell % 32) (omega arith) ∙ no_mark found cell (when_open (has_mark found cell) (is_ended found) cell t.1).0 };
     sealed = λ cell less none.
         let isnt = unmarked found cell (sym (bits (cell % 32) (omega arith)) ∙ none.mark) in
-        let here = in_row me.0.limits.cells row place cell at none.half_is in
-        let ended : IsEnded new_history cell = did.ended cell less (elim (stands_left found cell isnt) [
+        let here = in_row me.0.limits.cells row place cell at none.block_is in
+        let ended : IsSealedUnused new_history cell = did.ended cell less (elim (stands_left found cell isnt) [
           | inl p ↦ inl (tells_so limits place found cell Open here p)
           | inr p ↦ inr (tells_so limits place found cell Ended here p)
         ]) in
-        ap (λ (h : History). (state_after h).slots cell) (moved_seen old (new_history ∷ [])) ∙ ended.slot;
+        subst (λ (h : History). IsSealedUnused h cell) (sym (moved_seen old (new_history ∷ []))) ended;
   }
 
-  pub ends_half : EndsHalf lane (lane_with table' after.0 number) row marks_are
-  ends_half = subst (λ l. EndsHalf l (lane_with table' after.0 number) row marks_are) is (subst (λ l. EndsHalf (lane_with table me.0 number) l row marks_are) (sym moved_is) ends_of)
+  pub ends_block : EndsBlock lane (lane_with table' after.0 number) row marks_are
+  ends_block = subst (λ l. EndsBlock l (lane_with table' after.0 number) row marks_are) is (subst (λ l. EndsBlock (lane_with table me.0 number) l row marks_are) (sym moved_is) ends_of)
 
   pub end_stays : IsLaneView after.0 number
   end_stays = stays_lane me.0 after.0 new_history number inv (end_legal limits did.history number did.cells did.legal did.lane_is did.may) (prefix_trans (seen me.0.fronts) did.history new_history did.begins (seals number did.cells, refl)) (ap (λ z. z.0) did.after_is)

@@ -7,6 +7,7 @@ use Rattle.ext_model.specs.declared.slot.Slot.{Slot}
 use Rattle.ext_model.specs.declared.slot.Slot.TheVariants as slot
 use Rattle.ext_model.specs.Events as events
 use Rattle.ext_model.specs.Events.{place_of}
+use Rattle.ext_model.specs.Closing.{IsSealedUnused}
 use Rattle.ext_model.specs.History.{History, reply_after, state_after, version_of}
 use Rattle.ext_model.specs.Plain.{number_drawn, what_stood}
 use Rattle.ext_model.specs.CellWords.{word_of}
@@ -157,13 +158,13 @@ Collects tries before after cells (Err why) = (why ≡ Contended) × model.IsOve
 
 -- ---- the nearest cell
 
--- The cell of a row in a column. A row has 64 cells, one for each column.
-abbrev pub cell_at : ℕ → ℕ → ℕ
-cell_at column row = row * 64 + column
+-- The cell of a row in a column, where a row has so many cells, one for each column.
+abbrev pub cell_at : ℕ → ℕ → ℕ → ℕ
+cell_at width column row = row * width + column
 
 -- The cells of these rows in one column, in the order of the rows.
-abbrev pub cells_in : List ℕ → ℕ → List ℕ
-cells_in rows column = map (cell_at column) rows
+abbrev pub cells_in : List ℕ → ℕ → ℕ → List ℕ
+cells_in rows width column = map (cell_at width column) rows
 
 -- What a look-up learns of what stands at a cell. It learns neither whose claim it is nor what a seal keeps.
 abbrev pub standing_of : Option Slot → Option Standing
@@ -196,20 +197,20 @@ abbrev pub FindsNearest : ℕ → Lane → Lane → List ℕ → Result (Option 
 FindsNearest tries before after cells (Ok nearest) = StoodNearest before after cells nearest
 FindsNearest tries before after cells (Err why) = (why ≡ Contended) × model.IsOvertaken before.cells.limits tries before.view after.view
 
--- ---- the end of half a row
+-- ---- the end of a block
 
--- The cell is in this half, and has no mark among these. The halves of all rows are numbered in order, 32 cells each.
-pub record IsUnmarked (half marks cell : ℕ) : Type 0 where
-  pub half_is : cell / 32 ≡ half
+-- The cell is in this block of 32 cells, and has no mark among these. The blocks are numbered in order.
+pub record IsUnmarked (block marks cell : ℕ) : Type 0 where
+  pub block_is : cell / 32 ≡ block
   pub mark : bit_at marks (cell % 32) ≡ 0
 
--- The call sealed cells of the half that never had an event, all at once: what is seen is the history before their
--- seals, and then these. Afterwards each cell of the half without a mark is sealed, and its seal kept nothing.
-pub record EndsHalf (before after : Lane) (half marks : ℕ) : Type 0 where
+-- The call sealed cells of the block that never had an event, all at once: what is seen is the history before their
+-- seals, and then these. Afterwards each cell of the block without a mark is sealed, and nobody had used it.
+pub record EndsBlock (before after : Lane) (block marks : ℕ) : Type 0 where
   pub cells : List ℕ
   pub calls : model.Calls before.cells.limits before.view after.view (map Seal cells)
   pub past : History
   pub seals : seen_by after.view ≡ past ++ model.events_by before.view.number (map Seal cells)
   pub may : MayEnd before.cells.limits past cells
-  pub within : (cell : ℕ) → Contains cells cell → IsUnmarked half marks cell
-  pub sealed : (cell : ℕ) → cell < before.cells.limits.cells → IsUnmarked half marks cell → (state_after (seen_by after.view)).slots cell ≡ Some (slot.Sealed None)
+  pub within : (cell : ℕ) → Contains cells cell → IsUnmarked block marks cell
+  pub sealed : (cell : ℕ) → cell < before.cells.limits.cells → IsUnmarked block marks cell → IsSealedUnused (seen_by after.view) cell

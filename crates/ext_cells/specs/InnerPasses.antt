@@ -1,11 +1,12 @@
 -- One pass over some cells, which reads each of them once and in order, and what is kept of their words. No public
 -- contract cites it.
-use Rattle.std.specs.Prelude.{◌≡◌, ◌⊎◌, ℕ, ◌^◌, ◌<◌, List, [], ◌∷◌, All, Option, None, Some, length, slice_index, sum_by, take}
+use Rattle.std.specs.Prelude.{◌≡◌, ◌⊎◌, ℕ, ◌^◌, ◌+◌, ◌/◌, ◌<◌, List, [], ◌∷◌, All, Option, None, Some, length, slice_index, sum_by, take}
 use Rattle.ext_model.specs.declared.slot.Slot.{Slot}
 use Rattle.ext_model.specs.History.{History, Limits, own, IsLegal}
 use Rattle.ext_model.specs.CellWords.{number_code, slot_word, word_of}
 use Rattle.ext_history.specs.Histories.{last_after, seen_by, Follow, moved}
 use Rattle.ext_model.specs.CallActs.{LaneView}
+use Rattle.ext_cells.specs.declared.nearest.Column.{Column}
 use Rattle.ext_cells.specs.declared.nearest.EmptyCells.{EmptyCells}
 use Rattle.ext_cells.specs.declared.nearest.Nearest.{Nearest}
 use Rattle.ext_cells.specs.declared.nearest.Reading.{Reading}
@@ -13,6 +14,7 @@ use Rattle.ext_cells.specs.declared.standing.Standing.{Standing}
 use Rattle.ext_cells.specs.WordChanges.{version_in, IsEmptyWord}
 use Rattle.ext_cells.specs.CellCalls.{standing_of}
 use Rattle.ext_cells.specs.InnerSteps.{Finds}
+use Rattle.ext_rows.specs.Marks.{mark_of}
 
 -- Each word is its cell's at the front with which it was read.
 abbrev pub EachRead : List ℕ → List ℕ → List History → Type 0
@@ -30,6 +32,13 @@ pub record ReadPass (limits : Limits) (before after : LaneView) (cells words : L
   pub legal : IsLegal limits (last_after (seen_by before) fronts)
   pub own_same : own before.number (last_after (seen_by before) fronts) ≡ own before.number (seen_by before)
   pub read : EachRead cells words fronts
+
+-- ---- a column
+
+-- So stand the marks of a column, behind so many cells and their count.
+pub record IsColumn (cells : ℕ) (column : Column) : Type 0 where
+  pub marks : column.marks ≡ cells + 1 + column.place / 32
+  pub mark : column.mark ≡ mark_of column.place
 
 -- ---- what is kept of the words
 

@@ -22,9 +22,9 @@ pub record Lane : Type 0 where
 
 -- ---- opening
 
--- The limits of an opening. 16,384 cells are enough for 256 contexts with 64 keys each.
+-- The limits of an opening. 262,144 cells are enough for 256 contexts with 1,024 keys each.
 pub record AreLimits (cells lanes tries numbers : ℕ) : Type 0 where
-  pub cells_fit : cells ≤ 16384
+  pub cells_fit : cells ≤ 262144
   pub lanes_fit : (1 ≤ lanes) × (lanes ≤ 16)
   pub tries_fit : (1 ≤ tries) × (tries ≤ 64)
   pub numbers_fit : (1 ≤ numbers) × (numbers ≤ 65535)

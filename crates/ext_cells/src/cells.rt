@@ -8,8 +8,9 @@ ghost use Rattle.ext_history.specs.Histories.{seen_by, call_fronts};
 ghost use Rattle.ext_model.specs.CallActs.{Calls, IsHeld, MayStoreNow};
 ghost use Rattle.ext_model.specs.declared.event.Act.TheVariants as act_is;
 ghost use Rattle.ext_cells.specs.Lanes.{AreLimits, fresh_lanes};
+ghost use Rattle.ext_rows.specs.Marks.{row_place, mark_of};
 ghost use Rattle.ext_rows.specs.Steps.{IsWordAt, place_in};
-ghost use Rattle.ext_cells.specs.CellCalls.{Answers, SealAnswers, ComesLast, EndsClaim, EndsHalf, Collects, IsOvertakenOn, before_last_pass, IfWon, change_reply, claim_reply, number_reply, number_acts, put_acts, remove_acts, claim_acts};
+ghost use Rattle.ext_cells.specs.CellCalls.{Answers, SealAnswers, ComesLast, EndsClaim, EndsBlock, Collects, IsOvertakenOn, before_last_pass, IfWon, change_reply, claim_reply, number_reply, number_acts, put_acts, remove_acts, claim_acts};
 ghost use Rattle.ext_cells.specs.InnerSteps.{stepped, Finds, MayGoOn, IsChangeOf, IsEndOf, Changes};
 ghost use Rattle.ext_cells.specs.InnerPasses.{ReadPass};
 ghost use Rattle.ext_cells.specs.WordChanges.{HasState};
@@ -35,7 +36,7 @@ use std::marker::{Brand, Model};
 #[derive(Drop)]
 pub struct Cells {
     table: CellSteps,
-    limits: CellLimits,
+    pub(crate) limits: CellLimits,
     tries: u32,
 }
 
@@ -52,7 +53,7 @@ impl Model for Cells {
     ghost invariant = { λ s.
         (s.table.table.shared.table_id.words ≡ (marks s.limits.cells).width)
         × (s.table.table.shared.key ≡ s.limits)
-        × (s.limits.cells ≤ 16384)
+        × (s.limits.cells ≤ 262144)
         × (s.limits.numbers ≤ 65535)
         × (1 ≤ s.tries)
         × (s.tries ≤ 64) };
@@ -63,7 +64,7 @@ impl Cells {
     /// order of the list. Only these lanes make events: while none of them has made one, the
     /// history is empty (`no_lane` of `history_laws` in ext_model). Takes memory.
     ///
-    /// Refused as `BadLimit` unless there are at most 16,384 cells, 1 to 16 lanes, 1 to 64 tries
+    /// Refused as `BadLimit` unless there are at most 262,144 cells, 1 to 16 lanes, 1 to 64 tries
     /// and 1 to 65,535 numbers, and then as `Memory`.
     pub fn open(
         alloc: Global,
@@ -121,7 +122,7 @@ impl Cells {
 
     // Recalls the limits on which the calls rely.
     pub(crate) fn recall(&self)
-        ensures cells { self.now.id.limits.cells ≤ 16384 }
+        ensures cells { self.now.id.limits.cells ≤ 262144 }
         ensures numbers { self.now.id.limits.numbers < 2 ^ 20 }
         ensures tries { 1 ≤ self.now.tries }
     {
@@ -342,18 +343,18 @@ impl Cells {
         self.end_claim(lane, cell, Act::Abandon(cell));
     }
 
-    /// Ends half of a row, 32 cells; half 0 has the cells 0 to 31. Seals at once all cells of the
-    /// half that never had an event, and answers the marks of the others, the first of the half in
-    /// bit 0. A cell that has a mark may still be empty. Of a half that was ended before, the call
+    /// Ends a block of 32 cells; block 0 has the cells 0 to 31. Seals at once all cells of the block
+    /// that never had an event, and answers the marks of the others, the first of the block in bit
+    /// 0. A cell that has a mark may still be empty. Of a block that was ended before, the call
     /// only reads the marks. It is never refused, and makes one step.
-    pub fn end_half(&self, lane: &mut CellLane, half: usize) -> u32
+    pub fn end_block(&self, lane: &mut CellLane, block: usize) -> u32
         requires lane { lane.old.cells ≡ self.now.id }
-        requires half { half * 32 < self.now.id.limits.cells }
+        requires block { block * 32 < self.now.id.limits.cells }
         ensures lane { lane.new.cells ≡ lane.old.cells }
-        ensures ended { EndsHalf lane.old lane.new half result }
+        ensures ended { EndsBlock lane.old lane.new block result }
         ensures steps { length (call_fronts lane.old.view lane.new.view) ≡ 1 }
     {
-        let place = self.limits.cells + 1 + half;
+        let place = self.limits.cells + 1 + block;
         let found = self.table.end(&mut lane.seat, place);
         (found >> 1 & 0xffff_ffff) as u32
     }
@@ -463,6 +464,26 @@ impl Cells {
                 .read::<Brand>(&mut lane.seat, self.limits.cells, place);
         }
         self.table.load(&mut lane.seat, place)
+    }
+
+    /// Reads the word of a cell, where the place of its row's word is at hand, and the bit of its
+    /// mark there.
+    #[inline(always)]
+    pub(crate) fn read_marked(
+        &self,
+        lane: &mut CellLane,
+        cell: CellNo,
+        row: usize,
+        mark: u32,
+    ) -> u64
+        requires lane { lane.old.cells ≡ self.now.id }
+        requires cell { cell < self.now.id.limits.cells }
+        requires row { row ≡ row_place self.now.id.limits.cells cell }
+        requires mark { mark ≡ mark_of cell }
+        ensures found { (h : History) × Finds lane.old.cells.limits lane.old.view cell result h × (lane.new ≡ stepped lane.old h) }
+        ensures state { HasState result }
+    {
+        self.table.read_at::<Brand>(&mut lane.seat, cell, row, mark)
     }
 
     /// Makes an event, which changes the word at its place, if that is still the word that was

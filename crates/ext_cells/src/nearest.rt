@@ -4,15 +4,13 @@ ghost use Rattle.std.specs.List.{IsDistinct};
 ghost use Rattle.ext_history.specs.Histories.{call_fronts};
 ghost use Rattle.ext_model.specs.History.{History};
 ghost use Rattle.ext_cells.specs.CellCalls.{cell_at, cells_in, FindsNearest, IsOvertakenOn};
-ghost use Rattle.ext_cells.specs.InnerPasses.{FirstPass, IsReading, ReadPass, Says};
+ghost use Rattle.ext_cells.specs.InnerPasses.{FirstPass, IsColumn, IsReading, ReadPass, Says};
 ghost use Rattle.ext_cells.specs.InnerSteps.{stepped, Finds};
 ghost use Rattle.ext_cells.specs.WordChanges.{HasState, IsEmptyWord};
 
 use crate::cell_word::{is_empty, version, what_stands};
 use crate::{CellLane, CellRefusal, Cells, Standing};
-
-// How many cells a row has, one in each column.
-const COLUMNS: usize = 64;
+use ext_rows::mark_of;
 
 /// A row, of some that were named in order, in whose cell anything stands.
 #[derive(Clone, Copy, Debug, Drop)]
@@ -21,6 +19,19 @@ pub struct Nearest {
     pub place: usize,
     /// What stands in its cell.
     pub standing: Standing,
+}
+
+// One column of the rows, with what all its cells have in common.
+#[derive(Clone, Copy, Drop)]
+pub(crate) struct Column {
+    // How many blocks of 32 cells a row has.
+    pub(crate) blocks: usize,
+    // Its place in a row.
+    pub(crate) place: usize,
+    // Where the marks of the first row's block stand.
+    pub(crate) marks: usize,
+    // The bit of a cell's mark there.
+    pub(crate) mark: u32,
 }
 
 // What a pass that reads some cells in order keeps of their words.
@@ -92,8 +103,8 @@ fn nearest_at(place: usize, word: u64) -> Option<Nearest>
 
 impl Cells {
     /// The first of the rows in whose cell of this column anything stands, at one point of the
-    /// call. There are at most 16 rows, all different, and the cell of a row is
-    /// `row * 64 + column`. `None` if nothing stands in any of these cells.
+    /// call. There are at most 16 rows, all different, each of so many blocks of 32 cells: the cell
+    /// of a row is `row * blocks * 32 + column`. `None` if nothing stands in any of these cells.
     ///
     /// It reads the cells up to the first where anything stands, and then those before it once
     /// more. If none of them had an event meanwhile, that is the answer: so if the first cell is
@@ -104,27 +115,35 @@ impl Cells {
         &self,
         lane: &mut CellLane,
         rows: &[usize],
+        blocks: usize,
         column: usize,
     ) -> Result<Option<Nearest>, CellRefusal>
         requires lane { lane.old.cells ≡ self.now.id }
         requires few { length rows.now ≤ 16 }
-        requires known { All (λ cell. cell < self.now.id.limits.cells) (cells_in rows.now column) }
+        requires blocks { 1 ≤ blocks }
+        requires known { All (λ cell. cell < self.now.id.limits.cells) (cells_in rows.now (blocks * 32) column) }
         requires different { IsDistinct nat_eq rows.now }
         ensures lane { lane.new.cells ≡ lane.old.cells }
-        ensures nearest { FindsNearest self.now.tries lane.old lane.new (cells_in rows.now column) result }
+        ensures nearest { FindsNearest self.now.tries lane.old lane.new (cells_in rows.now (blocks * 32) column) result }
         ensures steps { length (call_fronts lane.old.view lane.new.view) ≤ length rows.now * (self.now.tries + 1) }
-        ensures contended { OnErr result (IsOvertakenOn self.now.tries (cells_in rows.now column) lane.old.view lane.new.view) }
+        ensures contended { OnErr result (IsOvertakenOn self.now.tries (cells_in rows.now (blocks * 32) column) lane.old.view lane.new.view) }
     {
         self.recall();
-        let empty = self.read_empty(lane, rows, column);
-        let again = self.read_each(lane, &rows[..empty.count], column);
+        let cells = Column {
+            blocks,
+            place: column,
+            marks: self.limits.cells + 1 + column / 32,
+            mark: mark_of(column),
+        };
+        let empty = self.read_empty(lane, rows, cells);
+        let again = self.read_each(lane, &rows[..empty.count], cells);
         if again.versions == empty.versions {
             return Ok(nearest_at(empty.count, empty.behind));
         }
-        let rest = self.read_each(lane, &rows[empty.count..], column);
+        let rest = self.read_each(lane, &rows[empty.count..], cells);
         let mut seen = again.versions + rest.versions;
         for _ in 1..self.tries() {
-            let again = self.read_each(lane, rows, column);
+            let again = self.read_each(lane, rows, cells);
             if again.versions == seen {
                 return Ok(again.nearest);
             }
@@ -135,14 +154,15 @@ impl Cells {
 
     // Reads the cells in order up to the first where anything stands.
     #[inline(always)]
-    fn read_empty(&self, lane: &mut CellLane, rows: &[usize], column: usize) -> EmptyCells
+    fn read_empty(&self, lane: &mut CellLane, rows: &[usize], column: Column) -> EmptyCells
         requires lane { lane.old.cells ≡ self.now.id }
         requires few { length rows.now ≤ 16 }
-        requires known { All (λ cell. cell < self.now.id.limits.cells) (cells_in rows.now column) }
+        requires column { IsColumn self.now.id.limits.cells column }
+        requires known { All (λ cell. cell < self.now.id.limits.cells) (cells_in rows.now (column.blocks * 32) column.place) }
         ensures lane { lane.new.cells ≡ lane.old.cells }
         ensures within { result.count ≤ length rows.now }
         ensures state { HasState result.behind }
-        ensures read { FirstPass lane.old.cells.limits lane.old.view lane.new.view (cells_in rows.now column) result }
+        ensures read { FirstPass lane.old.cells.limits lane.old.view lane.new.view (cells_in rows.now (column.blocks * 32) column.place) result }
     {
         lane.recall();
         let mut versions = 0;
@@ -166,13 +186,14 @@ impl Cells {
 
     // Reads each of the cells once, in order.
     #[inline(always)]
-    fn read_each(&self, lane: &mut CellLane, rows: &[usize], column: usize) -> Reading
+    fn read_each(&self, lane: &mut CellLane, rows: &[usize], column: Column) -> Reading
         requires lane { lane.old.cells ≡ self.now.id }
         requires few { length rows.now ≤ 16 }
-        requires known { All (λ cell. cell < self.now.id.limits.cells) (cells_in rows.now column) }
+        requires column { IsColumn self.now.id.limits.cells column }
+        requires known { All (λ cell. cell < self.now.id.limits.cells) (cells_in rows.now (column.blocks * 32) column.place) }
         ensures lane { lane.new.cells ≡ lane.old.cells }
         ensures versions { result.versions ≤ length rows.now * 2 ^ 40 }
-        ensures read { (words : List ℕ) × ReadPass lane.old.cells.limits lane.old.view lane.new.view (cells_in rows.now column) words × IsReading words result }
+        ensures read { (words : List ℕ) × ReadPass lane.old.cells.limits lane.old.view lane.new.view (cells_in rows.now (column.blocks * 32) column.place) words × IsReading words result }
     {
         lane.recall();
         let mut reading = Reading::new();
@@ -185,13 +206,16 @@ impl Cells {
 
     // The word of the cell that the row has in the column.
     #[inline(always)]
-    fn read_at(&self, lane: &mut CellLane, row: usize, column: usize) -> u64
+    fn read_at(&self, lane: &mut CellLane, row: usize, column: Column) -> u64
         requires lane { lane.old.cells ≡ self.now.id }
-        requires cell { cell_at column row < self.now.id.limits.cells }
-        ensures found { (h : History) × Finds lane.old.cells.limits lane.old.view (cell_at column row) result h × (lane.new ≡ stepped lane.old h) }
+        requires column { IsColumn self.now.id.limits.cells column }
+        requires cell { cell_at (column.blocks * 32) column.place row < self.now.id.limits.cells }
+        ensures found { (h : History) × Finds lane.old.cells.limits lane.old.view (cell_at (column.blocks * 32) column.place row) result h × (lane.new ≡ stepped lane.old h) }
         ensures state { HasState result }
     {
         self.recall();
-        self.read(lane, row * COLUMNS + column)
+        let block = row * column.blocks;
+        let cell = block * 32 + column.place;
+        self.read_marked(lane, cell, column.marks + block, column.mark)
     }
 }

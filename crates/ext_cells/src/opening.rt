@@ -10,12 +10,12 @@ use ext_model::LaneNo;
 use ext_rows::{CellLimits, row_count};
 use std::alloc::{AllocError, Global};
 
-/// Whether cells with these limits may be opened: at most 16,384 cells, 1 to 16 lanes, 1 to 64
+/// Whether cells with these limits may be opened: at most 262,144 cells, 1 to 16 lanes, 1 to 64
 /// tries and 1 to 65,535 numbers. `Cells::open` refuses all others.
 pub fn are_limits(cells: usize, lanes: usize, tries: u32, numbers: u32) -> bool
     ensures { IsTrue result ↔ AreLimits cells lanes tries numbers }
 {
-    cells <= 16_384
+    cells <= 262_144
         && (1..=16).contains(&lanes)
         && (1..=64).contains(&tries)
         && (1..=65_535).contains(&numbers)
@@ -33,7 +33,7 @@ pub(crate) fn open_words(
     alloc: Global,
     limits: &CellLimits,
 ) -> Result<(CellTable, LaneSeat), AllocError>
-    requires cells { limits.now.cells ≤ 16384 }
+    requires cells { limits.now.cells ≤ 262144 }
     requires lanes { 1 ≤ limits.now.lanes }
     ensures words { IfOk result (λ r. r.0.shared.table_id.words ≡ (marks limits.now.cells).width) }
     ensures key { IfOk result (λ r. r.0.shared.key ≡ limits.now) }

@@ -16,12 +16,13 @@ use Rattle.ext_model.specs.declared.slot.Slot.{Slot}
 use Rattle.ext_model.specs.declared.slot.Slot.TheVariants as slot
 use Rattle.ext_model.specs.State.{standing_value}
 use Rattle.ext_model.specs.Events.{Happens, Answers, seal_reply, apply, is_on}
-use Rattle.ext_model.specs.History.{History, Limits, by, lane_of, own, state_after, slots_in, IsAllowed, IsLegal}
+use Rattle.ext_model.specs.History.{History, Limits, by, lane_of, own, state_after, slots_in, version_of, IsAllowed, IsLegal}
 use Rattle.ext_history.specs.Histories.{seen_by}
 use Rattle.ext_model.specs.CallActs.{LaneView, Calls, Seals, events_by}
 use Rattle.ext_model.specs.Closing.{IsClosed, kept_by, put_in_kept, remaining}
 use Rattle.ext_model.proofs.Words.{after-push}
 use Rattle.ext_model.proofs.Standing.{is_sealed, none_after_seal, nothing_after_seal}
+use Rattle.ext_model.proofs.Versions.{version-append}
 use Rattle.ext_model.proofs.Claims.{quiet_slot}
 use Rattle.ext_history.proofs.Composed.{calls_none, events_past, seen_goes_on}
 use Rattle.ext_history.proofs.Legal.{legal_begun, legal_induct, legal_push}
@@ -34,7 +35,7 @@ use Rattle.ext_cells.specs.CellCalls.{IsUnmarked}
 use Rattle.ext_store.specs.Stores.{StoreView, StoreLane, IsLaneOf, StillKeeps, cell_in}
 use Rattle.ext_store.specs.LaneCalls.{Stays, steps_of}
 use Rattle.ext_store.specs.ContextCalls.{SealsCell, SealsUnused, IsBusyThere, seals_of}
-use Rattle.ext_closing.specs.Sealing.{slots_seen, AreSealed, SealOvertaken, MakesSeals, StopsAt}
+use Rattle.ext_closing.specs.Sealing.{slots_seen, AreSealed, IsUnused, SealOvertaken, MakesSeals, StopsAt}
 use Rattle.ext_closing.specs.declared.fault.CloseFault.{CloseFault}
 use Rattle.ext_closing.specs.declared.fault.CloseFault.TheVariants.{Busy, Contended, Unjoined}
 use Rattle.ext_closing.specs.InnerSteps.{AreUnused, SealsNext, SealsOn, SealedSoFar, SealingEnds}
@@ -126,12 +127,12 @@ module _ (store : StoreView) (context : ℕ) (before after : Lane) where
   }
   makes_one key kept below (inr found) = record { made = makes_none found.calls; only = λ other there. absurd (contains_none other there) }
 
-  -- of the keys of a half that nobody used
-  abbrev makes_unused : (half marks : ℕ) → half < 2 → length store.id.keys ≡ 64 → SealsUnused store context half marks before after → MakesSeals store context before after
-  makes_unused half marks below all unused = record {
+  -- of the keys of a block that nobody used
+  abbrev makes_unused : (block marks : ℕ) → block * 32 + 32 ≤ length store.id.keys → SealsUnused store context block marks before after → MakesSeals store context before after
+  makes_unused block marks below unused = record {
     sealed = unused.sealed;
     once = unused.once;
-    keys = λ key there. let row = (unused.unmarked key there).half_is in omega (arith, row, below, all);
+    keys = λ key there. let row = (unused.unmarked key there).block_is in omega (arith, row, below);
     calls = unused.calls;
   }
 
@@ -186,8 +187,16 @@ module _ (store : StoreView) (context : ℕ) (limits : Limits) (between after : 
       ap (λ h. remaining (slots_in (λ key. cell_in store key context) h) keys) (sym on.1)
       ∙ remaining_stays (seen_by between.view) on.0 (λ key. cell_in store key context) keys legal_on sealed
 
-  still_kept : (key : ℕ) (kept : Option ℕ) → slots_seen store context between key ≡ Some (slot.Sealed kept) → slots_seen store context after key ≡ Some (slot.Sealed kept)
-  still_kept key kept is = stays_sealed (seen_by between.view) (seen_by after.view) (cell_in store key context) kept legal on is
+  stays_unused : (key : ℕ) → IsUnused store context between key → IsUnused store context after key
+  stays_unused key unused =
+      let cell = cell_in store key context in
+      let none = none_after_seal (seen_by between.view) on.0 cell legal_on (ap is_sealed unused.slot) in
+      let all = version-append (seen_by between.view) on.0 cell in
+      let was = unused.version in
+      record {
+        version = ap (λ h. version_of h cell) (sym on.1) ∙ omega (arith, none, all, was);
+        slot = stays_sealed (seen_by between.view) (seen_by after.view) cell None legal on unused.slot;
+      }
 
 -- ---- before any seal
 
@@ -200,23 +209,23 @@ none_sealed store context lane numbers none = record {
   numbers_are = none;
 }
 
--- ---- keys that were sealed by the step of their half
+-- ---- keys that were sealed by the step of their block
 
 module _ (store : StoreView) (context : ℕ) (before lane : Lane) (numbers : List ℕ) where
-  one_unused : (key : ℕ) → slots_seen store context lane key ≡ Some (slot.Sealed None) → SealedSoFar store context key before lane numbers → SealedSoFar store context (key + 1) before lane numbers
+  one_unused : (key : ℕ) → IsUnused store context lane key → SealedSoFar store context key before lane numbers → SealedSoFar store context (key + 1) before lane numbers
   one_unused key here so_far =
       let up : key + 1 ≡ suc key = add-one key in
-      let all : AreSealed store context (key + 1) lane = below_more _ _ so_far.sealed (None, here) in
+      let all : AreSealed store context (key + 1) lane = below_more _ _ so_far.sealed (None, here.slot) in
       subst (λ keys. SealedSoFar store context keys before lane numbers) (sym up) (record {
         same = so_far.same;
         made = so_far.made;
         sealed = subst (λ keys. AreSealed store context keys lane) up all;
         beyond = λ other there past. so_far.beyond other there (omega (arith, past));
-        numbers_are = so_far.numbers_are ∙ ap (λ o. put_in_kept o (remaining (slots_seen store context lane) key)) (sym (ap kept_by here));
+        numbers_are = so_far.numbers_are ∙ ap (λ o. put_in_kept o (remaining (slots_seen store context lane) key)) (sym (ap kept_by here.slot));
       })
 
   -- so many of them
-  pub all_unused : (n key : ℕ) → ((other : ℕ) → key ≤ other → other < key + n → slots_seen store context lane other ≡ Some (slot.Sealed None))
+  pub all_unused : (n key : ℕ) → ((other : ℕ) → key ≤ other → other < key + n → IsUnused store context lane other)
       → SealedSoFar store context key before lane numbers → SealedSoFar store context (key + n) before lane numbers
   all_unused zero key unused so_far = subst (λ keys. SealedSoFar store context keys before lane numbers) (let e : key ≡ key + 0 = omega arith in e) so_far
   all_unused (suc n) key unused so_far =
@@ -227,22 +236,22 @@ module _ (store : StoreView) (context : ℕ) (before lane : Lane) (numbers : Lis
 -- ---- a call that goes on
 
 module _ (store : StoreView) (context : ℕ) (between after : Lane) (same : after.cells ≡ between.cells) (legal : IsLegal between.cells.limits (seen_by after.view)) where
-  pub still_unused : (half marks : ℕ) → IsPrefix (seen_by between.view) (seen_by after.view) → AreUnused store context half marks between → AreUnused store context half marks after
-  still_unused half marks on unused = λ key none. still_kept store context between.cells.limits between after on legal key None (unused key none)
+  pub still_unused : (block marks : ℕ) → IsPrefix (seen_by between.view) (seen_by after.view) → AreUnused store context block marks between → AreUnused store context block marks after
+  still_unused block marks on unused = λ key none. stays_unused store context between.cells.limits between after on legal key (unused key none)
 
-  -- after the seals of the keys of a half that nobody used
-  pub with_unused : (half marks keys : ℕ) → half < 2 → length store.id.keys ≡ 64 → SealsUnused store context half marks between after → (before : Lane) (numbers : List ℕ)
+  -- after the seals of the keys of a block that nobody used
+  pub with_unused : (block marks keys : ℕ) → block * 32 + 32 ≤ length store.id.keys → SealsUnused store context block marks between after → (before : Lane) (numbers : List ℕ)
       → SealedSoFar store context keys before between numbers → SealedSoFar store context keys before after numbers
-  with_unused half marks keys below all unused before numbers so_far =
+  with_unused block marks keys below unused before numbers so_far =
       let on = seen_goes_on unused.calls in
       let limits = between.cells.limits in
       record {
         same = same ∙ so_far.same;
-        made = makes_both store context before between after so_far.same legal so_far.made (makes_unused store context between after half marks below all unused);
+        made = makes_both store context before between after so_far.same legal so_far.made (makes_unused store context between after block marks below unused);
         sealed = still_sealed store context limits between after on legal keys so_far.sealed;
         beyond = λ key there past. elim (Contains-append_cases so_far.made.sealed unused.sealed key there) [
-          | inl first ↦ still_kept store context limits between after on legal key None (so_far.beyond key first past)
-          | inr second ↦ unused.kept_nothing key (unused.unmarked key second)
+          | inl first ↦ stays_unused store context limits between after on legal key (so_far.beyond key first past)
+          | inr second ↦ unused.unused key (unused.unmarked key second)
         ];
         numbers_are = so_far.numbers_are ∙ sym (still_remaining store context limits between after on legal keys so_far.sealed);
       }
@@ -262,7 +271,7 @@ module _ (store : StoreView) (context : ℕ) (between after : Lane) (same : afte
           made = makes_both store context before between after so_far.same legal so_far.made one.made;
           sealed = subst (λ keys. AreSealed store context keys after) up all;
           beyond = λ other there past. elim (Contains-append_cases so_far.made.sealed one.made.sealed other there) [
-            | inl first ↦ still_kept store context limits between after on legal other None (so_far.beyond other first (omega (arith, past)))
+            | inl first ↦ stays_unused store context limits between after on legal other (so_far.beyond other first (omega (arith, past)))
             | inr second ↦ let is = one.only other second in absurd (omega (arith, is, past))
           ];
           numbers_are =
@@ -291,28 +300,28 @@ module _ (store : StoreView) (context : ℕ) (between after : Lane) (same : afte
 
 -- ---- marks
 
--- a key of the half whose mark is not set
-unmarked_at : (half marks place : ℕ) → place < 32 → bit_at marks place ≡ 0 → IsUnmarked half marks (half * 32 + place)
-unmarked_at half marks place less zero_is =
-    let same : place ≡ (half * 32 + place) % 32 = omega (arith, less) in
-    record { half_is = omega (arith, less); mark = subst (λ k. bit_at marks k ≡ 0) same zero_is }
+-- a key of the block whose mark is not set
+unmarked_at : (block marks place : ℕ) → place < 32 → bit_at marks place ≡ 0 → IsUnmarked block marks (block * 32 + place)
+unmarked_at block marks place less zero_is =
+    let same : place ≡ (block * 32 + place) % 32 = omega (arith, less) in
+    record { block_is = omega (arith, less); mark = subst (λ k. bit_at marks k ≡ 0) same zero_is }
 
 -- no key from here on is marked, where no mark is left
-none_left : (half marks left place : ℕ) → left ≡ 0 → ((i : ℕ) → bit_at left i ≡ bit_at marks (place + i)) → (key : ℕ) → half * 32 + place ≤ key → key < half * 32 + 32 → IsUnmarked half marks key
-none_left half marks left place none bits key past below =
-    let i = key - (half * 32 + place) in
+none_left : (block marks left place : ℕ) → left ≡ 0 → ((i : ℕ) → bit_at left i ≡ bit_at marks (place + i)) → (key : ℕ) → block * 32 + place ≤ key → key < block * 32 + 32 → IsUnmarked block marks key
+none_left block marks left place none bits key past below =
+    let i = key - (block * 32 + place) in
     let bit : bit_at marks (place + i) ≡ 0 = sym (bits i) ∙ ap (λ n. bit_at n i) none ∙ bit_at-zero i in
     let same : place + i ≡ key % 32 = omega (arith, past, below) in
-    record { half_is = omega (arith, past, below); mark = subst (λ k. bit_at marks k ≡ 0) same bit }
+    record { block_is = omega (arith, past, below); mark = subst (λ k. bit_at marks k ≡ 0) same bit }
 
--- ---- a half of the keys
+-- ---- a block of the keys
 
--- a half up to this place, and the marks that are left
-pub record HalfSoFar {V : Type 0} (store : StoreView) (context half marks left place : ℕ) (first lane : StoreLane V) (old numbers : List ℕ) : Type 0 where
-  pub so_far : SealsOn store context (half * 32) (half * 32 + place) first.cells lane.cells old numbers
-  pub unused : AreUnused store context half marks lane.cells
+-- a block up to this place, and the marks that are left
+pub record BlockSoFar {V : Type 0} (store : StoreView) (context block marks left place : ℕ) (first lane : StoreLane V) (old numbers : List ℕ) : Type 0 where
+  pub so_far : SealsOn store context (block * 32) (block * 32 + place) first.cells lane.cells old numbers
+  pub unused : AreUnused store context block marks lane.cells
   pub bits : (i : ℕ) → bit_at left i ≡ bit_at marks (place + i)
-  pub few : length numbers ≤ half * 32 + place
+  pub few : length numbers ≤ block * 32 + place
   pub steps : length lane.cells.view.fronts ≤ length first.cells.view.fronts + 1 + place * (store.tries + 1)
   pub known : lane.known ≡ first.known
   pub faults : lane.faults ≡ first.faults
@@ -323,17 +332,17 @@ pub record HalfSoFar {V : Type 0} (store : StoreView) (context half marks left p
 legal_as : (before after : Lane) → after.cells ≡ before.cells → IsLegal after.cells.limits (seen_by after.view) → IsLegal before.cells.limits (seen_by after.view)
 legal_as before after same legal = subst (λ (id : CellsId). IsLegal id.limits (seen_by after.view)) same legal
 
-module _ {V : Type 0} (store : StoreView) (context half marks : ℕ) (below : half < 2) (all : length store.id.keys ≡ 64) (first : StoreLane V) (mine : IsLaneOf store.id first) (old : List ℕ) where
+module _ {V : Type 0} (store : StoreView) (context block marks : ℕ) (below : block * 32 + 32 ≤ length store.id.keys) (first : StoreLane V) (mine : IsLaneOf store.id first) (old : List ℕ) where
   -- after the step for the keys that nobody used
-  pub half_begun : (lane : StoreLane V) → IsLegal lane.cells.cells.limits (seen_by lane.cells.view) → SealsUnused store context half marks first.cells lane.cells → Stays store.id [] first lane
-      → lane.keys ≡ first.keys → steps_of first.cells lane.cells ≡ 1 → length old ≤ half * 32 → HalfSoFar store context half marks marks 0 first lane old old
-  half_begun lane legal unused stays keys one few =
+  pub block_begun : (lane : StoreLane V) → IsLegal lane.cells.cells.limits (seen_by lane.cells.view) → SealsUnused store context block marks first.cells lane.cells → Stays store.id [] first lane
+      → lane.keys ≡ first.keys → steps_of first.cells lane.cells ≡ 1 → length old ≤ block * 32 → BlockSoFar store context block marks marks 0 first lane old old
+  block_begun lane legal unused stays keys one few =
       let same = stays.lane.cells ∙ sym mine.cells in
-      let up : half * 32 ≡ half * 32 + 0 = omega arith in
+      let up : block * 32 ≡ block * 32 + 0 = omega arith in
       record {
         so_far = λ before so_far. subst (λ n. SealedSoFar store context n before lane.cells old) up
-            (with_unused store context first.cells lane.cells same (legal_as first.cells lane.cells same legal) half marks (half * 32) below all unused before old so_far);
-        unused = λ key none. unused.kept_nothing key none;
+            (with_unused store context first.cells lane.cells same (legal_as first.cells lane.cells same legal) block marks (block * 32) below unused before old so_far);
+        unused = λ key none. unused.unused key none;
         bits = λ i. ap (bit_at marks) (let e : i ≡ 0 + i = omega arith in e);
         few = omega (arith, few);
         steps = let s = fronts_within first.cells lane.cells 1 (omega (arith, one)) in omega (arith, s);
@@ -344,27 +353,27 @@ module _ {V : Type 0} (store : StoreView) (context half marks : ℕ) (below : ha
         kept = stays.kept;
       }
 
-  module _ (left place : ℕ) (less : place < 32) (lane : StoreLane V) (numbers : List ℕ) (h : HalfSoFar store context half marks left place first lane old numbers) where
+  module _ (left place : ℕ) (less : place < 32) (lane : StoreLane V) (numbers : List ℕ) (h : BlockSoFar store context block marks left place first lane old numbers) where
     next_bits : (i : ℕ) → bit_at (left / 2) i ≡ bit_at marks (place + 1 + i)
     next_bits i = sym (bit_at-suc left i) ∙ h.bits (suc i) ∙ ap (bit_at marks) (let e : place + suc i ≡ place + 1 + i = omega arith in e)
 
-    up : half * 32 + place + 1 ≡ half * 32 + (place + 1)
+    up : block * 32 + place + 1 ≡ block * 32 + (place + 1)
     up = omega arith
 
-    pub key_within : half * 32 + place < length store.id.keys
-    key_within = omega (arith, below, less, all)
+    pub key_within : block * 32 + place < length store.id.keys
+    key_within = omega (arith, below, less)
 
     -- a place without a mark
-    pub half_passed : left % 2 ≢ 1 → HalfSoFar store context half marks (left / 2) (place + 1) first lane old numbers
-    half_passed even =
+    pub block_passed : left % 2 ≢ 1 → BlockSoFar store context block marks (left / 2) (place + 1) first lane old numbers
+    block_passed even =
         let low = bit_at_lowest left in
         let lowest = h.bits 0 in
         let at : place + 0 ≡ place = omega arith in
         let zero_is : bit_at marks (place + 0) ≡ 0 = omega (arith, low, lowest, even) in
-        let none : IsUnmarked half marks (half * 32 + place) = unmarked_at half marks place less (subst (λ k. bit_at marks k ≡ 0) at zero_is) in
+        let none : IsUnmarked block marks (block * 32 + place) = unmarked_at block marks place less (subst (λ k. bit_at marks k ≡ 0) at zero_is) in
         record {
           so_far = λ before so_far. subst (λ n. SealedSoFar store context n before lane.cells numbers) up
-              (one_unused store context before lane.cells numbers (half * 32 + place) (h.unused (half * 32 + place) none) (h.so_far before so_far));
+              (one_unused store context before lane.cells numbers (block * 32 + place) (h.unused (block * 32 + place) none) (h.so_far before so_far));
           unused = h.unused;
           bits = next_bits;
           few = let few = h.few in omega (arith, few);
@@ -384,15 +393,15 @@ module _ {V : Type 0} (store : StoreView) (context half marks : ℕ) (below : ha
       legal_now = legal_as lane.cells next.cells same legal
 
       -- and a place whose key was sealed
-      pub half_sealed : (kept : Option ℕ) (more : List ℕ) → SealsNext store context (half * 32 + place) lane.cells next.cells (Ok kept) → more ≡ put_in_kept kept numbers → length more ≤ length numbers + 1
+      pub block_sealed : (kept : Option ℕ) (more : List ℕ) → SealsNext store context (block * 32 + place) lane.cells next.cells (Ok kept) → more ≡ put_in_kept kept numbers → length more ≤ length numbers + 1
           → length next.cells.view.fronts ≤ length lane.cells.view.fronts + (store.tries + 1) → next.known ≡ lane.known → next.faults ≡ lane.faults → next.keys ≡ lane.keys → StillKeeps lane next
-          → HalfSoFar store context half marks (left / 2) (place + 1) first next old more
-      half_sealed kept more seal is one steps known faults keys keeps =
+          → BlockSoFar store context block marks (left / 2) (place + 1) first next old more
+      block_sealed kept more seal is one steps known faults keys keeps =
           record {
             so_far = λ before so_far.
                 subst (λ (x : ℕ × List ℕ). SealedSoFar store context x.0 before next.cells x.1) (λ i. (up i, sym is i))
-                (one_more_sealed store context lane.cells next.cells same legal_now (half * 32 + place) key_within before numbers (h.so_far before so_far) kept seal);
-            unused = still_unused store context lane.cells next.cells same legal_now half marks (seals_go_on lane.cells.cells.limits (cell_in store (half * 32 + place) context) lane.cells.view next.cells.view kept seal) h.unused;
+                (one_more_sealed store context lane.cells next.cells same legal_now (block * 32 + place) key_within before numbers (h.so_far before so_far) kept seal);
+            unused = still_unused store context lane.cells next.cells same legal_now block marks (seals_go_on lane.cells.cells.limits (cell_in store (block * 32 + place) context) lane.cells.view next.cells.view kept seal) h.unused;
             bits = next_bits;
             few = let few = h.few in omega (arith, few, one);
             steps = one_more_within _ _ _ place (store.tries + 1) h.steps steps;
@@ -404,15 +413,15 @@ module _ {V : Type 0} (store : StoreView) (context half marks : ℕ) (below : ha
           }
 
       -- or not
-      pub half_refused : (why : CloseFault) → SealsNext store context (half * 32 + place) lane.cells next.cells (Err why) → (before : Lane)
-          → SealedSoFar store context (half * 32) before first.cells old → SealingEnds store context before next.cells (Some why)
-      half_refused why refused before so_far = refused_end store context lane.cells next.cells same legal_now (half * 32 + place) key_within before numbers (h.so_far before so_far) why refused
+      pub block_refused : (why : CloseFault) → SealsNext store context (block * 32 + place) lane.cells next.cells (Err why) → (before : Lane)
+          → SealedSoFar store context (block * 32) before first.cells old → SealingEnds store context before next.cells (Some why)
+      block_refused why refused before so_far = refused_end store context lane.cells next.cells same legal_now (block * 32 + place) key_within before numbers (h.so_far before so_far) why refused
 
   -- where no mark is left
-  pub half_done : (left place : ℕ) → place ≤ 32 → left ≡ 0 → (lane : StoreLane V) (numbers : List ℕ) → HalfSoFar store context half marks left place first lane old numbers
-      → SealsOn store context (half * 32) (half * 32 + 32) first.cells lane.cells old numbers
-  half_done left place less none lane numbers h = λ before so_far.
-      let end : half * 32 + place + (32 - place) ≡ half * 32 + 32 = omega (arith, less) in
+  pub block_done : (left place : ℕ) → place ≤ 32 → left ≡ 0 → (lane : StoreLane V) (numbers : List ℕ) → BlockSoFar store context block marks left place first lane old numbers
+      → SealsOn store context (block * 32) (block * 32 + 32) first.cells lane.cells old numbers
+  block_done left place less none lane numbers h = λ before so_far.
+      let end : block * 32 + place + (32 - place) ≡ block * 32 + 32 = omega (arith, less) in
       subst (λ n. SealedSoFar store context n before lane.cells numbers) end
-      (all_unused store context before lane.cells numbers (32 - place) (half * 32 + place)
-      (λ key past under. h.unused key (none_left half marks left place none h.bits key past (omega (arith, under, end)))) (h.so_far before so_far))
+      (all_unused store context before lane.cells numbers (32 - place) (block * 32 + place)
+      (λ key past under. h.unused key (none_left block marks left place none h.bits key past (omega (arith, under, end)))) (h.so_far before so_far))

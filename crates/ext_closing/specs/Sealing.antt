@@ -1,5 +1,5 @@
--- How a context is sealed, by one lane: each half of its keys at one step as far as nobody used them, and then those that
--- are left, in order. `SealsUnused` and `SealsKey` of ext_store say what these calls do.
+-- How a context is sealed, by one lane: each block of its keys at one step as far as nobody used them, and then those
+-- that are left, in order. `SealsUnused` and `SealsKey` of ext_store say what these calls do.
 use Rattle.std.specs.Prelude.{ℕ, ◌≡◌, ◌<◌, ◌≤◌, nat_eq, List, length, Contains, Option, None, Some, Result, Ok, Err}
 use Rattle.std.specs.List.{IsDistinct}
 use Rattle.ext_model.specs.declared.event.Act.TheVariants.{Seal}
@@ -8,7 +8,7 @@ use Rattle.ext_model.specs.declared.slot.Slot.TheVariants as slot
 use Rattle.ext_model.specs.History.{slots_in}
 use Rattle.ext_history.specs.Histories.{seen_by}
 use Rattle.ext_model.specs.CallActs.{Calls}
-use Rattle.ext_model.specs.Closing.{IsClosed, remaining}
+use Rattle.ext_model.specs.Closing.{IsClosed, IsSealedUnused, remaining}
 use Rattle.ext_cells.specs.Lanes.{Lane}
 use Rattle.ext_cells.specs.CellCalls.{IsOvertakenAt}
 use Rattle.ext_store.specs.Stores.{StoreView, cell_in}
@@ -25,6 +25,10 @@ slots_seen store context lane = slots_in (λ key. cell_in store key context) (se
 -- The first `keys` keys are sealed there.
 abbrev pub AreSealed : StoreView → ℕ → ℕ → Lane → Type 0
 AreSealed store context keys lane = IsClosed (slots_seen store context lane) keys
+
+-- The key's place in the context has had one event, a seal that kept nothing: nobody used it.
+abbrev pub IsUnused : StoreView → ℕ → Lane → ℕ → Type 0
+IsUnused store context lane key = IsSealedUnused (seen_by lane.view) (cell_in store key context)
 
 -- The numbers that the seals of all keys keep, greatest first.
 abbrev pub numbers_left : StoreView → ℕ → Lane → List ℕ
@@ -55,14 +59,13 @@ pub record SealOvertaken (store : StoreView) (context key : ℕ) (before after :
   pub in_the_way : IsInTheWay store before after
   pub last : IsOvertakenAt store.tries before after (Seal (cell_in store key context))
 
--- The keys before this one were sealed, and of the others only some whose seals kept nothing. Then its own seal was
--- refused.
+-- The keys before this one were sealed, and of the others only some that nobody used. Then its own seal was refused.
 pub record StopsAt (store : StoreView) (context key : ℕ) (IsRefused : Lane → Lane → Type 0) (before after : Lane) : Type 0 where
   pub key_is : key < length store.id.keys
   pub between : Lane
   pub made : MakesSeals store context before between
   pub sealed : AreSealed store context key between
-  pub beyond : (other : ℕ) → Contains made.sealed other → key ≤ other → slots_seen store context between other ≡ Some (slot.Sealed None)
+  pub beyond : (other : ℕ) → Contains made.sealed other → key ≤ other → IsUnused store context between other
   pub refused : IsRefused between after
 
 -- A seal is refused because a lane was computing a value for the context, or because other lanes were in the way.

@@ -1,5 +1,5 @@
 //! The close of a context.
-ghost use Rattle.std.specs.Prelude.{ℕ, ◌≡◌, ◌≤◌, ◌<◌, ◌+◌, ◌*◌, List, [], ◌∷◌, ◌++◌, length, slice_index_or, is_some, true, false, All, IfErr, IfNone, IfOk, IfSome, Some};
+ghost use Rattle.std.specs.Prelude.{ℕ, ◌≡◌, ◌≤◌, ◌<◌, ◌+◌, ◌*◌, ◌/◌, List, [], ◌∷◌, ◌++◌, length, slice_index_or, is_some, true, false, All, IfErr, IfNone, IfOk, IfSome, Some};
 ghost use Rattle.std.specs.List.{AllZip};
 ghost use Rattle.ext_history.specs.Histories.{seen_by};
 ghost use Rattle.ext_model.specs.History.{IsLegal};
@@ -20,16 +20,16 @@ use ext_store::{Closer, Lane, Refusal, Store, StoreValue};
 /// Closes the closer's context: seals its keys, and then closes its remaining closeable values, the
 /// latest first.
 ///
-/// The first of the lanes seals all 64 places that the context has for keys, also those without a
-/// key. Of each half, 32 places, those that nobody used are sealed at one step, and then the others
-/// in the order of their numbers. Then each remaining value that is closeable is closed by one call
+/// The first of the lanes seals all places that the context has for keys, also those without a key.
+/// Of each block of 32, those that nobody used are sealed at one step, and then the others in the
+/// order of their numbers. Then each remaining value that is closeable is closed by one call
 /// of the action, the one with the greatest number first. A value remains if it stood in the
 /// context when its key was sealed; a kept fault that stood there is discarded. A close that fails
 /// does not stop the others. Neither the parent nor the children of the context are closed.
 /// Afterwards nothing is stored or claimed in the context, whatever key is named later.
 ///
-/// It costs two steps, a seal for each place that was used in the context, a look at each value
-/// that remains, and the calls of the action. The first lane makes at most `tries` + 1 steps for
+/// It costs a step for each block, a seal for each place that was used in the context, a look at
+/// each value that remains, and the calls of the action. The first lane makes at most `tries` + 1 steps for
 /// each seal, so no close waits for a factory. Takes no memory of its own.
 ///
 /// There must be at least one lane, and the lanes and the closer must be the store's.
@@ -55,24 +55,46 @@ pub fn close<V: StoreValue + Drop, A: CloseAction<V>>(
     // What the close did, and when it is refused: each as a field.
     ensures happened { Closes V.is_closeable A.close_gives store.now closer lanes.old action.old result lanes.new action.new }
 
-    // How many key places there are.
-    ensures all_places { length store.now.id.keys ≡ 64 }
-
-    // It waits for no factory: a step for each half of the places, and for each place a load, and
+    // It waits for no factory: a step for each block of the places, and for each place a load, and
     // at most as many exchanges as a call has tries.
-    ensures steps { steps_of (first_lane store.now lanes.old) (first_lane store.now lanes.new) ≤ 64 * (store.now.tries + 1) + 2 }
+    ensures steps { steps_of (first_lane store.now lanes.old) (first_lane store.now lanes.new) ≤ length store.now.id.keys * (store.now.tries + 1) + length store.now.id.keys / 32 }
 
     // What the next call rests on.
     ensures handed_back { IfErr result (λ e. e.0 ≡ closer) }
     ensures own_lanes { All (IsLaneOf store.now.id) lanes.new }
     ensures kept { AllZip StillKeeps lanes.old lanes.new }
 {
+    if store.key_count() <= 64 {
+        close_within::<V, A, 64>(store, closer, lanes, action)
+    } else {
+        close_within::<V, A, 1024>(store, closer, lanes, action)
+    }
+}
+
+// The same, with room for so many numbers.
+fn close_within<V: StoreValue + Drop, A: CloseAction<V>, const ROOM: usize>(
+    store: &Store<V>,
+    closer: Closer,
+    lanes: &mut [Lane<V>],
+    action: &mut A,
+) -> Result<Closed, (Closer, CloseFault)>
+    requires room { length store.now.id.keys ≤ ROOM }
+    requires few { ROOM ≤ 1024 }
+    requires lanes { 1 ≤ length lanes.old }
+    requires own_lanes { All (IsLaneOf store.now.id) lanes.old }
+    requires closer { IsCloserOf store.now closer }
+    ensures happened { Closes V.is_closeable A.close_gives store.now closer lanes.old action.old result lanes.new action.new }
+    ensures steps { steps_of (first_lane store.now lanes.old) (first_lane store.now lanes.new) ≤ length store.now.id.keys * (store.now.tries + 1) + length store.now.id.keys / 32 }
+    ensures handed_back { IfErr result (λ e. e.0 ≡ closer) }
+    ensures own_lanes { All (IsLaneOf store.now.id) lanes.new }
+    ensures kept { AllZip StillKeeps lanes.old lanes.new }
+{
     // The lane that seals.
     let first = 0;
-    let numbers = match seal_all(store, &closer, &mut lanes[first]) {
-        Ok(numbers) => numbers,
-        Err(why) => return Err((closer, why)),
-    };
+    let mut numbers: FallingNumbers<ROOM> = FallingNumbers::new();
+    if let Err(why) = seal_all(store, &closer, &mut lanes[first], &mut numbers) {
+        return Err((closer, why));
+    }
     let remaining = numbers.as_slice();
     if let Some(number) = first_unjoined(store, lanes, remaining) {
         return Err((closer, CloseFault::Unjoined(number)));
@@ -80,51 +102,53 @@ pub fn close<V: StoreValue + Drop, A: CloseAction<V>>(
     Ok(close_all(store, lanes, remaining, action))
 }
 
-// Seals all places for keys in the context, and answers the numbers that remain, the greatest
-// first.
-fn seal_all<V>(
+// Seals all places for keys in the context, and puts the numbers that remain into the list, the
+// greatest first.
+fn seal_all<V, const ROOM: usize>(
     store: &Store<V>,
     closer: &Closer,
     lane: &mut Lane<V>,
-) -> Result<FallingNumbers, CloseFault>
+    numbers: &mut FallingNumbers<ROOM>,
+) -> Result<(), CloseFault>
     requires lane { IsLaneOf store.now.id lane.old }
     requires closer { IsCloserOf store.now closer.now }
+    requires room { length store.now.id.keys ≤ ROOM }
+    requires none { numbers.old ≡ [] }
     ensures ends { SealingEnds store.now closer.now.context lane.old.cells lane.new.cells (fault_of result) }
-    ensures numbers { IfOk result (λ numbers. numbers ≡ numbers_left store.now closer.now.context lane.new.cells) }
+    ensures numbers { IfOk result (λ _. numbers.new ≡ numbers_left store.now closer.now.context lane.new.cells) }
     ensures refusal { IfErr result IsOfKey }
-    ensures all_places { length store.now.id.keys ≡ 64 }
-    ensures steps { length lane.new.cells.view.fronts ≤ length lane.old.cells.view.fronts + (64 * (store.now.tries + 1) + 2) }
+    ensures steps { length lane.new.cells.view.fronts ≤ length lane.old.cells.view.fronts + (length store.now.id.keys * (store.now.tries + 1) + length store.now.id.keys / 32) }
     ensures known { lane.new.known ≡ lane.old.known }
     ensures faults { lane.new.faults ≡ lane.old.faults }
     ensures keys { lane.new.keys ≡ lane.old.keys }
     ensures lane { IsLaneOf store.now.id lane.new }
     ensures kept { StillKeeps lane.old lane.new }
 {
-    let _keys = store.key_count();
-    let mut numbers = FallingNumbers::new();
-    for half in 0..2 {
-        if let Err(why) = seal_half(store, closer, lane, half, &mut numbers) {
+    let keys = store.key_count();
+    for block in 0..keys / 32 {
+        if let Err(why) = seal_block(store, closer, lane, block, numbers) {
             return Err(why);
         }
     }
-    Ok(numbers)
+    Ok(())
 }
 
-// Seals half of the places, 32, and adds the numbers that their seals keep.
-fn seal_half<V>(
+// Seals a block of 32 places, and adds the numbers that their seals keep.
+fn seal_block<V, const ROOM: usize>(
     store: &Store<V>,
     closer: &Closer,
     lane: &mut Lane<V>,
-    half: usize,
-    numbers: &mut FallingNumbers,
+    block: usize,
+    numbers: &mut FallingNumbers<ROOM>,
 ) -> Result<(), CloseFault>
     requires lane { IsLaneOf store.now.id lane.old }
     requires closer { IsCloserOf store.now closer.now }
-    requires half { half < 2 }
-    requires room { length numbers.old ≤ half * 32 }
-    ensures sealed { IfOk result (λ _. SealsOn store.now closer.now.context (half * 32) (half * 32 + 32) lane.old.cells lane.new.cells numbers.old numbers.new) }
-    ensures stops { IfErr result (λ why. (before : _) → SealedSoFar store.now closer.now.context (half * 32) before lane.old.cells numbers.old → SealingEnds store.now closer.now.context before lane.new.cells (Some why)) }
-    ensures few { IfOk result (λ _. length numbers.new ≤ half * 32 + 32) }
+    requires block { block * 32 + 32 ≤ length store.now.id.keys }
+    requires room { length store.now.id.keys ≤ ROOM }
+    requires few { length numbers.old ≤ block * 32 }
+    ensures sealed { IfOk result (λ _. SealsOn store.now closer.now.context (block * 32) (block * 32 + 32) lane.old.cells lane.new.cells numbers.old numbers.new) }
+    ensures stops { IfErr result (λ why. (before : _) → SealedSoFar store.now closer.now.context (block * 32) before lane.old.cells numbers.old → SealingEnds store.now closer.now.context before lane.new.cells (Some why)) }
+    ensures few { IfOk result (λ _. length numbers.new ≤ block * 32 + 32) }
     ensures refusal { IfErr result IsOfKey }
     ensures steps { length lane.new.cells.view.fronts ≤ length lane.old.cells.view.fronts + (32 * (store.now.tries + 1) + 1) }
     ensures known { lane.new.known ≡ lane.old.known }
@@ -133,7 +157,7 @@ fn seal_half<V>(
     ensures lane { IsLaneOf store.now.id lane.new }
     ensures kept { StillKeeps lane.old lane.new }
 {
-    let marks = store.seal_unused(lane, closer, half);
+    let marks = store.seal_unused(lane, closer, block);
     lane.recall();
     let _keys = store.key_count();
     // The marks that are left, the next key's in bit 0.
@@ -143,7 +167,7 @@ fn seal_half<V>(
             return Ok(());
         }
         if left % 2 == 1 {
-            match seal_key(store, closer, lane, half * 32 + place) {
+            match seal_key(store, closer, lane, block * 32 + place) {
                 Ok(kept) => numbers.put_in_kept(kept),
                 Err(why) => return Err(why),
             }
@@ -228,7 +252,7 @@ fn close_all<V: StoreValue + Drop, A: CloseAction<V>>(
 ) -> Closed
     requires lanes { All (IsLaneOf store.now.id) lanes.old }
     requires joined { All (IsJoined lanes.old) numbers.now }
-    requires few { length numbers.now ≤ 64 }
+    requires few { length numbers.now ≤ 1024 }
     ensures closes { ClosesNumbers V.is_closeable A.close_gives lanes.old numbers.now action.old action.new result }
     ensures unchanged { lanes.new ≡ lanes.old }
 {
@@ -249,7 +273,7 @@ fn close_one<V: StoreValue + Drop, A: CloseAction<V>>(
 )
     requires lanes { All (IsLaneOf store.now.id) lanes.old }
     requires joined { IsJoined lanes.old number }
-    requires room { (closed.old.closed < 64) × (closed.old.more_faults ≤ closed.old.closed) }
+    requires room { (closed.old.closed < 1024) × (closed.old.more_faults ≤ closed.old.closed) }
     ensures closes { (numbers : List ℕ) (first : A) → ClosesNumbers V.is_closeable A.close_gives lanes.old numbers first action.old closed.old → ClosesNumbers V.is_closeable A.close_gives lanes.old (numbers ++ number ∷ []) first action.new closed.new }
     ensures one_more { closed.new.closed ≤ closed.old.closed + 1 }
     ensures few { closed.new.more_faults ≤ closed.new.closed }

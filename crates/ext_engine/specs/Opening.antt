@@ -42,8 +42,8 @@ IsNoTree ids why = HasFault ids why
 
 -- The limits are not those of a store; or they are, and memory ran out.
 abbrev pub IsNoStore : Limits → StoreFault → Type 0
-IsNoStore limits store_faults.BadLimit = ¬ AreStoreLimits limits.lanes limits.tries limits.numbers
-IsNoStore limits store_faults.Memory = AreStoreLimits limits.lanes limits.tries limits.numbers
+IsNoStore limits store_faults.BadLimit = ¬ AreStoreLimits limits.keys limits.lanes limits.tries limits.numbers
+IsNoStore limits store_faults.Memory = AreStoreLimits limits.keys limits.lanes limits.tries limits.numbers
 
 -- Why no store is opened: the first reason that applies.
 abbrev pub IsStoreFault : List Id → Limits → OpenFault → Type 0
@@ -57,7 +57,7 @@ abbrev pub IsNotOpened : List Id → List (List ℕ) → Limits → OpenFault �
 IsNotOpened ids names limits (faults.Id at why) = ⊥
 IsNotOpened ids names limits (faults.Tree why) = IsNoTree ids why
 IsNotOpened ids names limits (faults.Store why) = IsTree ids × IsNoStore limits why
-IsNotOpened ids names limits (faults.Locks why) = IsTree ids × AreStoreLimits limits.lanes limits.tries limits.numbers × locking.IsNotOpened names limits.lanes limits.tries why
+IsNotOpened ids names limits (faults.Locks why) = IsTree ids × AreStoreLimits limits.keys limits.lanes limits.tries limits.numbers × locking.IsNotOpened names limits.lanes limits.tries why
 
 -- ---- what is taken out of what was opened
 

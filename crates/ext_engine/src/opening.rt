@@ -4,6 +4,7 @@ ghost use Rattle.std.specs.Prelude.{◌≡◌, ◌*◌, All, IfErr, IfOk, IsPerm
 ghost use Rattle.ext_cells.specs.Lanes.{fresh_lanes};
 ghost use Rattle.ext_locks.specs.Names.{texts_of};
 ghost use Rattle.ext_locks.specs.Opening as locking;
+ghost use Rattle.ext_store.specs.Opening.{places_for};
 ghost use Rattle.ext_store.specs.Stores.{AreStoreLimits, IsCloserOf, IsLaneOf, closers_below, fresh_store_lane};
 ghost use Rattle.ext_engine.specs.Opening.{AreRead, IsNotOpened, IsNotRead, IsStoreFault};
 ghost use Rattle.ext_engine.specs.TreeRun.{IsUsable};
@@ -114,8 +115,9 @@ pub fn read_ids(alloc: Global, texts: &[&str]) -> Result<Vec<UniqueId>, OpenFaul
 /// and keys.
 ///
 /// Refused, in this order, as `Tree` for the first fault of the ids, as `Store(BadLimit)` unless
-/// there are 1 to 16 lanes, 1 to 64 tries and 1 to 65,535 numbers, as `Store(Memory)`, and as
-/// `Locks` for more than 63 names, for the first that stands twice, and for want of memory.
+/// there are 1 to 16 lanes, 1 to 64 tries, 1 to 1,024 keys and 1 to 65,535 numbers, as
+/// `Store(Memory)`, and as `Locks` for more than 63 names, for the first that stands twice, and for
+/// want of memory.
 pub fn open_run<V: StoreValue + Drop>(
     alloc: Global,
     ids: &[UniqueId],
@@ -129,7 +131,8 @@ pub fn open_run<V: StoreValue + Drop>(
 
     // The store is of these ids and limits, and all of it is fresh.
     ensures tree { IfOk result (λ o. o.store.tree ≡ ids.now) }
-    ensures limits { IfOk result (λ o. o.store.id.cells.limits ≡ record { cells = length ids.now * 64; lanes = limits.lanes; numbers = limits.numbers; keep_faults = limits.keep_faults }) }
+    ensures limits { IfOk result (λ o. o.store.id.cells.limits ≡ record { cells = length ids.now * places_for limits.keys; lanes = limits.lanes; numbers = limits.numbers; keep_faults = limits.keep_faults }) }
+    ensures keys { IfOk result (λ o. length o.store.id.keys ≡ places_for limits.keys) }
     ensures tries { IfOk result (λ o. (o.store.tries ≡ limits.tries) × (o.locks.tries ≡ limits.tries)) }
     ensures lanes { IfOk result (λ o. o.lanes.items ≡ map (fresh_store_lane o.store.id.places o.store.id.fault_places o.store.id.keys) (fresh_lanes o.store.id.cells 0 limits.lanes)) }
     ensures lock_lanes { IfOk result (λ o. o.lock_lanes.items ≡ locking.fresh_lanes o.locks.table limits.lanes limits.lanes) }
@@ -157,8 +160,9 @@ fn open_store<V: StoreValue + Drop>(
     limits: Limits,
 ) -> Result<(Store<V>, Vec<Lane<V>>, Vec<Closer>), OpenFault>
     ensures tree { IfOk result (λ r. (r.0.tree ≡ ids.now) × IsTree ids.now) }
-    ensures limits { IfOk result (λ r. r.0.id.cells.limits ≡ record { cells = length ids.now * 64; lanes = limits.lanes; numbers = limits.numbers; keep_faults = limits.keep_faults }) }
-    ensures within { IfOk result (λ r. AreStoreLimits limits.lanes limits.tries limits.numbers) }
+    ensures limits { IfOk result (λ r. r.0.id.cells.limits ≡ record { cells = length ids.now * places_for limits.keys; lanes = limits.lanes; numbers = limits.numbers; keep_faults = limits.keep_faults }) }
+    ensures keys { IfOk result (λ r. length r.0.id.keys ≡ places_for limits.keys) }
+    ensures within { IfOk result (λ r. AreStoreLimits limits.keys limits.lanes limits.tries limits.numbers) }
     ensures tries { IfOk result (λ r. r.0.tries ≡ limits.tries) }
     ensures lanes { IfOk result (λ r. r.1.items ≡ map (fresh_store_lane r.0.id.places r.0.id.fault_places r.0.id.keys) (fresh_lanes r.0.id.cells 0 limits.lanes)) }
     ensures own_lanes { IfOk result (λ r. All (IsLaneOf r.0.id) r.1.items) }

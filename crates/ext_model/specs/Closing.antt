@@ -4,12 +4,18 @@
 -- a drawn number, so the greatest number is the latest value. Whoever closes the values decides which are closeable.
 -- `slots` says what stands in the context under each key, and `keys` how many keys there are, numbered from 0.
 use Rattle.std.specs.Prelude.{ℕ, zero, suc, ◌≡◌, ◌<◌, ◌==◌, nat_lt, if◌then◌else◌, List, [], ◌∷◌, Option, None, Some, Contains, ◌↔◌}
+use Rattle.ext_model.specs.History.{History, state_after, version_of}
 use Rattle.ext_model.specs.declared.slot.Slot.{Slot}
 use Rattle.ext_model.specs.declared.slot.Slot.TheVariants.{Entry, Fault, Claim, Sealed}
 
 -- All places of the context are sealed.
 abbrev pub IsClosed : (ℕ → Option Slot) → ℕ → Type 0
 IsClosed slots keys = (key : ℕ) → key < keys → (kept : Option ℕ) × (slots key ≡ Some (Sealed kept))
+
+-- The cell has had one event, a seal that kept nothing: nobody used it before.
+pub record IsSealedUnused (h : History) (cell : ℕ) : Type 0 where
+  pub version : version_of h cell ≡ 1
+  pub slot : (state_after h).slots cell ≡ Some (Sealed None)
 
 -- The number that a seal keeps.
 abbrev pub kept_by : Option Slot → Option ℕ

@@ -5,20 +5,17 @@ ghost use Rattle.ext_model.specs.Closing.{IsFalling, put_in, put_in_kept};
 use arrayvec::ArrayVec;
 use std::marker::Model;
 
-// The greatest number of keys of a context, and so of numbers that its seals keep.
-const KEYS: usize = 64;
-
-/// The numbers that the seals of a context keep: at most 64, the greatest first, without
-/// repetition. They are stored inline.
+/// The numbers that the seals of a context keep: at most so many, the greatest first, without
+/// repetition. They are stored inline, and a new list costs the more the more it has room for.
 ///
 /// JUnit 5 User Guide, section "Keeping State in Extensions": the values of a context are closed in
 /// the inverse order in which they were added.
 #[derive(Drop)]
-pub struct FallingNumbers {
-    numbers: ArrayVec<u32, KEYS>,
+pub struct FallingNumbers<const ROOM: usize> {
+    numbers: ArrayVec<u32, ROOM>,
 }
 
-impl Model for FallingNumbers {
+impl<const ROOM: usize> Model for FallingNumbers<ROOM> {
     ghost use Rattle.std.specs.Prelude.{ℕ, List};
     ghost use Rattle.ext_model.specs.Closing.{IsFalling};
 
@@ -29,9 +26,9 @@ impl Model for FallingNumbers {
     ghost invariant = { λ n. IsFalling n.numbers.items };
 }
 
-impl FallingNumbers {
+impl<const ROOM: usize> FallingNumbers<ROOM> {
     /// Makes an empty list of numbers.
-    pub fn new() -> FallingNumbers
+    pub fn new() -> FallingNumbers<ROOM>
         ensures { result ≡ [] }
     {
         FallingNumbers {
@@ -43,15 +40,15 @@ impl FallingNumbers {
     pub fn as_slice(&self) -> &[u32]
         ensures numbers { result.now ≡ self.now }
         ensures falling { IsFalling result.now }
-        ensures few { length result.now ≤ 64 }
+        ensures few { length result.now ≤ ROOM }
     {
         self.numbers.as_slice()
     }
 
     /// Inserts the number before the first smaller one, unless it is already there. There must be
-    /// fewer than 64 numbers.
+    /// room for one more.
     pub fn put_in(&mut self, number: u32)
-        requires room { length self.old < 64 }
+        requires room { length self.old < ROOM }
         ensures numbers { self.new ≡ put_in number self.old }
         ensures few { length self.new ≤ length self.old + 1 }
     {
@@ -64,9 +61,9 @@ impl FallingNumbers {
         }
     }
 
-    /// Inserts the number that a seal keeps, if it keeps one. There must be fewer than 64 numbers.
+    /// Inserts the number that a seal keeps, if it keeps one. There must be room for one more.
     pub fn put_in_kept(&mut self, kept: Option<u32>)
-        requires room { length self.old < 64 }
+        requires room { length self.old < ROOM }
         ensures numbers { self.new ≡ put_in_kept kept self.old }
         ensures few { length self.new ≤ length self.old + 1 }
     {

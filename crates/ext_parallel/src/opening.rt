@@ -35,6 +35,7 @@ pub(crate) fn open_store<V: StoreValue + Drop>(
     let limits = Limits {
         lanes,
         tries: TRIES,
+        keys: 64,
         numbers: NUMBERS,
         keep_faults: plan.keep_faults,
     };

@@ -14,7 +14,11 @@ use std::alloc::{AllocError, Global};
 impl<'a> ValueStore<'a> {
     /// Seals the first `keys` keys of a context, in order, and returns the numbers that the seals
     /// keep, the greatest first.
-    pub fn seal_keys(&mut self, keys: usize, at: ContextNo) -> Result<FallingNumbers, AllocError>
+    pub fn seal_keys(
+        &mut self,
+        keys: usize,
+        at: ContextNo,
+    ) -> Result<FallingNumbers<64>, AllocError>
         requires { keys ≤ 64 }
         ensures state { OnOk result (state_view self.new ≡ seal_keys keys at (state_view self.old)) }
         ensures numbers { IfOk result (λ numbers. numbers ≡ numbers_left keys at (state_view self.new)) }

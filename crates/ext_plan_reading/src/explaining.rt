@@ -4,7 +4,9 @@ ghost use Rattle.ext_plan_reading.specs.Explaining.{Explains, place_words};
 
 mod ends;
 mod fields;
+mod headers;
 mod ids;
+mod near;
 mod nodes;
 mod steps;
 mod words;
@@ -12,6 +14,7 @@ mod words;
 use crate::fault::{Place, PlanFault};
 use ends::with_end;
 use fields::{bad_field, bad_label, unknown_field};
+use headers::hint_at;
 pub use ids::explain_id;
 use nodes::{bad_id, bad_nodes, too_many};
 use std::alloc::{AllocError, Global};
@@ -23,9 +26,10 @@ use words::said;
 /// Explains why the bytes of a plan were refused, in a line without a line feed. The line begins
 /// with the place that the fault names (`the plan`, `key 1` or `node 2`) and a colon. Then it names
 /// the field, the label, the id with its own fault, the lock or the step at fault, or the place in
-/// the text. Texts of the plan are quoted, with a line feed as `\n`. At the end are the line of the
-/// plan where the table of the key or node begins, if the table has a header of its own, and the
-/// node's id, if it has one. The contract covers only the place that the fault names.
+/// the text. It says what was meant where that is likely, such as the nearest name of a field.
+/// Texts of the plan are quoted, with a line feed as `\n`. At the end are the line of the plan
+/// where the table of the key or node begins, if the table has a header of its own, and the node's
+/// id, if it has one. The contract covers only the place that the fault names.
 ///
 /// The fault is the answer of `read_plan` to this text, or `NotUtf8` if the bytes are no text. For
 /// any other fault the line says that another one comes before, or that there is no such fault.
@@ -89,14 +93,19 @@ fn no_utf8(alloc: Global, at: usize) -> Result<Option<String>, PlanFault> {
     Ok(Some(format!(in alloc; "it is no UTF-8 at byte {at}")?))
 }
 
-/// Says where and why a text is no TOML document, in the words of the TOML parser.
+/// Says where and why a text is no TOML document, in the words of the TOML parser, and how an array
+/// of tables is written where one is meant.
 fn no_toml(alloc: Global, text: &str, error: &Error) -> Result<Option<String>, PlanFault> {
     let Some(span) = error.span() else {
         return Err(PlanFault::Memory);
     };
     let line = line_at(text, span.start);
     let message = error.message();
-    Ok(Some(format!(in alloc; "line {line}: {message}")?))
+    let hint = match message {
+        "duplicate key" => hint_at(text, line),
+        _ => "",
+    };
+    Ok(Some(format!(in alloc; "line {line}: {message}{hint}")?))
 }
 
 /// The number, from 1, of the line that contains a byte of a text.

@@ -11,11 +11,12 @@ use Rattle.ext_model.specs.declared.event.Act.TheVariants.{Seal}
 use Rattle.ext_model.specs.State.{opening}
 use Rattle.ext_model.specs.Events.{slot_after}
 use Rattle.ext_model.specs.Allowed.{IsOpen}
+use Rattle.ext_model.specs.Closing.{IsSealedUnused}
 use Rattle.ext_model.specs.History.{History, Limits, by, lane_of, own, state_after, version_of, IsAllowed, IsLegal}
 use Rattle.ext_model.proofs.Allowed.{allowed}
 use Rattle.ext_model.proofs.Versions.{slot_stays}
 use Rattle.ext_model.proofs.Words.{version-push, slots-push, drawn-push}
-use Rattle.ext_rows.specs.Standings.{seals, IsEnded, MayEnd}
+use Rattle.ext_rows.specs.Standings.{seals, MayEnd}
 
 -- where a cell had no event nothing stands
 pub nothing : (h : History) (cell : ℕ) → version_of h cell ≡ 0 → (state_after h).slots cell ≡ None
@@ -88,7 +89,7 @@ end_legal limits h lane (c ∷ cs) legal below may =
     subst (IsLegal limits) (append_assoc h (by lane (Seal c) ∷ []) (seals lane cs))
     (end_legal limits (h ++ by lane (Seal c) ∷ []) lane cs (legal_push h (by lane (Seal c)) legal can) below (rest h lane c cs may))
 
-first_seal : (h : History) (lane c : ℕ) → version_of h c ≡ 0 → IsEnded (h ++ by lane (Seal c) ∷ []) c
+first_seal : (h : History) (lane c : ℕ) → version_of h c ≡ 0 → IsSealedUnused (h ++ by lane (Seal c) ∷ []) c
 first_seal h lane c none = record {
   version = version-push h (by lane (Seal c)) c ∙ ap (λ b. version_of h c + cond b 1 0) (eq-eqb c c refl) ∙ ap (λ v. v + 1) none;
   slot = slot_at h lane c c true (eq-eqb c c refl) ∙ ap (slot_after lane (Seal c)) (nothing h c none);
@@ -97,15 +98,15 @@ first_seal h lane c none = record {
 absent_from : (c : ℕ) (cs : List ℕ) → IsDistinct nat_eq (c ∷ cs) → Contains cs c → ⊥
 absent_from c cs d there = let f = not_head c cs c d there in let t : nat_eq c c ≡ true = eq-eqb c c refl in cc (f, t)
 
-pub end_seals : (limits : Limits) (h : History) (lane : ℕ) (cells : List ℕ) (cell : ℕ) → MayEnd limits h cells → Contains cells cell → IsEnded (h ++ seals lane cells) cell
+pub end_seals : (limits : Limits) (h : History) (lane : ℕ) (cells : List ℕ) (cell : ℕ) → MayEnd limits h cells → Contains cells cell → IsSealedUnused (h ++ seals lane cells) cell
 end_seals limits h lane [] cell may there = absurd (contains_none cell there)
 end_seals limits h lane (c ∷ cs) cell may there =
     let g = h ++ by lane (Seal c) ∷ [] in
     let none = may.unused c (contains_here c cs) in
     let away = absent_from c cs may.distinct in
-    subst (λ k. IsEnded k cell) (append_assoc h (by lane (Seal c) ∷ []) (seals lane cs))
+    subst (λ k. IsSealedUnused k cell) (append_assoc h (by lane (Seal c) ∷ []) (seals lane cs))
     (elim (contains_cons c cs cell there) [
-      | inl same ↦ let first = first_seal h lane c none in subst (IsEnded (g ++ seals lane cs)) same (record { version = versions_elsewhere g lane cs c away ∙ first.version; slot = slots_elsewhere g lane cs c away ∙ first.slot })
+      | inl same ↦ let first = first_seal h lane c none in subst (IsSealedUnused (g ++ seals lane cs)) same (record { version = versions_elsewhere g lane cs c away ∙ first.version; slot = slots_elsewhere g lane cs c away ∙ first.slot })
       | inr later ↦ end_seals limits g lane cs cell (rest h lane c cs may) later
     ])
 

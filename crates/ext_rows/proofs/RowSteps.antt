@@ -9,10 +9,11 @@ use lib.ListN.{get_elem?}
 use Rattle.atomic_table.specs.Table.{State, Me, step, keeps, stepped, Allows, Valid, carried_after, Act as TableAct}
 use Rattle.atomic_table.proofs.Lists.{exchanged}
 use Rattle.ext_model.specs.declared.event.Act.{Act}
+use Rattle.ext_model.specs.Closing.{IsSealedUnused}
 use Rattle.ext_model.specs.History.{History, IsLegal}
 use Rattle.ext_rows.specs.declared.limits.CellLimits.{CellLimits}
 use Rattle.ext_rows.specs.declared.view.View.{View}
-use Rattle.ext_rows.specs.Standings.{Standing, At, Open, Ended, ended_word, IsEnded, IsCellAt, MayEnd, seals}
+use Rattle.ext_rows.specs.Standings.{Standing, At, Open, Ended, ended_word, IsCellAt, MayEnd, seals}
 use Rattle.ext_rows.specs.Layouts.{Layout, IsLayout, IsPlacing, IsEnding}
 use Rattle.ext_rows.specs.Views.{limits_of, shown, led, sought}
 use Rattle.ext_rows.specs.Rule.{Fits, Kept}
@@ -220,12 +221,12 @@ module _ (limits : CellLimits) (l : Layout) (lay : IsLayout (limits_of limits) l
   }
 
   -- each cell that the row's word told to have no place has ended then
-  has_ended : (cell : ℕ) → cell < limits.cells → (l.tells place (get_or s.words place 0) cell ≡ Some Open) ⊎ (l.tells place (get_or s.words place 0) cell ≡ Some Ended) → IsEnded ended_history cell
+  has_ended : (cell : ℕ) → cell < limits.cells → (l.tells place (get_or s.words place 0) cell ≡ Some Open) ⊎ (l.tells place (get_or s.words place 0) cell ≡ Some Ended) → IsSealedUnused ended_history cell
   has_ended cell less (inl told) = end_seals (limits_of limits) k.history lane p.cells cell may_end (p.all cell less told)
   has_ended cell less (inr told) =
       let is = lay.told s.words place cell Ended k.sound less told in
       let away : Contains p.cells cell → ⊥ = λ there. two_ways (sym is ∙ was_open cell there) in
-      let was : IsEnded k.history cell = subst (IsCellAt k.history s.words cell) is (k.cells_are.each cell less) in
+      let was : IsSealedUnused k.history cell = subst (IsCellAt k.history s.words cell) is (k.cells_are.each cell less) in
       record { version = versions_elsewhere k.history lane p.cells cell away ∙ was.version; slot = slots_elsewhere k.history lane p.cells cell away ∙ was.slot }
     where
       two_ways : Ended ≡ Open → ⊥
@@ -259,7 +260,7 @@ ends limits l slots id me place operand lane lay mine row fits s k _ at _ =
         may = subst (λ (x : CellLimits). MayEnd (limits_of x) k.history p.cells) (sym same) may;
         opened = p.told;
         all = subst (λ (x : CellLimits). (cell : ℕ) → cell < x.cells → l.tells place n cell ≡ Some Open → Contains p.cells cell) (sym same) p.all;
-        ended = subst (λ (x : CellLimits). (cell : ℕ) → cell < x.cells → (l.tells place n cell ≡ Some Open) ⊎ (l.tells place n cell ≡ Some Ended) → IsEnded h cell) (sym same)
+        ended = subst (λ (x : CellLimits). (cell : ℕ) → cell < x.cells → (l.tells place n cell ≡ Some Open) ⊎ (l.tells place n cell ≡ Some Ended) → IsSealedUnused h cell) (sym same)
             (has_ended limits l lay s k lane place new below row fits p);
         after_is = refl;
       }),

@@ -6,11 +6,12 @@ use mathlib.Core.Logic.{dite}
 use native.Mathlib.Decide.{ℕ_discrete}
 use Rattle.ext_model.specs.declared.event.Act.{Act}
 use Rattle.ext_model.specs.Events.{place_of, is_at, slot_after}
+use Rattle.ext_model.specs.Closing.{IsSealedUnused}
 use Rattle.ext_model.specs.History.{History, Limits, by, state_after, version_of}
 use Rattle.ext_model.specs.CellWords.{state_code, number_code, word, slot_word, word_of}
 use Rattle.ext_model.proofs.Versions.{version-append, same_word}
 use Rattle.ext_model.proofs.Words.{version-push, slots-push}
-use Rattle.ext_rows.specs.Standings.{Standing, At, Open, Ended, ended_word, IsEnded, IsCellAt, AreCellsOf, MayEnd, seals, told_word}
+use Rattle.ext_rows.specs.Standings.{Standing, At, Open, Ended, ended_word, IsCellAt, AreCellsOf, MayEnd, seals, told_word}
 use Rattle.ext_rows.proofs.Ends.{nothing, slots_elsewhere, versions_elsewhere, end_seals}
 
 -- ---- what is told
@@ -21,7 +22,7 @@ zero_word h cell none =
     ap (λ s. word (state_code s) (number_code s) (version_of h cell)) (nothing h cell none) ∙ ap (λ v. word 0 0 v) none
 
 -- and one that has ended has that word
-pub word_then : (h : History) (cell : ℕ) → IsEnded h cell → word_of h cell ≡ ended_word
+pub word_then : (h : History) (cell : ℕ) → IsSealedUnused h cell → word_of h cell ≡ ended_word
 word_then h cell is = ap (λ s. slot_word s (version_of h cell)) is.slot ∙ ap (λ v. word 3 0 v) is.version
 
 told_at : (h : History) (words : List ℕ) (cell : ℕ) (s : Standing) → IsCellAt h words cell s → told_word words s ≡ word_of h cell

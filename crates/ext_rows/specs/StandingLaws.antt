@@ -3,9 +3,10 @@
 use Rattle.std.specs.Prelude.{◌≡◌, ℕ, ◌<◌, ◌⊎◌, List, [], ◌∷◌, ◌++◌, slice_index, slice_set, length, Contains, None, Some}
 use Rattle.ext_model.specs.declared.event.Act.{Act}
 use Rattle.ext_model.specs.Events.{place_of}
+use Rattle.ext_model.specs.Closing.{IsSealedUnused}
 use Rattle.ext_model.specs.History.{History, Limits, by, own, state_after, version_of, IsLegal}
 use Rattle.ext_model.specs.CellWords.{word_of}
-use Rattle.ext_rows.specs.Standings.{Standing, At, Open, Ended, ended_word, IsEnded, AreCellsOf, told_word, seals, MayEnd}
+use Rattle.ext_rows.specs.Standings.{Standing, At, Open, Ended, ended_word, AreCellsOf, told_word, seals, MayEnd}
 
 -- ---- an end
 
@@ -17,7 +18,7 @@ EndIsLegal = (limits : Limits) (h : History) (lane : ℕ) (cells : List ℕ) →
 abbrev pub EndLeavesSeals : Type 0
 EndLeavesSeals =
     (limits : Limits) (h : History) (lane : ℕ) (cells : List ℕ) (cell : ℕ) → MayEnd limits h cells → Contains cells cell
-    → IsEnded (h ++ seals lane cells) cell
+    → IsSealedUnused (h ++ seals lane cells) cell
 
 -- all else is as it was
 abbrev pub EndLeavesOthers : Type 0

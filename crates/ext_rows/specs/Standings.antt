@@ -5,6 +5,7 @@ use Rattle.std.specs.Prelude.{◌≡◌, ℕ, ◌+◌, ◌<◌, ◌^◌, nat_eq,
 use Rattle.std.specs.List.{IsDistinct}
 use Rattle.ext_model.specs.declared.event.Act.TheVariants.{Seal}
 use Rattle.ext_model.specs.declared.slot.Slot.TheVariants as slot
+use Rattle.ext_model.specs.Closing.{IsSealedUnused}
 use Rattle.ext_model.specs.History.{History, Limits, state_after, version_of}
 use Rattle.ext_model.specs.CallActs.{events_by}
 use Rattle.ext_model.specs.CellWords.{word_of}
@@ -18,16 +19,11 @@ pub data Standing : Type 0 where
 abbrev pub ended_word : ℕ
 ended_word = 2 ^ 24 + 3
 
--- the history has one event of the cell, the seal of nothing
-pub record IsEnded (h : History) (cell : ℕ) : Type 0 where
-  pub version : version_of h cell ≡ 1
-  pub slot : (state_after h).slots cell ≡ Some (slot.Sealed None)
-
 -- what the history has of a cell that stands so
 abbrev pub IsCellAt : History → List ℕ → ℕ → Standing → Type 0
 IsCellAt h words cell (At place) = slice_index words place ≡ word_of h cell
 IsCellAt h words cell Open = version_of h cell ≡ 0
-IsCellAt h words cell Ended = IsEnded h cell
+IsCellAt h words cell Ended = IsSealedUnused h cell
 
 -- the word of a cell that stands so
 abbrev pub told_word : List ℕ → Standing → ℕ

@@ -6,11 +6,12 @@ use mathlib.Core.List.{IsPrefix}
 use Rattle.atomic_table.specs.Table.{Me, Step}
 use Rattle.ext_model.specs.declared.event.Act.{Act}
 use Rattle.ext_model.specs.Events.{place_of}
+use Rattle.ext_model.specs.Closing.{IsSealedUnused}
 use Rattle.ext_model.specs.History.{History, Limits, by, own, state_after, IsAllowed, IsLegal}
 use Rattle.ext_model.specs.CellWords.{word_of}
 use Rattle.ext_history.specs.Histories.{seen}
 use Rattle.ext_rows.specs.declared.view.View.{View}
-use Rattle.ext_rows.specs.Standings.{Standing, At, Open, Ended, ended_word, IsEnded, seals, MayEnd}
+use Rattle.ext_rows.specs.Standings.{Standing, At, Open, Ended, ended_word, seals, MayEnd}
 use Rattle.ext_rows.specs.Layouts.{Layout}
 use Rattle.ext_rows.specs.Views.{limits_of, shown, led, sought}
 
@@ -115,7 +116,7 @@ pub record EndOf (l : Layout) (me after : Me (Act ℕ) View) (lane place found :
   pub may : MayEnd (limits_of me.0.limits) history cells
   pub opened : (cell : ℕ) → Contains cells cell → l.tells place found cell ≡ Some Open
   pub all : (cell : ℕ) → cell < me.0.limits.cells → l.tells place found cell ≡ Some Open → Contains cells cell
-  pub ended : (cell : ℕ) → cell < me.0.limits.cells → (l.tells place found cell ≡ Some Open) ⊎ (l.tells place found cell ≡ Some Ended) → IsEnded (history ++ seals lane cells) cell
+  pub ended : (cell : ℕ) → cell < me.0.limits.cells → (l.tells place found cell ≡ Some Open) ⊎ (l.tells place found cell ≡ Some Ended) → IsSealedUnused (history ++ seals lane cells) cell
   pub after_is : after ≡ (shown me.0 (history ++ seals lane cells), me.1)
 
 abbrev pub EndedBy : Layout → Step (Act ℕ) → Me (Act ℕ) View → ℕ → Me (Act ℕ) View → Type 0

@@ -1,6 +1,6 @@
 //! The word of a row: which of its cells have a mark, and whether it has ended. No other module
 //! takes one apart.
-ghost use Rattle.std.specs.Prelude.{◌≡◌, ◌<◌, ◌^◌};
+ghost use Rattle.std.specs.Prelude.{ℕ, ◌≡◌, ◌<◌, ◌^◌};
 ghost use Rattle.ext_rows.specs.Marks.{row_count as row_count_of, row_place as row_place_of, is_ended as is_ended_of, mark_of as mark_of_cell, has_mark as has_mark_of, with_mark as with_mark_of};
 
 use ext_model::CellNo;
@@ -37,12 +37,21 @@ pub fn is_ended(row: u64) -> bool
     row & END == 1
 }
 
-// The bit of a cell's mark.
+/// The bit of a cell's mark in the word of its row.
 #[inline(always)]
-fn mark_of(cell: CellNo) -> u32
+pub fn mark_of(cell: CellNo) -> u32
     ensures bit { result ≡ mark_of_cell cell }
 {
     (cell % 32) as u32 + 1
+}
+
+/// Whether a cell with this bit has a mark in the word of its row.
+#[inline(always)]
+pub fn is_marked(row: u64, mark: u32) -> bool
+    requires { mark < 64 }
+    ensures mark { (cell : ℕ) → mark ≡ mark_of_cell cell → result ≡ has_mark_of row cell }
+{
+    row >> mark & 1 == 1
 }
 
 /// Whether the cell has a mark in the word of its row.
@@ -50,7 +59,7 @@ fn mark_of(cell: CellNo) -> u32
 pub fn has_mark(row: u64, cell: CellNo) -> bool
     ensures mark { result ≡ has_mark_of row cell }
 {
-    row >> mark_of(cell) & 1 == 1
+    is_marked(row, mark_of(cell))
 }
 
 /// The word of the cell's row with the cell's mark.

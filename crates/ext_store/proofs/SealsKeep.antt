@@ -42,7 +42,7 @@ stores_none store context number (key ∷ keys) = All-cons (StoresNot number) (S
 
 -- and so have the seals of keys that nobody used
 pub unused_frame : {V : Type 0} (id : StoreId) (store : ContextCells) (inside a b : StoreLane V) → inside ≡ a → IsLaneOf id a → b.cells.cells ≡ inside.cells.cells → IsOnCells inside b
-    → (context half marks : ℕ) → SealsUnused store context half marks inside.cells b.cells → Frame id [] a b
-unused_frame {V} id store inside a b is mine cells on_cells context half marks sealed =
+    → (context block marks : ℕ) → SealsUnused store context block marks inside.cells b.cells → Frame id [] a b
+unused_frame {V} id store inside a b is mine cells on_cells context block marks sealed =
     frame_of id inside a b is mine cells on_cells (seals_of store context sealed.sealed) sealed.calls
     (λ number kept. one_kept inside.cells.cells.limits inside b (seals_of store context sealed.sealed) number sealed.calls (stores_none store context number sealed.sealed) (ap (λ (x : StoreLane V). known_at x.known number) on_cells) kept)

@@ -41,7 +41,7 @@ SealsKey store context key before after result = cells.SealsKey (context_cells s
 abbrev pub seals_of : StoreView → ℕ → List ℕ → List (Act ℕ)
 seals_of store context keys = cells.seals_of (context_cells store) context keys
 
--- The call sealed keys of this half of the context's 64 that are not among the marked, and each of those is sealed
--- afterwards, by a seal that kept nothing.
+-- The call sealed keys of this block of 32 of the context's that are not among the marked, and each of those is sealed
+-- afterwards, and nobody had used it.
 abbrev pub SealsUnused : StoreView → ℕ → ℕ → ℕ → Lane → Lane → Type 0
-SealsUnused store context half marks before after = cells.SealsUnused (context_cells store) context half marks before after
+SealsUnused store context block marks before after = cells.SealsUnused (context_cells store) context block marks before after

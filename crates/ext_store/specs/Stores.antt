@@ -1,6 +1,6 @@
 -- What contracts see of a store, of its lanes and closers, and of kept numbers. Contracts see a lane as its lane of the
 -- cells, in the words of `CallActs` of ext_model, and as what it knows of values, faults and keys.
-use Rattle.std.specs.Prelude.{ℕ, zero, suc, ◌≡◌, ◌≢◌, ◌<◌, IsTrue, IsFalse, List, [], ◌∷◌, ◌++◌, length, Some}
+use Rattle.std.specs.Prelude.{ℕ, zero, suc, ◌≡◌, ◌≢◌, ◌<◌, ◌≤◌, IsTrue, IsFalse, List, [], ◌∷◌, ◌++◌, length, Some}
 use Rattle.ext_model.specs.declared.look.Fault.{Fault}
 use Rattle.ext_model.specs.CallActs.{MayStoreNow}
 use Rattle.ext_tree.specs.Keys as keys
@@ -11,7 +11,7 @@ use Rattle.ext_model.specs.History.{Limits}
 use Rattle.ext_store_core.specs.ContextCalls as cells
 use Rattle.ext_store_core.specs.ContextCalls.{ContextCells}
 
--- The identity of a store: its cells, and the names of the places of its values, of its kept faults and of its 64 keys,
+-- The identity of a store: its cells, and the names of the places of its values, of its kept faults and of its keys,
 -- each in the order of their numbers.
 pub record StoreId : Type 0 where
   pub cells : CellsId
@@ -99,6 +99,7 @@ abbrev pub closers_below : CellsId → ℕ → List CloserView
 closers_below cells zero = []
 closers_below cells (suc n) = closers_below cells n ++ record { cells = cells; context = n } ∷ []
 
--- The limits are in their ranges, however many cells there are.
-abbrev pub AreStoreLimits : ℕ → ℕ → ℕ → Type 0
-AreStoreLimits lanes tries numbers = AreLimits 0 lanes tries numbers
+-- The limits are in their ranges, however many contexts there are.
+pub record AreStoreLimits (keys lanes tries numbers : ℕ) : Type 0 where
+  pub keys_fit : (1 ≤ keys) × (keys ≤ 1024)
+  pub others_fit : AreLimits 0 lanes tries numbers

@@ -49,7 +49,7 @@ impl<V: StoreValue + Drop> Store<V> {
     }
 
     /// Begins a compute as `begin` does, but by the key's number, as `number` gives it. The number
-    /// must be below 64. Refused as `begin` is, except for the key.
+    /// must be below `key_count`. Refused as `begin` is, except for the key.
     #[tactic(auto, unfolding(crate::specs::LaneCalls::Frame))]
     pub fn begin_numbered(
         &self,
@@ -59,7 +59,7 @@ impl<V: StoreValue + Drop> Store<V> {
     ) -> Result<Claim, Unused>
         requires lane { IsLaneOf self.now.id lane.old }
         requires context { context < length self.now.tree }
-        requires key { key < 64 }
+        requires key { key < length self.now.id.keys }
         ensures answer { ClaimsMissing self.now context key lane.old.cells.view lane.new.cells.view result }
         ensures held { IfOk result (IsHeld lane.new.cells.view) }
         ensures no_faults { IsFalse self.now.id.cells.limits.keep_faults → IfErr result IsFaultlessUnused }
@@ -86,7 +86,7 @@ impl<V: StoreValue + Drop> Store<V> {
     ) -> Result<Claim, Unused>
         requires lane { IsLaneOf self.now.id lane.old }
         requires context { context < length self.now.tree }
-        requires key { key < 64 }
+        requires key { key < length self.now.id.keys }
         ensures answer { ClaimsMissing self.now context key lane.old.cells.view lane.new.cells.view result }
         ensures held { IfOk result (IsHeld lane.new.cells.view) }
         ensures no_faults { IsFalse self.now.id.cells.limits.keep_faults → IfErr result IsFaultlessUnused }

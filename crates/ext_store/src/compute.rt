@@ -77,7 +77,7 @@ impl<V: StoreValue + Drop> Store<V> {
     }
 
     /// Computes as `compute` does, but by the key's number, as `number` gives it. The factory is
-    /// called with the key that stands in the place of this number. The number must be below 64,
+    /// called with the key that stands in the place of this number. The number must be below `key_count`,
     /// and the lane must know its key, which `Lane::knows_key` tests. Refused as `compute` is,
     /// except for the key. Takes memory for the value.
     #[tactic(auto, unfolding(crate::specs::LaneCalls::Frame))]
@@ -90,7 +90,7 @@ impl<V: StoreValue + Drop> Store<V> {
     ) -> Compute<V, F>
         requires lane { IsLaneOf self.now.id lane.old }
         requires context { context < length self.now.tree }
-        requires key { key < 64 }
+        requires key { key < length self.now.id.keys }
         requires named { IsSome (key_at lane.old.keys key) }
         requires factory { F.IsAlwaysCallable factory }
         ensures answer { Computes self.now context key lane.old.cells lane.new.cells (without_factory result) }
@@ -117,7 +117,7 @@ impl<V: StoreValue + Drop> Store<V> {
     ) -> Compute<V, F>
         requires lane { IsLaneOf self.now.id lane.old }
         requires context { context < length self.now.tree }
-        requires key { key < 64 }
+        requires key { key < length self.now.id.keys }
         requires factory { F.IsAlwaysCallable factory }
         ensures answer { Computes self.now context key lane.old.cells lane.new.cells (without_factory result) }
         ensures factory { Uses (λ answer. FnOnceReturnsAt F.FnOnce factory name.now answer) lane.old lane.new (without_factory result) }
@@ -189,7 +189,7 @@ impl<V: StoreValue + Drop> Store<V> {
     }
 
     /// Computes as `compute_wait` does, but by the key's number, as `number` gives it. The factory
-    /// is called with the key that stands in the place of this number. The number must be below 64,
+    /// is called with the key that stands in the place of this number. The number must be below `key_count`,
     /// and the lane must know its key, which `Lane::knows_key` tests. Refused as `compute_wait` is,
     /// except for the key. Takes memory for the value. It may wait.
     #[tactic(auto, unfolding(crate::specs::LaneCalls::Frame))]
@@ -203,7 +203,7 @@ impl<V: StoreValue + Drop> Store<V> {
     ) -> Compute<V, F>
         requires lane { IsLaneOf self.now.id lane.old }
         requires context { context < length self.now.tree }
-        requires key { key < 64 }
+        requires key { key < length self.now.id.keys }
         requires named { IsSome (key_at lane.old.keys key) }
         requires factory { F.IsAlwaysCallable factory }
         ensures answer { ComputesAfterWaits self.now context key lane.old.cells lane.new.cells (without_factory result) }
@@ -231,7 +231,7 @@ impl<V: StoreValue + Drop> Store<V> {
     ) -> Compute<V, F>
         requires lane { IsLaneOf self.now.id lane.old }
         requires context { context < length self.now.tree }
-        requires key { key < 64 }
+        requires key { key < length self.now.id.keys }
         requires factory { F.IsAlwaysCallable factory }
         ensures answer { ComputesAfterWaits self.now context key lane.old.cells lane.new.cells (without_factory result) }
         ensures decided { IsDecidedCompute result }

@@ -76,7 +76,7 @@ impl<V: StoreValue + Drop> Store<V> {
         ensures frame { Frame self.now.id [] lane.old lane.new }
         ensures steps { steps_of lane.old.cells lane.new.cells ≤ 2 * self.now.id.cells.limits.numbers + self.now.tries + 3 }
     {
-        match self.keep_decided(lane, value) {
+        match self.keep_wait(lane, value) {
             Ok(kept) => {
                 lane.recall();
                 let number = kept.number;

@@ -42,7 +42,7 @@ impl<V: StoreValue + Drop> Store<V> {
     }
 
     /// Looks up a key as `get` does, but by its number, as `number` gives it. The number must be
-    /// below 64, and need not have a key yet. Refused only as `Contended`.
+    /// below `key_count`, and need not have a key yet. Refused only as `Contended`.
     #[tactic(auto, unfolding(crate::specs::LaneCalls::Frame))]
     pub fn get_numbered(
         &self,
@@ -52,7 +52,7 @@ impl<V: StoreValue + Drop> Store<V> {
     ) -> Result<Look, Refusal>
         requires lane { IsLaneOf self.now.id lane.old }
         requires context { context < length self.now.tree }
-        requires key { key < 64 }
+        requires key { key < length self.now.id.keys }
         ensures answer { Gets self.now context key lane.old.cells lane.new.cells result }
         ensures no_faults { IsFalse self.now.id.cells.limits.keep_faults → IfOk result IsFaultlessLook }
         ensures stays { Stays self.now.id [] lane.old lane.new }
@@ -92,7 +92,7 @@ impl<V: StoreValue + Drop> Store<V> {
     }
 
     /// Looks up a key as `get_wait` does, but by its number, as `number` gives it. The number must
-    /// be below 64, and need not have a key yet. Never refused. It may wait.
+    /// be below `key_count`, and need not have a key yet. Never refused. It may wait.
     #[tactic(auto, unfolding(crate::specs::LaneCalls::Frame))]
     pub fn get_wait_numbered<R: Wait>(
         &self,
@@ -103,7 +103,7 @@ impl<V: StoreValue + Drop> Store<V> {
     ) -> Look
         requires lane { IsLaneOf self.now.id lane.old }
         requires context { context < length self.now.tree }
-        requires key { key < 64 }
+        requires key { key < length self.now.id.keys }
         ensures answer { Gets self.now context key lane.old.cells lane.new.cells (Ok result) }
         ensures no_faults { IsFalse self.now.id.cells.limits.keep_faults → IsFaultlessLook result }
         ensures decided { IsDecidedLook result }

@@ -13,7 +13,6 @@ ghost use Rattle.ext_store.specs.InnerKeeping.{IsOfCount, PlacesDrawn};
 use crate::{KeepFault, Kept, Lane, Store, StoreValue};
 use ext_cells::CellRefusal;
 use ext_values::Notes;
-use std::sync::Wait;
 
 impl<V: StoreValue + Drop> Store<V> {
     /// Keeps a value under the next number, which the value has from then on. The first number is
@@ -49,41 +48,12 @@ impl<V: StoreValue + Drop> Store<V> {
         self.place_drawn(&mut lane.notes, drawn, boxed)
     }
 
-    /// Keeps a value as `keep` does, but draws again at once where other lanes were in the way. So
-    /// it is never refused as `Contended`, and otherwise as `keep` is, with the value handed back.
-    /// Takes memory for the value. It may wait, but does not sleep, since no factory is in the way
-    /// of a number.
+    /// Keeps a value as `keep` does, but draws again at once where other lanes were in the way. They
+    /// have drawn numbers then, of which there are only so many: so it is never refused as
+    /// `Contended`, and waits for nobody. It is otherwise refused as `keep` is, with the value
+    /// handed back. Takes memory for the value.
     #[tactic(auto, unfolding(crate::specs::LaneCalls::KeepFails, crate::specs::LaneCalls::Frame))]
-    pub fn keep_wait<R: Wait>(
-        &self,
-        rt: &R,
-        lane: &mut Lane<V>,
-        value: V,
-    ) -> Result<Kept, (V, KeepFault)>
-        requires lane { IsLaneOf self.now.id lane.old }
-        ensures answer { MatchResult result (KeepsAs value lane.old lane.new) (λ e. KeepsNothing self.now value lane.old lane.new e.0 e.1) }
-        ensures decided { IfErr result (λ e. IsDecidedFault e.1) }
-        ensures lane { IsLaneOf self.now.id lane.new }
-        ensures known { KeepsKnown lane.old.known lane.new.known }
-        ensures faults { lane.new.faults ≡ lane.old.faults }
-        ensures keys { lane.new.keys ≡ lane.old.keys }
-        ensures kept { StillKeeps lane.old lane.new }
-        ensures apart { IfOk result (λ number. (m : ℕ) → IsKeptBy lane.old m → m ≢ number) }
-        ensures frame { Frame self.now.id [] lane.old lane.new }
-    {
-        self.recall();
-        let boxed = match Box::new(self.alloc, value) {
-            Ok(boxed) => boxed,
-            Err(refused) => return Err((refused.value, KeepFault::Memory)),
-        };
-        let drawn = self.shared.keep_wait(rt.forever(), &mut lane.cells);
-        lane.cells.recall();
-        self.place_drawn(&mut lane.notes, drawn, boxed)
-    }
-
-    // The same without the runtime, for a call that has a claim in hand.
-    #[tactic(auto, unfolding(crate::specs::LaneCalls::KeepFails, crate::specs::LaneCalls::Frame))]
-    pub(crate) fn keep_decided(&self, lane: &mut Lane<V>, value: V) -> Result<Kept, (V, KeepFault)>
+    pub fn keep_wait(&self, lane: &mut Lane<V>, value: V) -> Result<Kept, (V, KeepFault)>
         requires lane { IsLaneOf self.now.id lane.old }
         ensures answer { MatchResult result (KeepsAs value lane.old lane.new) (λ e. KeepsNothing self.now value lane.old lane.new e.0 e.1) }
         ensures decided { IfErr result (λ e. IsDecidedFault e.1) }
@@ -101,7 +71,7 @@ impl<V: StoreValue + Drop> Store<V> {
             Ok(boxed) => boxed,
             Err(refused) => return Err((refused.value, KeepFault::Memory)),
         };
-        let drawn = self.shared.keep_decided(&mut lane.cells);
+        let drawn = self.shared.keep_wait(&mut lane.cells);
         lane.cells.recall();
         self.place_drawn(&mut lane.notes, drawn, boxed)
     }

@@ -64,7 +64,7 @@ impl<V: StoreValue + Drop> Store<V> {
             Ok(boxed) => boxed,
             Err(failed) => return Err((failed.value, KeepFault::Memory)),
         };
-        let drawn = self.shared.keep_decided(&mut lane.cells);
+        let drawn = self.shared.keep_wait(&mut lane.cells);
         lane.cells.recall();
         self.place_drawn_fault(&mut lane.faults, drawn, boxed)
     }

@@ -43,7 +43,7 @@ impl<V> Lane<V> {
     }
 
     /// Whether this lane knows the key of this number: whether it named it, was shown it or was
-    /// told it. False for a number from 64 on.
+    /// told it. False for a number past the last place.
     pub fn knows_key(&self, number: KeyNo) -> bool
         ensures { result ≡ is_some (key_at self.now.keys number) }
     {

@@ -1,4 +1,5 @@
 //! The limits of a store, and why it is not opened.
+use ext_model::KeyNo;
 use thiserror::Error;
 
 /// The limits that a store is opened with.
@@ -9,6 +10,9 @@ pub struct Limits {
     /// The most exchanges of a change, and the most passes of a look-up after its first, before the
     /// answer is `Contended`: 1 to 64.
     pub tries: u32,
+    /// How many keys can have a number: 1 to 1,024, rounded up to a multiple of 32. Each context
+    /// takes 8.25 bytes for each of them, and each lane five.
+    pub keys: KeyNo,
     /// How many values and faults can be kept while the store lives: 1 to 65,535.
     pub numbers: u32,
     /// Whether the fault of a factory that fails is kept, under a number of its own, until it is
@@ -20,7 +24,7 @@ pub struct Limits {
 /// Why a store is not opened.
 #[derive(Clone, Copy, Debug, PartialEq, Eq, Error)]
 pub enum StoreFault {
-    /// The count of lanes, of tries or of numbers is out of its range.
+    /// The count of lanes, of tries, of keys or of numbers is out of its range.
     #[error("a limit is out of its range")]
     BadLimit,
     /// An allocation failed.

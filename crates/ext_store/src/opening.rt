@@ -1,12 +1,11 @@
 //! The parts of a store that is opened: its cells and values, its lanes and its closers.
-ghost use Rattle.std.specs.Prelude.{◌≡◌, ◌≤◌, IfOk, MatchResult, map};
-ghost use Rattle.ext_cells.specs.Lanes.{AreLimits};
-ghost use Rattle.ext_store.specs.Stores.{closers_below, fresh_store_lane};
-ghost use Rattle.ext_store.specs.Opening.{AreOpened, AreParts, IsNotOpened, fault_count};
+ghost use Rattle.std.specs.Prelude.{◌≡◌, ◌≤◌, ◌↔◌, IfOk, IsTrue, MatchResult, map};
+ghost use Rattle.ext_store.specs.Stores.{AreStoreLimits, closers_below, fresh_store_lane};
+ghost use Rattle.ext_store.specs.Opening.{AreOpened, AreParts, IsNotOpened, fault_count, places_for};
 
 use crate::{Closer, Lane, Limits, StoreFault};
 use ext_cells::{CellLane, Cells, are_limits};
-use ext_model::{ContextNo, Fault};
+use ext_model::{ContextNo, Fault, KeyNo};
 use ext_tree::KeyPlaces;
 use ext_values::{Notes, SilentNotes, Values};
 use std::alloc::{AllocError, Global};
@@ -19,12 +18,26 @@ fn fault_capacity(numbers: u32, keep_faults: bool) -> u32
     if keep_faults { numbers } else { 0 }
 }
 
-// The parts of a store with `count` cells: the cells, the places of values, of kept faults and of
+// How many places for keys there are: for so many keys, in whole blocks of 32.
+fn places_for(keys: KeyNo) -> usize
+    requires { keys ≤ 1024 }
+    ensures { result ≡ places_for keys }
+{
+    (keys + 31) / 32 * 32
+}
+
+// Whether a store may be opened with these limits.
+fn are_store_limits(limits: &Limits) -> bool
+    ensures { IsTrue result ↔ AreStoreLimits limits.now.keys limits.now.lanes limits.now.tries limits.now.numbers }
+{
+    (1..=1024).contains(&limits.keys) && are_limits(0, limits.lanes, limits.tries, limits.numbers)
+}
+
+// The parts of a store with so many contexts: the cells, the places of values, of kept faults and of
 // keys, a lane for each lane of the limits, and a closer for each of the contexts. Or why it is not
 // opened.
 pub(crate) fn open_parts<V: Drop>(
     alloc: Global,
-    count: usize,
     contexts: ContextNo,
     limits: Limits,
 ) -> Result<
@@ -38,15 +51,15 @@ pub(crate) fn open_parts<V: Drop>(
     ),
     StoreFault,
 >
-    requires { count ≤ 16384 }
+    requires { contexts ≤ 256 }
     ensures { MatchResult result
-        (λ r. AreOpened count contexts limits.lanes limits.tries limits.numbers limits.keep_faults r.0 r.1 r.2 r.3 r.4.items r.5.items)
-        (IsNotOpened count limits.lanes limits.tries limits.numbers) }
+        (λ r. AreOpened contexts limits.keys limits.lanes limits.tries limits.numbers limits.keep_faults r.0 r.1 r.2 r.3 r.4.items r.5.items)
+        (IsNotOpened limits.keys limits.lanes limits.tries limits.numbers) }
 {
-    if !are_limits(count, limits.lanes, limits.tries, limits.numbers) {
+    if !are_store_limits(&limits) {
         return Err(StoreFault::BadLimit);
     }
-    match parts_of(alloc, count, contexts, limits) {
+    match parts_of(alloc, contexts, limits) {
         Ok(parts) => Ok(parts),
         Err(_) => Err(StoreFault::Memory),
     }
@@ -55,7 +68,6 @@ pub(crate) fn open_parts<V: Drop>(
 // The same for limits that are within their ranges.
 fn parts_of<V: Drop>(
     alloc: Global,
-    count: usize,
     contexts: ContextNo,
     limits: Limits,
 ) -> Result<
@@ -69,15 +81,19 @@ fn parts_of<V: Drop>(
     ),
     AllocError,
 >
-    requires { AreLimits count limits.lanes limits.tries limits.numbers }
-    ensures { IfOk result (λ r. AreParts count contexts limits.lanes limits.tries limits.numbers limits.keep_faults r.0 r.1 r.2 r.3 r.4.items r.5.items) }
+    requires contexts { contexts ≤ 256 }
+    requires limits { AreStoreLimits limits.keys limits.lanes limits.tries limits.numbers }
+    ensures { IfOk result (λ r. AreParts contexts limits.keys limits.lanes limits.tries limits.numbers limits.keep_faults r.0 r.1 r.2 r.3 r.4.items r.5.items) }
 {
     let Limits {
         lanes,
         tries,
+        keys,
         numbers,
         keep_faults,
     } = limits;
+    let places = places_for(keys);
+    let count = contexts * places;
     let Ok((cells, cell_lanes)) = Cells::open_for(alloc, count, lanes, tries, numbers, keep_faults)
     else {
         return Err(AllocError);
@@ -88,7 +104,7 @@ fn parts_of<V: Drop>(
     let Ok(faults) = Values::new(alloc, fault_capacity(numbers, keep_faults)) else {
         return Err(AllocError);
     };
-    let Ok(keys) = KeyPlaces::new(alloc) else {
+    let Ok(keys) = KeyPlaces::new(alloc, places) else {
         return Err(AllocError);
     };
     let lanes = lanes_of(alloc, &values, &faults, &keys, cell_lanes)?;
@@ -115,11 +131,14 @@ fn lanes_of<V: Drop>(
         let Ok(faults) = SilentNotes::new(alloc, faults) else {
             return Err(AllocError);
         };
+        let Ok(keys) = keys.notes() else {
+            return Err(AllocError);
+        };
         lanes.push(Lane {
             cells,
             notes,
             faults,
-            keys: keys.notes(),
+            keys,
         })?;
     }
     Ok(lanes)

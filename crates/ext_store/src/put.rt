@@ -50,7 +50,7 @@ impl<V: StoreValue + Drop> Store<V> {
     }
 
     /// Stores the kept number as `put` does, but by the key's number, as `number` gives it. The
-    /// number must be below 64, and need not have a key yet. Refused as `put` is, except for the
+    /// number must be below `key_count`, and need not have a key yet. Refused as `put` is, except for the
     /// key.
     #[tactic(auto, unfolding(crate::specs::LaneCalls::Frame))]
     pub fn put_numbered(
@@ -62,7 +62,7 @@ impl<V: StoreValue + Drop> Store<V> {
     ) -> Result<Option<u32>, (Kept, Refusal)>
         requires lane { IsLaneOf self.now.id lane.old }
         requires context { context < length self.now.tree }
-        requires key { key < 64 }
+        requires key { key < length self.now.id.keys }
         requires kept { IsKeptBy lane.old kept }
         ensures answer { Puts self.now context key kept lane.old.cells lane.new.cells result }
         ensures contended { ComesLast (kept, Refusal.Contended) self.now.tries lane.old.cells lane.new.cells (act_is.Put (cell_in self.now key context) kept) result }
@@ -109,7 +109,7 @@ impl<V: StoreValue + Drop> Store<V> {
     }
 
     /// Stores the kept number as `put_wait` does, but by the key's number, as `number` gives it.
-    /// The number must be below 64, and need not have a key yet. Refused as `put_wait` is, except
+    /// The number must be below `key_count`, and need not have a key yet. Refused as `put_wait` is, except
     /// for the key. It may wait.
     #[tactic(auto, unfolding(crate::specs::LaneCalls::Frame))]
     pub fn put_wait_numbered<R: Wait>(
@@ -122,7 +122,7 @@ impl<V: StoreValue + Drop> Store<V> {
     ) -> Result<Option<u32>, (Kept, Refusal)>
         requires lane { IsLaneOf self.now.id lane.old }
         requires context { context < length self.now.tree }
-        requires key { key < 64 }
+        requires key { key < length self.now.id.keys }
         requires kept { IsKeptBy lane.old kept }
         ensures answer { Puts self.now context key kept lane.old.cells lane.new.cells result }
         ensures decided { IfErr result (λ e. IsDecided e.1) }

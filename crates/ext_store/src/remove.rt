@@ -46,7 +46,7 @@ impl<V: StoreValue + Drop> Store<V> {
     }
 
     /// Takes what stands under the key as `remove` does, but by the key's number, as `number` gives
-    /// it. The number must be below 64, and need not have a key yet. Refused as `remove` is, except
+    /// it. The number must be below `key_count`, and need not have a key yet. Refused as `remove` is, except
     /// for the key.
     #[tactic(auto, unfolding(crate::specs::LaneCalls::Frame))]
     pub fn remove_numbered(
@@ -57,7 +57,7 @@ impl<V: StoreValue + Drop> Store<V> {
     ) -> Result<Option<u32>, Refusal>
         requires lane { IsLaneOf self.now.id lane.old }
         requires context { context < length self.now.tree }
-        requires key { key < 64 }
+        requires key { key < length self.now.id.keys }
         ensures answer { Removes self.now context key lane.old.cells lane.new.cells result }
         ensures contended { ComesLast Refusal.Contended self.now.tries lane.old.cells lane.new.cells (act_is.Remove (cell_in self.now key context)) result }
         ensures stays { Stays self.now.id [] lane.old lane.new }
@@ -97,7 +97,7 @@ impl<V: StoreValue + Drop> Store<V> {
     }
 
     /// Takes what stands under the key as `remove_wait` does, but by the key's number, as `number`
-    /// gives it. The number must be below 64, and need not have a key yet. Refused as `remove_wait`
+    /// gives it. The number must be below `key_count`, and need not have a key yet. Refused as `remove_wait`
     /// is, except for the key. It may wait.
     #[tactic(auto, unfolding(crate::specs::LaneCalls::Frame))]
     pub fn remove_wait_numbered<R: Wait>(
@@ -109,7 +109,7 @@ impl<V: StoreValue + Drop> Store<V> {
     ) -> Result<Option<u32>, Refusal>
         requires lane { IsLaneOf self.now.id lane.old }
         requires context { context < length self.now.tree }
-        requires key { key < 64 }
+        requires key { key < length self.now.id.keys }
         ensures answer { Removes self.now context key lane.old.cells lane.new.cells result }
         ensures decided { IfErr result IsDecided }
         ensures stays { Stays self.now.id [] lane.old lane.new }

@@ -1,5 +1,5 @@
 //! What a close needs of the store: seals, and what a lane knows.
-ghost use Rattle.std.specs.Prelude.{◌≡◌, ◌+◌, ◌<◌, ◌≤◌, [], length, is_some};
+ghost use Rattle.std.specs.Prelude.{◌≡◌, ◌+◌, ◌*◌, ◌<◌, ◌≤◌, [], length, is_some};
 ghost use Rattle.ext_model.specs.declared.event.Act.TheVariants as act_is;
 ghost use Rattle.ext_values.specs.Known.{known_at};
 ghost use Rattle.ext_cells.specs.CellCalls.{ComesLast};
@@ -37,21 +37,22 @@ impl<V> Store<V> {
         self.shared.seal(&mut lane.cells, closer.context, key)
     }
 
-    /// Seals, at one step, the keys of half of the closer's context under which there was no event
-    /// yet: keys 0 to 31 are half 0, the others half 1. Answers which of the others may hold
-    /// something, the first of the half in bit 0. Their seals are left to `seal`. Never refused.
+    /// Seals, at one step, the keys of a block of the closer's context under which there was no
+    /// event yet: keys 0 to 31 are block 0, the next 32 block 1, and so on. Answers which of the
+    /// others may hold something, the first of the block in bit 0. Their seals are left to `seal`.
+    /// Never refused.
     #[tactic(auto, unfolding(crate::specs::LaneCalls::Frame))]
-    pub fn seal_unused(&self, lane: &mut Lane<V>, closer: &Closer, half: usize) -> u32
+    pub fn seal_unused(&self, lane: &mut Lane<V>, closer: &Closer, block: usize) -> u32
         requires lane { IsLaneOf self.now.id lane.old }
         requires closer { IsCloserOf self.now closer.now }
-        requires half { half < 2 }
-        ensures answer { SealsUnused self.now closer.now.context half result lane.old.cells lane.new.cells }
+        requires block { block * 32 < length self.now.id.keys }
+        ensures answer { SealsUnused self.now closer.now.context block result lane.old.cells lane.new.cells }
         ensures stays { Stays self.now.id [] lane.old lane.new }
         ensures keys { lane.new.keys ≡ lane.old.keys }
         ensures steps { steps_of lane.old.cells lane.new.cells ≡ 1 }
     {
         self.shared
-            .seal_unused(&mut lane.cells, closer.context, half)
+            .seal_unused(&mut lane.cells, closer.context, block)
     }
 
     /// Whether the lane knows the number's value: whether it kept the value or was shown it. False

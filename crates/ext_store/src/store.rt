@@ -6,9 +6,10 @@ ghost use Rattle.ext_history.specs.Histories.{seen_by};
 ghost use Rattle.ext_tree.specs.Keys.{IsKeyNumber, KeepsKeys, OneKey, OneNumber, PlacesNone, PlacesOnly};
 ghost use Rattle.ext_values.specs.Known.{AllAgree};
 ghost use Rattle.ext_cells.specs.Lanes.{fresh_lanes};
+ghost use Rattle.ext_store_core.specs.ContextCalls.{AreBlocks};
 ghost use Rattle.ext_store.specs.declared.limits.StoreFault.TheVariants as store_fault;
 ghost use Rattle.ext_store.specs.Stores.{AreStoreLimits, IsCloserOf, IsLaneOf, StillKeeps, closers_below, fresh_store_lane};
-ghost use Rattle.ext_store.specs.Opening.{fault_count};
+ghost use Rattle.ext_store.specs.Opening.{fault_count, places_for};
 ghost use Rattle.ext_store.specs.LaneCalls.{Frame, IsKeyRefused, key_refusal, Stays};
 ghost use Rattle.ext_store.specs.declared.computed.Compute.TheVariants.{Refused};
 
@@ -28,7 +29,7 @@ use std::marker::Model;
 /// found from there and from all contexts below. A lane and a closer are used with the store that
 /// gave them out. A refused call changes nothing unless it says so.
 ///
-/// A key has one of 64 numbers from the first call on that names it, for as long as the store
+/// A key has one of so many numbers from the first call on that names it, for as long as the store
 /// lives. A look-up gives it one too, and so does a call that is then refused for another reason
 /// than the key.
 ///
@@ -60,14 +61,14 @@ impl<V> Store<V> {
         self.shared.tree()
     }
 
-    /// How many keys can have a number: 64. Each context has a cell for each of these numbers,
-    /// whether a key has it or not.
+    /// How many keys can have a number: those of `Limits::keys`, rounded up to a multiple of 32.
+    /// Each context has a cell for each of these numbers, whether a key has it or not.
     pub fn key_count(&self) -> KeyNo
         ensures count { result ≡ length self.now.id.keys }
-        ensures all { result ≡ 64 }
+        ensures blocks { AreBlocks self.now.id.keys }
     {
         self.shared.recall();
-        64
+        self.shared.keys().len()
     }
 
     /// Whether the store keeps the faults of factories that fail.
@@ -105,8 +106,8 @@ impl<V: StoreValue + Drop> Store<V> {
     /// them. Nobody but these lanes makes an event: where none of them has made one, the history is
     /// empty (`no_lane` of `history_laws` in ext_model).
     ///
-    /// Refused, in this order, as `BadLimit` unless there are 1 to 16 lanes, 1 to 64 tries and 1 to
-    /// 65,535 numbers, and as `Memory`. A refused call drops the tree.
+    /// Refused, in this order, as `BadLimit` unless there are 1 to 16 lanes, 1 to 64 tries, 1 to
+    /// 1,024 keys and 1 to 65,535 numbers, and as `Memory`. A refused call drops the tree.
     pub fn open(
         alloc: Global,
         tree: Tree,
@@ -114,8 +115,8 @@ impl<V: StoreValue + Drop> Store<V> {
     ) -> Result<(Store<V>, Vec<Lane<V>>, Vec<Closer>), StoreFault>
         // The store is of these contexts and limits.
         ensures tree { IfOk result (λ r. r.0.tree ≡ tree) }
-        ensures limits { IfOk result (λ r. r.0.id.cells.limits ≡ record { cells = length tree * 64; lanes = limits.lanes; numbers = limits.numbers; keep_faults = limits.keep_faults }) }
-        ensures keys { IfOk result (λ r. length r.0.id.keys ≡ 64) }
+        ensures limits { IfOk result (λ r. r.0.id.cells.limits ≡ record { cells = length tree * places_for limits.keys; lanes = limits.lanes; numbers = limits.numbers; keep_faults = limits.keep_faults }) }
+        ensures keys { IfOk result (λ r. length r.0.id.keys ≡ places_for limits.keys) }
         ensures places { IfOk result (λ r. length r.0.id.places ≡ limits.numbers) }
         ensures fault_places { IfOk result (λ r. length r.0.id.fault_places ≡ fault_count limits.keep_faults limits.numbers) }
         ensures tries { IfOk result (λ r. r.0.tries ≡ limits.tries) }
@@ -127,14 +128,11 @@ impl<V: StoreValue + Drop> Store<V> {
         ensures own_closers { IfOk result (λ r. All (IsCloserOf r.0) r.2.items) }
 
         // When it is refused.
-        ensures within { IfOk result (λ _. AreStoreLimits limits.lanes limits.tries limits.numbers) }
-        ensures bad_limit { (result ≡ Err store_fault.BadLimit) ↔ (¬ AreStoreLimits limits.lanes limits.tries limits.numbers) }
+        ensures within { IfOk result (λ _. AreStoreLimits limits.keys limits.lanes limits.tries limits.numbers) }
+        ensures bad_limit { (result ≡ Err store_fault.BadLimit) ↔ (¬ AreStoreLimits limits.keys limits.lanes limits.tries limits.numbers) }
     {
         let contexts = tree.len();
-        let count = contexts * 64;
-        let (cells, values, faults, keys, lanes, closers) = open_parts(
-            alloc, count, contexts, limits,
-        )?;
+        let (cells, values, faults, keys, lanes, closers) = open_parts(alloc, contexts, limits)?;
         let shared = StoreCore::new(tree, keys, cells);
         let store = Store {
             shared,
@@ -145,20 +143,20 @@ impl<V: StoreValue + Drop> Store<V> {
         Ok((store, lanes, closers))
     }
 
-    /// Answers the key's number, 0 to 63, which the key has from then on, the same in all lanes, as
+    /// Answers the key's number, from 0, which the key has from then on, the same in all lanes, as
     /// `meet` shows. It is the first place that holds the key. A key that the lane knows is found
     /// by its stored hash, takes no memory and is never refused. For any other key it takes memory
     /// for a copy at each place that it finds free. It makes no step on the cells.
     ///
     /// Refused as `Memory` where there is none for the copy, at the first place that is not known
-    /// to hold a key, and as `DirectoryFull` where all 64 places are known to hold other keys.
+    /// to hold a key, and as `DirectoryFull` where all places are known to hold other keys.
     /// `Unplaced` does not come. A refused call placed no key, though the lane may know further
     /// keys then. JUnit 5 keeps values in maps, under the keys themselves.
     #[tactic(auto, unfolding(crate::specs::LaneCalls::Frame))]
     pub fn number(&self, lane: &mut Lane<V>, key: &Key) -> Result<KeyNo, Refusal>
         requires lane { IsLaneOf self.now.id lane.old }
         ensures number { IfOk result (IsKeyNumber lane.new.keys key.now) }
-        ensures within { IfOk result (λ number. number < 64) }
+        ensures within { IfOk result (λ number. number < length self.now.id.keys) }
         ensures again { (number : ℕ) → IsKeyNumber lane.old.keys key.now number → result ≡ Ok number }
         ensures refused { IfErr result (IsKeyRefused lane.old lane.new key.now) }
         ensures still { lane.new.cells ≡ lane.old.cells }

@@ -10,5 +10,5 @@ pub mod Missing
 pub mod Claimed
 pub mod Waited
 pub mod Rises
-pub mod Halves
+pub mod Blocks
 pub mod DrawnAgain

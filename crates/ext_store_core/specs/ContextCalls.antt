@@ -1,10 +1,10 @@
 -- What contracts see of the cells of a store, and what each call by the numbers of a context and a key promises of its
 -- result. The calls are `get`, `put` and `remove` of Javadoc `ExtensionContext.Store`. Numbers, refusals, points and
 -- seals are not from JUnit. `CallActs` of ext_model has the words for events, fronts and points.
-use Rattle.std.specs.Prelude.{ℕ, ◌≡◌, ◌+◌, ◌*◌, ◌≤◌, List, [], length, map, ◌∷◌, nat_eq, Contains, Option, None, Some, Result, Ok, Err}
+use Rattle.std.specs.Prelude.{ℕ, ◌≡◌, ◌+◌, ◌*◌, ◌%◌, ◌≤◌, List, [], length, map, ◌∷◌, nat_eq, Contains, Option, None, Some, Result, Ok, Err}
 use Rattle.std.specs.List.{IsDistinct}
-use Rattle.ext_model.specs.declared.slot.Slot.TheVariants as slot
-use Rattle.ext_model.specs.History.{Limits, History, reply_after, state_after}
+use Rattle.ext_model.specs.Closing.{IsSealedUnused}
+use Rattle.ext_model.specs.History.{Limits, History, reply_after}
 use Rattle.ext_tree.specs.Trees.{Id, IsPathOf}
 use Rattle.ext_cells.specs.Lanes.{CellsId, Lane}
 use Rattle.ext_cells.specs.CellCalls.{IsOvertakenOn, IsUnmarked}
@@ -19,7 +19,7 @@ use Rattle.ext_model.specs.CallActs as model
 use Rattle.ext_store_core.specs.declared.fault.Refusal.{Refusal}
 use Rattle.ext_store_core.specs.declared.fault.Refusal.TheVariants.{Contended, Busy, Closed, Exhausted, DirectoryFull, Unplaced, Memory}
 
--- A store without its values: its cells, the names of the places of its 64 keys in the order of their numbers, the ids
+-- A store without its values: its cells, the names of the places of its keys in the order of their numbers, the ids
 -- of its contexts, and how many exchanges a call makes at most.
 pub record ContextCells : Type 0 where
   pub cells : CellsId
@@ -27,10 +27,16 @@ pub record ContextCells : Type 0 where
   pub tree : List Id
   pub tries : ℕ
 
--- There is a cell for each context and each of the 64 places of keys, and the numbers fit the bits of a cell.
+-- The places of keys are 32 to 1,024, in blocks of 32.
+pub record AreBlocks (keys : List ℕ) : Type 0 where
+  pub whole : length keys % 32 ≡ 0
+  pub some : 32 ≤ length keys
+  pub few : length keys ≤ 1024
+
+-- There is a cell for each context and each place of a key, and the numbers fit the bits of a cell.
 pub record IsWell (tree : List Id) (keys : List ℕ) (limits : Limits) : Type 0 where
   pub cells : limits.cells ≡ length tree * length keys
-  pub key_places : length keys ≡ 64
+  pub key_places : AreBlocks keys
   pub few : limits.numbers ≤ 65535
 
 -- The cell of a context and a place of a key, by their numbers.
@@ -153,11 +159,11 @@ SealsKey store context key before after (Err why) = SealFails store context key 
 abbrev pub seals_of : ContextCells → ℕ → List ℕ → List (Act ℕ)
 seals_of store context keys = map (λ key. Seal (cell_in store key context)) keys
 
--- The call sealed keys of this half of the context's 64, each once, and did nothing else. None of them is among the
--- marked, and afterwards each key of the half that is not marked is sealed, by a seal that kept nothing.
-pub record SealsUnused (store : ContextCells) (context half marks : ℕ) (before after : Lane) : Type 0 where
+-- The call sealed keys of this block of the context's, each once, and did nothing else. None of them is among the
+-- marked, and afterwards each key of the block that is not marked is sealed, and nobody had used it.
+pub record SealsUnused (store : ContextCells) (context block marks : ℕ) (before after : Lane) : Type 0 where
   pub sealed : List ℕ
   pub once : IsDistinct nat_eq sealed
   pub calls : model.Calls before.cells.limits before.view after.view (seals_of store context sealed)
-  pub unmarked : (key : ℕ) → Contains sealed key → IsUnmarked half marks key
-  pub kept_nothing : (key : ℕ) → IsUnmarked half marks key → (state_after (seen_by after.view)).slots (cell_in store key context) ≡ Some (slot.Sealed None)
+  pub unmarked : (key : ℕ) → Contains sealed key → IsUnmarked block marks key
+  pub unused : (key : ℕ) → IsUnmarked block marks key → IsSealedUnused (seen_by after.view) (cell_in store key context)

@@ -97,8 +97,9 @@ impl StoreCore {
 
     /// Draws the next number as `keep` does, and again at once where other lanes were in the way.
     /// They have drawn numbers then, of which there are only so many: so it is never refused as
-    /// `Contended`, and it returns. Refused as `NumbersFull` where all numbers were drawn.
-    pub fn keep_decided(&self, lane: &mut CellLane) -> Result<u32, CellRefusal>
+    /// `Contended`, and returns without waiting for anyone. Refused as `NumbersFull` where all
+    /// numbers were drawn.
+    pub fn keep_wait(&self, lane: &mut CellLane) -> Result<u32, CellRefusal>
         requires lane { lane.old.cells ≡ self.now.cells }
         ensures lane { lane.new.cells ≡ lane.old.cells }
         ensures reply { cells.Answers self.now.tries lane.old lane.new cells.number_acts (cells.number_reply lane.old) result }
@@ -146,19 +147,21 @@ impl StoreCore {
         }
     }
 
-    /// Seals, at one step, the keys of half of the context under which there was no event yet: keys
-    /// 0 to 31 are half 0, the others half 1. Answers which of the others may hold something, the
-    /// first of the half in bit 0. Their seals are left to `seal`. Never refused.
-    pub fn seal_unused(&self, lane: &mut CellLane, context: ContextNo, half: usize) -> u32
+    /// Seals, at one step, the keys of a block of the context under which there was no event yet:
+    /// keys 0 to 31 are block 0, the next 32 block 1, and so on. Answers which of the others may
+    /// hold something, the first of the block in bit 0. Their seals are left to `seal`. Never
+    /// refused.
+    pub fn seal_unused(&self, lane: &mut CellLane, context: ContextNo, block: usize) -> u32
         requires lane { lane.old.cells ≡ self.now.cells }
         requires context { context < length self.now.tree }
-        requires half { half < 2 }
+        requires block { block * 32 < length self.now.keys }
         ensures lane { lane.new.cells ≡ lane.old.cells }
-        ensures answer { SealsUnused self.now context half result lane.old lane.new }
+        ensures answer { SealsUnused self.now context block result lane.old lane.new }
         ensures steps { steps_of lane.old lane.new ≡ 1 }
     {
         self.recall();
         let _contexts = self.tree.len();
-        self.cells.end_half(lane, context * 2 + half)
+        let blocks = self.blocks();
+        self.cells.end_block(lane, context * blocks + block)
     }
 }

@@ -47,7 +47,8 @@ impl StoreCore {
         ensures steps { steps_of lane.old lane.new ≤ length path.now * (self.now.tries + 1) }
     {
         self.recall();
-        match self.cells.nearest(lane, path, key) {
+        let blocks = self.blocks();
+        match self.cells.nearest(lane, path, blocks, key) {
             Ok(Some(nearest)) => Ok(found_at(path[nearest.place], nearest.standing)),
             Ok(None) => Ok(Look::Absent),
             Err(CellRefusal::Contended) => Err(Refusal::Contended),

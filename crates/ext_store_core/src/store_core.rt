@@ -3,7 +3,7 @@ ghost use Rattle.std.specs.Prelude.{◌≡◌, ◌*◌, ◌<◌, ◌≤◌, [], 
 ghost use mathlib.Core.List.{IsPrefix};
 ghost use Rattle.ext_history.specs.Histories.{seen_by};
 ghost use Rattle.ext_model.specs.CallActs.{Calls};
-ghost use Rattle.ext_store_core.specs.ContextCalls.{IsWell, cell_in};
+ghost use Rattle.ext_store_core.specs.ContextCalls.{AreBlocks, IsWell, cell_in};
 
 use ext_cells::{CellLane, Cells};
 use ext_model::{CellNo, ContextNo, KeyNo};
@@ -78,11 +78,11 @@ impl StoreCore {
     }
 
     /// Tells a proof what holds of everything that lanes share. There is a cell for each context
-    /// and place of a key, there are 64 such places, at most 65,535 numbers, and at least one try.
-    /// It does nothing when it runs.
+    /// and place of a key, there are 32 to 1,024 such places, in blocks of 32, at most 65,535
+    /// numbers, and at least one try. It does nothing when it runs.
     pub fn recall(&self)
         ensures cells { self.now.cells.limits.cells ≡ length self.now.tree * length self.now.keys }
-        ensures keys { length self.now.keys ≡ 64 }
+        ensures keys { AreBlocks self.now.keys }
         ensures few { self.now.cells.limits.numbers ≤ 65535 }
         ensures tries { 1 ≤ self.now.tries }
     {
@@ -101,6 +101,15 @@ impl StoreCore {
         ensures met { IsPrefix (seen_by first.new.view) (seen_by second.new.view) }
     {
         self.cells.meet(first, second);
+    }
+
+    // How many blocks of 32 the places of keys are.
+    pub(crate) fn blocks(&self) -> usize
+        ensures places { length self.now.keys ≡ result * 32 }
+        ensures some { 1 ≤ result }
+    {
+        self.recall();
+        self.keys.len() / 32
     }
 
     // The cell of the key in the context.

@@ -150,32 +150,6 @@ impl StoreCore {
         unreachable!()
     }
 
-    /// Draws the next number, however often other lanes are in the way. Refused as `NumbersFull`
-    /// where all numbers were drawn. It gets endless rounds and no runtime, so it does not sleep,
-    /// but may go on for ever.
-    pub fn keep_wait<R: Wait>(
-        &self,
-        rounds: Forever<'_, R>,
-        lane: &mut CellLane,
-    ) -> Result<u32, CellRefusal>
-        requires lane { lane.old.cells ≡ self.now.cells }
-        ensures lane { lane.new.cells ≡ lane.old.cells }
-        ensures reply { cells.Answers self.now.tries lane.old lane.new cells.number_acts (cells.number_reply lane.old) result }
-        ensures storable { IfOk result (MayStoreNow lane.new.view) }
-        ensures decided { result ≢ Err cell_refusal.Contended }
-    {
-        for _ in rounds {
-            let why = match self.cells.next_number(lane) {
-                Ok(number) => return Ok(number),
-                Err(why) => why,
-            };
-            if why != CellRefusal::Contended {
-                return Err(why);
-            }
-        }
-        unreachable!()
-    }
-
     /// Claims the cell as `claim` does, and tries again until neither a running factory nor other
     /// lanes are in the way. While a running factory decides a look-up or the claim, it sleeps
     /// until a claim has ended. So it is never refused as `Busy` or `Contended`, and otherwise as

@@ -1,11 +1,12 @@
 -- What is known of places for keys after one entry was written, and what that means for the numbers of keys.
-use Rattle.std.proofs.Common.{ℕ, zero, suc, true, false, ◌≡◌, ◌≢◌, ◌<◌, ◌≤◌, ◌+◌, ◌-◌, ◌⊎◌, inl, inr, ◌∙◌, List, [], ◌∷◌, ◌++◌, take, Option, Some, None, Result, Ok, Err, IfOk, IfErr, IsSome, map, length, get_or, set, sym, ap, subst, refl, arith, below_more}
+use Rattle.std.proofs.Common.{ℕ, zero, suc, true, false, ◌≡◌, ◌≢◌, ◌<◌, ◌≤◌, ◌+◌, ◌-◌, ◌⊎◌, inl, inr, ◌∙◌, List, [], ◌∷◌, ◌++◌, take, drop, Option, Some, None, Result, Ok, Err, IfOk, IfErr, IsSome, map, length, get_or, set, sym, ap, subst, refl, arith, below_more}
 use Rattle.std.proofs.Math.ListN.{get_or-map}
 use Rattle.std.proofs.Math.Seq.{map-set_same}
 use Rattle.std.proofs.lemmas.Bool.{cases_eq, cases_order}
-use Rattle.std.proofs.lemmas.List.{get_or-set_same, get_or-set_other, get_or_default, length-map, take_all, take_more_set, map_more}
-use Rattle.std.proofs.lemmas.List.Elements.{All-set, All-weaker}
-use Rattle.ext_tree.specs.Keys.{KeyValue, KnownPlace, HoldsOther, PassedBefore, IsKeyNumber, IsNext, IsKeyFault, KeepsKeys, PlacesOnly, OneKey, OneNumber, AreHints, IsHint, Tells, key_at, placed_at, no_key_known, key_places_of, unknown_place}
+use Rattle.std.proofs.lemmas.List.{get_or-set_same, get_or-set_other, get_or_default, length-map, take_all, take_at, map_more}
+use Rattle.std.proofs.lemmas.List.Elements.{All-weaker}
+use Rattle.ext_tree.specs.Keys.{KeyValue, KnownPlace, HoldsOther, PassedBefore, IsKeyNumber, IsNext, IsKeyFault, KeepsKeys, PlacesOnly, OneKey, OneNumber, Tells, key_at, placed_at, no_key_known, key_places_of, unknown_place}
+use Rattle.ext_tree.specs.InnerIndexing.{AreHints, IsHint}
 use Rattle.ext_tree.specs.declared.key_fault.KeyFault.{KeyFault}
 use Rattle.ext_tree.specs.declared.key_fault.KeyFault.TheVariants.{DirectoryFull, Unplaced, Memory}
 
@@ -223,17 +224,11 @@ hints_stay before after hints keeps are = All-weaker (λ hint. IsHint before hin
     stays hint (inl none) = inl none
     stays hint (inr (key, is)) = inr (key, number_stays before after key (hint - 1) keeps is)
 
--- a hint that is there names a place
-pub hint_below : (notes : List KnownPlace) (hint : ℕ) → IsHint notes hint → hint ≢ 0 → hint - 1 < length notes
-hint_below notes hint (inl none) there = absurd (there none)
-hint_below notes hint (inr (key, is)) there = key_within notes (hint - 1) key is.there
+-- ---- entries that were lent
 
-pub hinted_more : (notes : List KnownPlace) (hints after : List ℕ) (key : KeyValue) (number : ℕ) → AreHints notes hints → IsKeyNumber notes key number → (after ≡ hints) ⊎ ((slot : ℕ) × (after ≡ set hints slot (number + 1))) → AreHints notes after
-hinted_more notes hints after key number are is (inl same) = subst (λ l. AreHints notes l) (sym same) are
-hinted_more notes hints after key number are is (inr (slot, written)) =
-    let e : number ≡ number + 1 - 1 = omega arith in
-    let hint : IsHint notes (number + 1) = inr (key, subst (λ n. IsKeyNumber notes key n) e is) in
-    subst (λ l. AreHints notes l) (sym written) (All-set (λ hint. IsHint notes hint) hints slot (number + 1) hint are)
+-- a list that was lent whole is written back whole
+pub lent_back : {X : Type 0} (count : ℕ) (before after : List X) → length after ≡ count → take count (after ++ drop (length after) before) ≡ after
+lent_back count before after long = take_at after (drop (length after) before) count long
 
 -- ---- entries that know nothing
 
@@ -241,17 +236,16 @@ pub nothing_of_names : {X : Type 0} (name : X → ℕ) (places : List X) → map
 nothing_of_names name [] = refl
 nothing_of_names name (place ∷ places) = ap (λ l. unknown_place (name place) ∷ l) (nothing_of_names name places)
 
-pub filled_more : {X : Type 0} (name : X → ℕ) (entries : List KnownPlace) (places : List X) (number : ℕ) (place : X) (written : KnownPlace) → number < length entries → number < length places → take number entries ≡ map (λ place. unknown_place (name place)) (take number places) → place ≡ get_or places number place → written ≡ unknown_place (name place) → take (number + 1) (set entries number written) ≡ map (λ place. unknown_place (name place)) (take (number + 1) places)
-filled_more name entries places number place written below below' so_far is new =
+pub filled_more : {X : Type 0} (name : X → ℕ) (entries after : List KnownPlace) (places : List X) (number : ℕ) (place : X) (written : KnownPlace) → number < length places → entries ≡ map (λ place. unknown_place (name place)) (take number places) → place ≡ get_or places number place → written ≡ unknown_place (name place) → after ≡ entries ++ written ∷ [] → after ≡ map (λ place. unknown_place (name place)) (take (number + 1) places)
+filled_more name entries after places number place written below so_far is new grown =
     let e : written ≡ unknown_place (name (get_or places number place)) = new ∙ ap (λ p. unknown_place (name p)) is in
-    take_more_set entries number written below
+    grown
     ∙ (ap (λ l. l ++ written ∷ []) so_far
     ∙ (ap (λ w. map (λ p. unknown_place (name p)) (take number places) ++ w ∷ []) e
-    ∙ sym (map_more (λ p. unknown_place (name p)) places number place below')))
+    ∙ sym (map_more (λ p. unknown_place (name p)) places number place below)))
 
-pub filled_all : {X : Type 0} (name : X → ℕ) (entries : List KnownPlace) (places : List X) (count : ℕ) → length entries ≤ count → length places ≤ count → take count entries ≡ map (λ place. unknown_place (name place)) (take count places) → entries ≡ no_key_known (map name places)
-filled_all name entries places count all all' filled =
-    sym (take_all count entries all) ∙ (filled ∙ (ap (λ l. map (λ p. unknown_place (name p)) l) (take_all count places all') ∙ nothing_of_names name places))
+pub filled_all : {X : Type 0} (name : X → ℕ) (entries : List KnownPlace) (places : List X) (count : ℕ) → length places ≤ count → entries ≡ map (λ place. unknown_place (name place)) (take count places) → entries ≡ no_key_known (map name places)
+filled_all name entries places count all filled = filled ∙ (ap (λ l. map (λ p. unknown_place (name p)) l) (take_all count places all) ∙ nothing_of_names name places)
 
 pub key_places_of-nothing : (names : List ℕ) → key_places_of (no_key_known names) ≡ names
 key_places_of-nothing [] = refl

@@ -1,5 +1,5 @@
 -- What comparing a key with that of a place tells.
-use Rattle.std.proofs.Common.{◌≡◌, Bool, true, false, true≢false, Option, Some, IsTrue, ap, sym, ◌∙◌}
+use Rattle.std.proofs.Common.{◌≡◌, Bool, true, false, true≢false, Option, Some, ap, sym, ◌∙◌}
 use Rattle.ext_tree.specs.Keys.{KeyValue, Tells}
 use Rattle.ext_tree.specs.Traits.{key_eq}
 use Rattle.ext_tree.proofs.Equalities.{keys_Decides}
@@ -7,7 +7,3 @@ use Rattle.ext_tree.proofs.Equalities.{keys_Decides}
 pub tells : (held : Option KeyValue) (found key : KeyValue) (answer : Bool) → held ≡ Some found → answer ≡ key_eq found key → Tells held key answer
 tells held found key true is e = is ∙ ap (λ k. Some k) ((keys_Decides found key).0 (sym e))
 tells held found key false is e = (found, is, λ same. true≢false (sym (e ∙ (keys_Decides found key).1 same)))
-
-pub told_true : (held : Option KeyValue) (found key : KeyValue) (answer : Bool) → held ≡ Some found → answer ≡ key_eq found key → IsTrue answer → held ≡ Some key
-told_true held found key true is e t = is ∙ ap (λ k. Some k) ((keys_Decides found key).0 (sym e))
-told_true held found key false is e t = absurd (true≢false (sym t))

@@ -4,6 +4,7 @@ pub mod Testing
 pub mod Equalities
 pub mod KeyLaws
 pub mod KeyAgreeing
+pub mod KeyIndexing
 pub mod KeyPlacing
 pub mod KeyPlaceLaws
 pub mod KeyTold

@@ -1,11 +1,11 @@
--- When two namespaces or keys are equal, the numbers of declared keys, and what a lane knows of the 64 places for keys.
+-- When two namespaces or keys are equal, the numbers of declared keys, and what a lane knows of the places for keys.
 -- The parts of a namespace are compared in order (JUnit 5 User Guide, "Keeping State in Extensions"; Javadoc
 -- `ExtensionContext.Namespace`). Not from JUnit: the global namespace with parts appended equals no created one, and
 -- keys have numbers.
 -- A place is set once and then holds that key for good. A lane knows the key of a place once it put the key there or
 -- was shown it. A key's number is the first place that holds it, so a lane can tell the number from the places up to
 -- there.
-use Rattle.std.specs.Prelude.{ℕ, ◌≡◌, ◌≢◌, ◌++◌, Bool, true, false, List, [], map, Option, Some, None, AllPairs, slice_get, ◌<◌, ◌-◌, ◌⊎◌, All, length, slice_index_or}
+use Rattle.std.specs.Prelude.{ℕ, ◌≡◌, ◌≢◌, ◌++◌, Bool, true, false, List, [], map, Option, Some, None, AllPairs, slice_get, ◌<◌, ◌⊎◌, length, slice_index_or}
 use Rattle.std.specs.Borrow.{Bor}
 use Rattle.std.specs.Global.{Vec}
 use Rattle.ext_tree.specs.declared.key_fault.KeyFault.{KeyFault}
@@ -147,11 +147,3 @@ Tells held key false = (other : KeyValue) × (held ≡ Some other) × (other ≢
 -- Below this number the two lists never know different keys for one place.
 abbrev pub AgreeBelow : List KnownPlace → List KnownPlace → ℕ → Type 0
 AgreeBelow notes others count = (number : ℕ) → number < count → (key other : KeyValue) → key_at notes number ≡ Some key → key_at others number ≡ Some other → key ≡ other
-
--- Where to look first for a key with some hash: 0 is no hint, and any other value is the number of a known key plus
--- one.
-abbrev pub IsHint : List KnownPlace → ℕ → Type 0
-IsHint notes hint = (hint ≡ 0) ⊎ ((key : KeyValue) × IsKeyNumber notes key (hint - 1))
-
-abbrev pub AreHints : List KnownPlace → List ℕ → Type 0
-AreHints notes hints = All (λ hint. IsHint notes hint) hints

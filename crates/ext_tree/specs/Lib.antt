@@ -1,4 +1,5 @@
 pub mod InnerBuilding
+pub mod InnerIndexing
 pub mod InnerLearning
 pub mod Decided
 pub mod KeyPlaceLaws

@@ -2,10 +2,10 @@
 ghost use Rattle.std.specs.Prelude.{◌≡◌, ◌<◌, ◌↔◌, IsTrue, IfOk, IfErr};
 ghost use Rattle.std.specs.Cmp.{partial_equiv_from_equiv};
 ghost use Rattle.ext_tree.specs.Keys.{key_of};
+ghost use Rattle.ext_tree.specs.InnerIndexing.{short_hash};
 ghost use Rattle.ext_tree.specs.Traits.{key_eq, key_eq_equiv, key_input, keys_Alike};
 ghost use Rattle.ext_tree.specs.declared.fault.TreeFault.TheVariants.{Memory};
 
-use crate::key_walk::HINTS;
 use crate::text::Text;
 use crate::{Namespace, TreeFault};
 use std::alloc::{AllocError, Global};
@@ -19,19 +19,20 @@ use std::marker::Model;
 pub struct Key {
     namespace: Namespace,
     name: Text,
-    // Where the notes of a lane look for the key first.
-    hint: u8,
+    // By which the notes of a lane find the key, taken when it was made.
+    hash: u16,
 }
 
 impl Model for Key {
-    ghost use Rattle.std.specs.Prelude.{◌<◌};
-    ghost use Rattle.ext_tree.specs.Keys.{KeyValue};
+    ghost use Rattle.std.specs.Prelude.{◌≡◌};
+    ghost use Rattle.ext_tree.specs.Keys.{KeyValue, key_of};
+    ghost use Rattle.ext_tree.specs.InnerIndexing.{short_hash};
 
     ghost Value = { KeyValue };
 
     ghost view = { λ k. record { namespace = k.namespace; name = k.name } };
 
-    ghost invariant = { λ k. k.hint < 128 };
+    ghost invariant = { λ k. k.hash ≡ short_hash (key_of k.namespace k.name) };
 }
 
 impl Key {
@@ -43,21 +44,20 @@ impl Key {
         ensures memory { IfErr result (λ e. e ≡ Memory) }
     {
         let name = Text::copied(alloc, name)?;
-        let hint = hint_of(&namespace, &name);
+        let hash = hash_of(&namespace, &name);
         Ok(Key {
             namespace,
             name,
-            hint,
+            hash,
         })
     }
 
-    // Where the notes of a lane look for a hint of the key first: a hash of its name and of the
-    // last part of its namespace, taken when the key was made. Equal keys have the same place;
-    // other keys may share it.
-    pub(crate) fn first_hint(&self) -> usize
-        ensures { result < 128 }
+    // A hash of the name and of the last part of the namespace, which other keys may share.
+    pub(crate) fn short_hash(&self) -> usize
+        ensures value { result ≡ short_hash self.now }
+        ensures small { result < 65536 }
     {
-        usize::from(self.hint)
+        usize::from(self.hash)
     }
 }
 
@@ -71,7 +71,7 @@ impl Clone for Key {
         Ok(Key {
             namespace,
             name,
-            hint: self.hint,
+            hash: self.hash,
         })
     }
 }
@@ -105,14 +105,12 @@ impl Hash for Key {
     }
 }
 
-// Where the notes of a lane look for a hint of a key first.
-fn hint_of(namespace: &Namespace, name: &Text) -> u8
-    ensures { result < 128 }
+// The hash of the key of a namespace and a name.
+fn hash_of(namespace: &Namespace, name: &Text) -> u16
+    ensures { result ≡ short_hash (key_of namespace.now name.now) }
 {
     let mut hasher = FoldHasher::default();
     hasher.write(name.as_bytes());
-    if let Some(part) = namespace.last_part() {
-        hasher.write(part.as_bytes());
-    }
-    (hasher.finish() % HINTS as u64) as u8
+    hasher.write(namespace.last_part());
+    (hasher.finish() % 65_536) as u16
 }

@@ -1,5 +1,5 @@
 //! What a lane knows of one place for a key.
-ghost use Rattle.std.specs.Prelude.{◌⊎◌, ◌≡◌, IfErr, IfNone, IfOk, IfSome, IsSome, IsTrue, None, Some, is_some};
+ghost use Rattle.std.specs.Prelude.{◌⊎◌, ◌≡◌, IfErr, IfNone, IfOk, IfSome, IsSome, None, Some, is_some};
 ghost use Rattle.once_cell.specs.Once.{Agrees, cell_name};
 ghost use Rattle.ext_tree.specs.Keys.{KeyValue, Tells, unknown_place};
 ghost use Rattle.ext_tree.specs.declared.key_fault.KeyFault.TheVariants.{Memory};
@@ -124,19 +124,6 @@ impl KeyEntry {
         }
         let copy = Box::new(alloc, key.clone()?)?;
         Ok(self.offer(place, copy) == key)
-    }
-
-    /// Whether the place is found to hold the key.
-    pub fn holds(&mut self, place: &OnceBox<Key>, key: &Key) -> bool
-        requires { self.old.place ≡ cell_name place.now }
-        ensures place { self.new.place ≡ self.old.place }
-        ensures known { (k : KeyValue) → self.old.key ≡ Some k → self.new ≡ self.old }
-        ensures told { IsTrue result → self.new.key ≡ Some key.now }
-    {
-        match self.get(place) {
-            Some(found) => found == key,
-            None => false,
-        }
     }
 
     /// Shows that two entries of one place know the same key, if both know one. Afterwards the

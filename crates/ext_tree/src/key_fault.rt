@@ -8,7 +8,7 @@ use thiserror::Error;
 /// Why `KeyPlaces::number` gave a key no number. Prints in lower case, without a full stop.
 #[derive(Clone, Copy, Debug, PartialEq, Eq, Error)]
 pub enum KeyFault {
-    /// All 64 places hold other keys for good: this key gets no number from now on.
+    /// All places hold other keys for good: this key gets no number from now on.
     #[error("the directory is full")]
     DirectoryFull,
     /// A place neither took a copy of the key nor showed a key. `KeyPlaces::number` is proved never

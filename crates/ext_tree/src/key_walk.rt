@@ -1,65 +1,65 @@
 //! The walk over the places for keys, and where it may begin.
-ghost use Rattle.std.specs.Prelude.{ℕ, ◌≡◌, ◌<◌, ◌+◌, ◌⊎◌, IfErr, IfOk, IfSome, IsSome, Some, length, map, slice_set};
+ghost use Rattle.std.specs.Prelude.{◌≡◌, IfErr, IfOk, IsSome, Some, length, map};
 ghost use Rattle.once_cell.specs.Once.{cell_name};
-ghost use Rattle.ext_tree.specs.Keys.{KeyValue, AgreeBelow, AreHints, AreKeyNotesOf, IsKeyFault, IsKeyNumber, KeepsKeys, PlacesNone, PlacesOnly, key_at, no_key_known, key_places_of};
+ghost use Rattle.ext_tree.specs.Keys.{AgreeBelow, AreKeyNotesOf, IsKeyFault, IsKeyNumber, KeepsKeys, PassedBefore, PlacesNone, PlacesOnly, key_at, no_key_known, key_places_of};
+ghost use Rattle.ext_tree.specs.InnerIndexing.{AreNotes};
 
 use crate::key_entry::KeyEntry;
+use crate::key_index::KeyIndex;
 use crate::{Key, KeyFault};
 use ext_model::KeyNo;
 use once_cell::race::OnceBox;
-use std::alloc::Global;
-use std::array;
+use std::alloc::{AllocError, Global};
 
-/// How many hints there are: twice as many as places, so that few keys collide.
-pub const HINTS: usize = 128;
-
-/// Tries the places in order until one holds the key: one that is known to hold another is passed,
-/// and a free one is offered a copy of the key, which takes memory.
-pub fn walk(
+/// The number of the key: by the index, else by the walk.
+pub fn number_of(
     alloc: Global,
     places: &[OnceBox<Key>],
     entries: &mut [KeyEntry],
+    index: &mut KeyIndex,
     key: &Key,
 ) -> Result<KeyNo, KeyFault>
-    requires { AreKeyNotesOf (map cell_name places.now) entries.old }
+    requires places { AreKeyNotesOf (map cell_name places.now) entries.old }
+    requires notes { AreNotes entries.old index.old.hints.items index.old.next }
+    ensures notes { AreNotes entries.new index.new.hints.items index.new.next }
     ensures kept { KeepsKeys entries.old entries.new }
     ensures placed { PlacesOnly key.now entries.old entries.new }
     ensures number { IfOk result (IsKeyNumber entries.new key.now) }
     ensures refused { IfErr result (IsKeyFault entries.new key.now) }
 {
-    for number in 0..places.len() {
-        if entries[number].ask(alloc, &places[number], key)? {
+    match index.search(places, entries, key) {
+        Ok(number) => Ok(number),
+        Err(_) => walk(alloc, places, entries, index, key),
+    }
+}
+
+/// Tries the places from the index's next one on, in order, until one holds the key: one that is
+/// known to hold another is passed, and a free one is offered a copy of the key, which takes
+/// memory. All of them are added to the index, so no later walk reads them again.
+fn walk(
+    alloc: Global,
+    places: &[OnceBox<Key>],
+    entries: &mut [KeyEntry],
+    index: &mut KeyIndex,
+    key: &Key,
+) -> Result<KeyNo, KeyFault>
+    requires places { AreKeyNotesOf (map cell_name places.now) entries.old }
+    requires notes { AreNotes entries.old index.old.hints.items index.old.next }
+    requires passed { PassedBefore entries.old key.now index.old.next }
+    ensures notes { AreNotes entries.new index.new.hints.items index.new.next }
+    ensures kept { KeepsKeys entries.old entries.new }
+    ensures placed { PlacesOnly key.now entries.old entries.new }
+    ensures number { IfOk result (IsKeyNumber entries.new key.now) }
+    ensures refused { IfErr result (IsKeyFault entries.new key.now) }
+{
+    for number in index.next..places.len() {
+        let is_here = entries[number].ask(alloc, &places[number], key)?;
+        index.add(places, entries, number);
+        if is_here {
             return Ok(number);
         }
     }
     Err(KeyFault::DirectoryFull)
-}
-
-/// The number of the key, if a hint gives it: hints are tried from `first` on, until there is none.
-pub fn hinted(
-    places: &[OnceBox<Key>],
-    entries: &mut [KeyEntry],
-    hints: &[u8; HINTS],
-    first: usize,
-    key: &Key,
-) -> Option<KeyNo>
-    requires places { AreKeyNotesOf (map cell_name places.now) entries.old }
-    requires hints { AreHints entries.old hints.now }
-    requires first { first < 128 }
-    ensures number { IfSome result (IsKeyNumber entries.old key.now) }
-    ensures unchanged { entries.new ≡ entries.old }
-{
-    for step in 0..HINTS {
-        let hint = hints[(first + step) % HINTS];
-        if hint == 0 {
-            return None;
-        }
-        let number = hint as usize - 1;
-        if entries[number].holds(&places[number], key) {
-            return Some(number);
-        }
-    }
-    None
 }
 
 /// The key of the place with this number; it is known.
@@ -70,21 +70,6 @@ pub fn known_key<'a>(places: &'a [OnceBox<Key>], entries: &mut [KeyEntry], numbe
     ensures unchanged { entries.new ≡ entries.old }
 {
     entries[number].known(&places[number])
-}
-
-/// Puts a hint of the number at the first free slot from `first` on.
-pub fn hint_at(hints: &mut [u8; HINTS], first: usize, number: KeyNo)
-    requires first { first < 128 }
-    requires number { number < 64 }
-    ensures { (hints.new ≡ hints.old) ⊎ ((slot : ℕ) × (hints.new ≡ slice_set hints.old slot (number + 1))) }
-{
-    for step in 0..HINTS {
-        let slot = (first + step) % HINTS;
-        if hints[slot] == 0 {
-            hints[slot] = number as u8 + 1;
-            return;
-        }
-    }
 }
 
 /// Shows that entries of the same places know the same key of each, if both know one. Afterwards
@@ -102,15 +87,13 @@ pub fn agree_all(entries: &mut [KeyEntry], others: &mut [KeyEntry])
     }
 }
 
-/// An entry for each of the places, with nothing known of it.
-pub fn entries_of(places: &[OnceBox<Key>]) -> [KeyEntry; 64]
-    requires { length places.now ≡ 64 }
-    ensures { result ≡ no_key_known (map cell_name places.now) }
+/// An entry for each of the places, with nothing known of it. Takes memory.
+pub fn entries_of(alloc: Global, places: &[OnceBox<Key>]) -> Result<Vec<KeyEntry>, AllocError>
+    ensures { IfOk result (λ entries. entries.items ≡ no_key_known (map cell_name places.now)) }
 {
-    let first = &places[0];
-    let mut entries = array::from_fn(|_| KeyEntry::unknown(first));
-    for place in 0..places.len() {
-        entries[place] = KeyEntry::unknown(&places[place]);
+    let mut entries = Vec::with_capacity(alloc, places.len())?;
+    for place in places {
+        entries.push_reserved(KeyEntry::unknown(place));
     }
-    entries
+    Ok(entries)
 }

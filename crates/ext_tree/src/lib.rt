@@ -2,10 +2,10 @@
 //!
 //! Contracts see a `Tree` as the list of its contexts' ids, and a `Key` as its namespace and name.
 //!
-//! Two types give each key a number, 0 to 63. A `Directory` has one owner, which declares the keys
-//! one after another; contracts see the list of its keys. `KeyPlaces` are shared by several lanes,
-//! each of which may number a key at any time, without a lock; contracts see the list of the names
-//! of their 64 places. `KeyNotes` are what one lane knows of each place.
+//! Two types give each key a number. A `Directory` has one owner, which declares up to 64 keys, one
+//! after another; contracts see the list of its keys. `KeyPlaces` are up to 1,024 places, shared by
+//! several lanes, each of which may number a key at any time, without a lock; contracts see the list
+//! of the names of the places. `KeyNotes` are what one lane knows of each place.
 #![tactic(auto)]
 
 mod building;
@@ -14,6 +14,7 @@ mod fault;
 mod key;
 mod key_entry;
 mod key_fault;
+mod key_index;
 mod key_notes;
 mod key_places;
 mod key_walk;

@@ -4,6 +4,7 @@ ghost use Rattle.std.specs.Cmp.{partial_equiv_from_equiv};
 ghost use Rattle.std.specs.Cmp.Lexicographic.{pointwise};
 ghost use Rattle.std.specs.Str.{bytes_eq};
 ghost use Rattle.ext_tree.specs.Keys.{global_namespace, created_namespace, appended, texts_of};
+ghost use Rattle.ext_tree.specs.InnerIndexing.{last_part};
 ghost use Rattle.ext_tree.specs.Traits.{namespace_eq, namespace_eq_equiv, namespace_input, namespaces_Alike};
 ghost use Rattle.ext_tree.specs.declared.fault.TreeFault.TheVariants.{Memory};
 
@@ -77,9 +78,14 @@ impl Namespace {
         })
     }
 
-    // The last part, if there is one.
-    pub(crate) fn last_part(&self) -> Option<&Text> {
-        self.parts().last()
+    // The last part. Empty where there is none.
+    pub(crate) fn last_part(&self) -> &[u8]
+        ensures { result.now ≡ last_part self.now }
+    {
+        match self.parts().last() {
+            None => &[],
+            Some(part) => part.as_bytes(),
+        }
     }
 
     fn parts(&self) -> &[Text]

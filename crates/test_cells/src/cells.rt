@@ -233,18 +233,18 @@ fn ask_for_nearest(rt: &impl Abort, cells: &Cells, lane: &mut CellLane)
     requires lane { lane.old.cells ≡ cells.now.id }
     requires cells { 576 ≤ cells.now.id.limits.cells }
 {
-    let own = place_and_standing(cells.nearest(lane, &[4, 2, 0], 3));
+    let own = place_and_standing(cells.nearest(lane, &[4, 2, 0], 2, 3));
     same(rt, own, Ok(Some((0, Standing::Value(1)))), "the first row");
-    let above = place_and_standing(cells.nearest(lane, &[8, 6, 2, 0], 3));
+    let above = place_and_standing(cells.nearest(lane, &[8, 6, 2, 0], 2, 3));
     same(rt, above, Ok(Some((2, Standing::Value(2)))), "a later row");
-    let none = place_and_standing(cells.nearest(lane, &[8, 6, 0], 3));
+    let none = place_and_standing(cells.nearest(lane, &[8, 6, 0], 2, 3));
     same(rt, none, Ok(None), "empty cells");
-    let failed = place_and_standing(cells.nearest(lane, &[8, 7, 2, 0], 3));
+    let failed = place_and_standing(cells.nearest(lane, &[8, 7, 2, 0], 2, 3));
     let fault = Ok(Some((1, Standing::Fault(3))));
     same(rt, failed, fault, "a row with a fault");
-    let closed = place_and_standing(cells.nearest(lane, &[8, 5, 2], 3));
+    let closed = place_and_standing(cells.nearest(lane, &[8, 5, 2], 2, 3));
     same(rt, closed, Ok(Some((1, Standing::Seal))), "a sealed row");
-    let beside = place_and_standing(cells.nearest(lane, &[4, 2, 8], 2));
+    let beside = place_and_standing(cells.nearest(lane, &[4, 2, 8], 2, 2));
     let value = Ok(Some((2, Standing::Value(4))));
     same(rt, beside, value, "another column");
 }

@@ -40,7 +40,7 @@ fn nearest_of_two(cells: &Cells, lane: &mut CellLane) -> Option<usize>
     requires lane { lane.old.cells ≡ cells.now.id }
     requires cells { 128 ≤ cells.now.id.limits.cells }
 {
-    match cells.nearest(lane, &[1, 0], 0) {
+    match cells.nearest(lane, &[1, 0], 2, 0) {
         Ok(Some(nearest)) => Some(nearest.place),
         Ok(None) | Err(_) => None,
     }
@@ -52,6 +52,24 @@ fn first_look_sees_another_lanes_put(rt: HostRuntime) {
     let (cells, mut lane) = opened_and_put(&rt, rt.alloc());
     let found = nearest_of_two(&cells, &mut lane);
     same(&rt, found, Some(1), "the nearest row");
+}
+
+/// Tests `Cells::end_block`.
+#[test]
+fn first_end_of_a_block_sees_another_lanes_put(rt: HostRuntime) {
+    let (cells, mut lane) = opened_and_put(&rt, rt.alloc());
+    same(
+        &rt,
+        cells.end_block(&mut lane, 0),
+        1,
+        "the marks of a block with a value",
+    );
+    same(
+        &rt,
+        cells.end_block(&mut lane, 1),
+        0,
+        "those of a block that nobody used",
+    );
 }
 
 /// What a put answers that stores the number which the lane drew before the first lane put its own.

@@ -72,9 +72,9 @@ fn number_64(
 /// Tests `KeyPlaces::number`.
 #[test]
 fn keys_are_64_at_most(rt: HostRuntime) -> Result<(), Fail> {
-    let places = KeyPlaces::new(rt.alloc())?;
-    let mut first = places.notes();
-    let mut second = places.notes();
+    let places = KeyPlaces::new(rt.alloc(), 64)?;
+    let mut first = places.notes()?;
+    let mut second = places.notes()?;
     number_64(&rt, rt.alloc(), &places, &mut first, &mut second)?;
     places.agree(&mut first, &mut second);
     has_first_numbers(&rt, rt.alloc(), &places, &mut first, 64)?;
@@ -82,12 +82,25 @@ fn keys_are_64_at_most(rt: HostRuntime) -> Result<(), Fail> {
     Ok(())
 }
 
+/// Tests `KeyPlaces::number` and `KeyPlaces::len`.
+#[test]
+fn keys_are_1024_at_most(rt: HostRuntime) -> Result<(), Fail> {
+    let places = KeyPlaces::new(rt.alloc(), 1_024)?;
+    same(&rt, places.len(), 1_024, "the places");
+    let mut notes = places.notes()?;
+    has_first_numbers(&rt, rt.alloc(), &places, &mut notes, 1_024)?;
+    let full = numbered(rt.alloc(), &places, &mut notes, 1_024)?;
+    same(&rt, full, Err(KeyFault::DirectoryFull), "a key too many");
+    has_first_numbers(&rt, rt.alloc(), &places, &mut notes, 1_024)?;
+    Ok(())
+}
+
 /// Tests `KeyPlaces::number`, `KeyPlaces::agree` and `KeyNotes::has_placed`.
 #[test]
 fn a_lane_tells_which_places_it_set(rt: HostRuntime) -> Result<(), Fail> {
-    let places = KeyPlaces::new(rt.alloc())?;
-    let mut first = places.notes();
-    let mut second = places.notes();
+    let places = KeyPlaces::new(rt.alloc(), 64)?;
+    let mut first = places.notes()?;
+    let mut second = places.notes()?;
     has_first_numbers(&rt, rt.alloc(), &places, &mut first, 3)?;
     has_first_numbers(&rt, rt.alloc(), &places, &mut second, 4)?;
     places.agree(&mut first, &mut second);
@@ -128,9 +141,9 @@ fn numbered_by_both(
 /// Tests `KeyPlaces::agree`.
 #[test]
 fn lanes_give_one_number(rt: HostRuntime) -> Result<(), Fail> {
-    let places = KeyPlaces::new(rt.alloc())?;
-    let mut first = places.notes();
-    let mut second = places.notes();
+    let places = KeyPlaces::new(rt.alloc(), 64)?;
+    let mut first = places.notes()?;
+    let mut second = places.notes()?;
     has_first_numbers(&rt, rt.alloc(), &places, &mut first, 3)?;
     let key = key(rt.alloc(), 2)?;
     let numbers = numbered_by_both(&places, &mut first, &mut second, &key);
@@ -181,8 +194,8 @@ fn tells_namespaces_apart(
 /// Tests `KeyPlaces::number`.
 #[test]
 fn namespaces_are_told_apart(rt: HostRuntime) -> Result<(), Fail> {
-    let places = KeyPlaces::new(rt.alloc())?;
-    let mut notes = places.notes();
+    let places = KeyPlaces::new(rt.alloc(), 64)?;
+    let mut notes = places.notes()?;
     tells_namespaces_apart(&rt, rt.alloc(), &places, &mut notes)?;
     Ok(())
 }
@@ -237,8 +250,8 @@ fn ask_keys_of_one_hash(
 /// Tests `KeyPlaces::number`.
 #[test]
 fn keys_of_one_hash_are_told_apart(rt: HostRuntime) -> Result<(), Fail> {
-    let places = KeyPlaces::new(rt.alloc())?;
-    let mut notes = places.notes();
+    let places = KeyPlaces::new(rt.alloc(), 64)?;
+    let mut notes = places.notes()?;
     number_keys_of_one_hash(&rt, rt.alloc(), &places, &mut notes)?;
     ask_keys_of_one_hash(&rt, rt.alloc(), &places, &mut notes)?;
     Ok(())
@@ -256,9 +269,9 @@ fn names(places: &KeyPlaces, notes: &mut KeyNotes, number: usize, key: &Key) -> 
 /// `KeyNotes::knows`.
 #[test]
 fn agreeing_teaches_the_second_lane(rt: HostRuntime) -> Result<(), Fail> {
-    let places = KeyPlaces::new(rt.alloc())?;
-    let mut first = places.notes();
-    let mut second = places.notes();
+    let places = KeyPlaces::new(rt.alloc(), 64)?;
+    let mut first = places.notes()?;
+    let mut second = places.notes()?;
     has_first_numbers(&rt, rt.alloc(), &places, &mut first, 3)?;
     same(&rt, second.knows(2), false, "the second lane before");
     places.agree(&mut first, &mut second);
@@ -277,7 +290,7 @@ fn agreeing_teaches_the_second_lane(rt: HostRuntime) -> Result<(), Fail> {
 /// Tests `KeyPlaces::cell`.
 #[test]
 fn cells_of_all_contexts_and_keys(rt: HostRuntime) -> Result<(), Fail> {
-    let places = KeyPlaces::new(rt.alloc())?;
+    let places = KeyPlaces::new(rt.alloc(), 64)?;
     for (context, key, wanted) in [(0, 0, 0), (0, 63, 63), (1, 0, 64), (255, 63, 16_383)] {
         let cell = places.cell(context, key);
         same(&rt, cell, wanted, "a cell");

@@ -5,7 +5,7 @@ ghost use Rattle.ext_tree.specs.Keys.{AreKeyNotesOf};
 use crate::key_places::key;
 use crate::same::same;
 use ext_tree::{Key, KeyNotes, KeyPlaces, TreeFault};
-use std::alloc::{AllocError, Global};
+use std::alloc::Global;
 use std::process::Abort;
 use std::test::Fail;
 use std::thread::{Threads, for_each_mut, map_indices};
@@ -32,7 +32,7 @@ fn all_keys(alloc: Global) -> Result<Vec<Key>, TreeFault> {
 fn all_places(alloc: Global) -> Result<Vec<KeyPlaces>, TreeFault> {
     let mut rounds = Vec::new(alloc);
     for _ in 0..ROUNDS {
-        rounds.push(KeyPlaces::new(alloc)?)?;
+        rounds.push(KeyPlaces::new(alloc, KEYS)?)?;
     }
     Ok(rounds)
 }
@@ -58,10 +58,10 @@ fn number_in_rounds(
     rounds: &[KeyPlaces],
     keys: &[Key],
     upwards: bool,
-) -> Result<Vec<Numbers>, AllocError> {
+) -> Result<Vec<Numbers>, TreeFault> {
     let mut all = Vec::new(alloc);
     for places in rounds {
-        let mut notes = places.notes();
+        let mut notes = places.notes()?;
         all.push(number_all(places, &mut notes, keys, upwards))?;
     }
     Ok(all)
@@ -121,12 +121,12 @@ fn sixteen_threads_number_the_same_keys(rt: HostRuntime) -> Result<(), Fail> {
 }
 
 /// Notes for so many lanes.
-fn notes_for(alloc: Global, places: &KeyPlaces, lanes: usize) -> Result<Vec<KeyNotes>, AllocError>
+fn notes_for(alloc: Global, places: &KeyPlaces, lanes: usize) -> Result<Vec<KeyNotes>, TreeFault>
     ensures { IfOk result (λ all. All (AreKeyNotesOf places.now) all.items) }
 {
     let mut all = Vec::new(alloc);
     for _ in 0..lanes {
-        all.push(places.notes())?;
+        all.push(places.notes()?)?;
     }
     Ok(all)
 }
@@ -155,16 +155,22 @@ fn number_in_threads<R: Threads + Sync>(
 }
 
 /// Asserts that each lane gives each key the number that it has in all others, and that they agree.
-fn agree_in_turn(rt: &impl Abort, places: &KeyPlaces, lanes: &mut [KeyNotes], keys: &[Key])
-    requires { All (AreKeyNotesOf places.now) lanes.old }
+fn agree_in_turn(
+    rt: &impl Abort,
+    places: &KeyPlaces,
+    last: &mut KeyNotes,
+    lanes: &mut [KeyNotes],
+    keys: &[Key],
+)
+    requires last { AreKeyNotesOf places.now last.old }
+    requires lanes { All (AreKeyNotesOf places.now) lanes.old }
 {
-    let mut last = places.notes();
-    let wanted = number_all(places, &mut last, keys, true);
+    let wanted = number_all(places, last, keys, true);
     for notes in lanes {
         let numbers = number_all(places, notes, keys, true);
         same(rt, numbers, wanted, "one number a key");
-        places.agree(&mut last, notes);
-        places.agree(notes, &mut last);
+        places.agree(last, notes);
+        places.agree(notes, last);
     }
     same(rt, are_first(&wanted), true, "the numbers from 0 on");
 }
@@ -172,10 +178,17 @@ fn agree_in_turn(rt: &impl Abort, places: &KeyPlaces, lanes: &mut [KeyNotes], ke
 /// Tests `KeyPlaces::agree`.
 #[test]
 fn sixteen_lanes_agree_after_the_join(rt: HostRuntime) -> Result<(), Fail> {
-    let places = KeyPlaces::new(rt.alloc())?;
+    let places = KeyPlaces::new(rt.alloc(), KEYS)?;
     let keys = all_keys(rt.alloc())?;
+    let mut last = places.notes()?;
     let mut lanes = notes_for(rt.alloc(), &places, 16)?;
     number_in_threads(&rt, &places, lanes.as_mut_slice(), keys.as_slice());
-    agree_in_turn(&rt, &places, lanes.as_mut_slice(), keys.as_slice());
+    agree_in_turn(
+        &rt,
+        &places,
+        &mut last,
+        lanes.as_mut_slice(),
+        keys.as_slice(),
+    );
     Ok(())
 }

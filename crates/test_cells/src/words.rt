@@ -129,9 +129,9 @@ fn opened(
 fn open_within_limits(rt: HostRuntime) {
     let bad = Err(CellRefusal::BadLimit);
     for (cells, lanes, tries, numbers, wanted) in [
-        (16_384, 2, 1, 8, Ok(2)),
+        (262_144, 2, 1, 8, Ok(2)),
         (0, 16, 64, 65_535, Ok(16)),
-        (16_385, 2, 1, 8, bad),
+        (262_145, 2, 1, 8, bad),
         (3, 2, 0, 8, bad),
         (3, 0, 1, 8, bad),
         (3, 17, 1, 8, bad),

@@ -150,7 +150,7 @@ impl<'a> Suite<Table> for TableSuite<'a> {
         lane: &mut Lane<Table>,
         _held: Option<&Held>,
     ) -> Outcome {
-        let Ok(kept) = store.keep_wait(rt, lane, Table) else {
+        let Ok(kept) = store.keep_wait(lane, Table) else {
             return Outcome::of(Verdict::Failed(Fault::Memory));
         };
         match store.put_wait(rt, lane, node, self.key, kept) {

@@ -29,6 +29,7 @@ pub(crate) fn open_for_two<V: StoreValue + Drop>(alloc: Global) -> Result<Opened
     let limits = Limits {
         lanes: 2,
         tries: 64,
+        keys: 64,
         numbers: 1_000,
         keep_faults: false,
     };

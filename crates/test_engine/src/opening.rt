@@ -36,6 +36,7 @@ pub(crate) fn open_apart<V: StoreValue + Drop>(
     let limits = Limits {
         lanes: lanes + 1,
         tries: 64,
+        keys: 64,
         numbers: 100,
         keep_faults: false,
     };

@@ -200,6 +200,7 @@ fn limits_for(lanes: usize) -> Limits
     Limits {
         lanes,
         tries: 64,
+        keys: 64,
         numbers: 1_000,
         keep_faults: false,
     }

@@ -13,6 +13,7 @@ fn limits(lanes: usize, tries: u32) -> Limits {
     Limits {
         lanes,
         tries,
+        keys: 64,
         numbers: 100,
         keep_faults: false,
     }

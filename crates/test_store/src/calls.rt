@@ -346,11 +346,13 @@ fn opened(
     alloc: Global,
     lanes: usize,
     tries: u32,
+    keys: usize,
     numbers: u32,
 ) -> Option<Result<(usize, usize), StoreFault>> {
     let limits = Limits {
         lanes,
         tries,
+        keys,
         numbers,
         keep_faults: false,
     };
@@ -361,24 +363,26 @@ fn opened(
 #[test]
 fn open_within_the_limits_of_the_store(rt: HostRuntime) {
     let refused = Err(StoreFault::BadLimit);
-    for (lanes, tries, numbers, answer) in [
-        (1, 1, 1, Ok((1, 3))),
-        (16, 64, 65_535, Ok((16, 3))),
-        (0, 8, 8, refused),
-        (17, 8, 8, refused),
-        (2, 0, 8, refused),
-        (2, 65, 8, refused),
-        (2, 8, 0, refused),
-        (2, 8, 65_536, refused),
+    for (lanes, tries, keys, numbers, answer) in [
+        (1, 1, 1, 1, Ok((1, 3))),
+        (16, 64, 1_024, 65_535, Ok((16, 3))),
+        (0, 8, 64, 8, refused),
+        (17, 8, 64, 8, refused),
+        (2, 0, 64, 8, refused),
+        (2, 65, 64, 8, refused),
+        (2, 8, 0, 8, refused),
+        (2, 8, 1_025, 8, refused),
+        (2, 8, 64, 0, refused),
+        (2, 8, 64, 65_536, refused),
     ] {
-        let Some(told) = opened(rt.alloc(), lanes, tries, numbers) else {
+        let Some(told) = opened(rt.alloc(), lanes, tries, keys, numbers) else {
             panic!(&rt; "no memory");
         };
         same(
             &rt,
-            (lanes, tries, numbers, told),
-            (lanes, tries, numbers, answer),
-            "lanes, tries and numbers",
+            (lanes, tries, keys, numbers, told),
+            (lanes, tries, keys, numbers, answer),
+            "lanes, tries, keys and numbers",
         );
     }
 }

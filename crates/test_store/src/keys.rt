@@ -68,27 +68,28 @@ fn closed_to_keys_named_later(rt: HostRuntime) {
     rows(&rt, rt.alloc(), 8, &all);
 }
 
-/// The letter is kept as number 1 and put in the class under the number 63, which no key has: the context where it is found from the
+/// The letter is kept as number 1 and put in the class under the last number, which no key has: the context where it is found from the
 /// method then.
 fn puts_at_a_number(store: &Store<Letter>, lane: &mut Lane<Letter>) -> Option<Look>
     requires lane { IsLaneOf store.now.id lane.old }
     requires contexts { 2 < length store.now.tree }
     ensures { IsLaneOf store.now.id lane.new }
 {
-    let Ok(Look::Absent) = store.get_numbered(lane, 2, 63) else {
+    let last = store.key_count() - 1;
+    let Ok(Look::Absent) = store.get_numbered(lane, 2, last) else {
         return None;
     };
-    let Ok(None) = store.remove_numbered(lane, 1, 63) else {
+    let Ok(None) = store.remove_numbered(lane, 1, last) else {
         return None;
     };
     let kept = store.keep(lane, plain('x')).ok()?;
-    let Ok(None) = store.put_numbered(lane, 1, 63, kept) else {
+    let Ok(None) = store.put_numbered(lane, 1, last, kept) else {
         return None;
     };
-    store.get_numbered(lane, 2, 63).ok()
+    store.get_numbered(lane, 2, last).ok()
 }
 
-/// Where the key is found from the method, and what is taken out of the class under the number 63 then.
+/// Where the key is found from the method, and what is taken out of the class under the last number then.
 fn finds_and_takes_out(
     store: &Store<Letter>,
     lane: &mut Lane<Letter>,
@@ -99,7 +100,8 @@ fn finds_and_takes_out(
     ensures { IsLaneOf store.now.id lane.new }
 {
     let found = store.get(lane, 2, key).ok()?;
-    let taken = store.remove_numbered(lane, 1, 63).ok()?;
+    let last = store.key_count() - 1;
+    let taken = store.remove_numbered(lane, 1, last).ok()?;
     Some((found, taken))
 }
 

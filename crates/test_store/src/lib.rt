@@ -19,6 +19,8 @@ mod full;
 #[cfg(test)]
 mod keys;
 mod logged;
+#[cfg(test)]
+mod many;
 mod opening;
 #[cfg(test)]
 mod standing;

@@ -164,6 +164,7 @@ pub fn open_chain_for(alloc: Global, numbers: u32, keep_faults: bool) -> Option<
     let limits = Limits {
         lanes: 2,
         tries: 8,
+        keys: 64,
         numbers,
         keep_faults,
     };

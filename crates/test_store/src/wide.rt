@@ -44,6 +44,7 @@ pub(crate) fn lanes_and_closers(
 const WIDEST: Limits = Limits {
     lanes: 16,
     tries: 64,
+    keys: 1_024,
     numbers: 65_535,
     keep_faults: true,
 };

@@ -253,6 +253,7 @@ fn open(alloc: Global, lanes: usize) -> Option<(Store<Letter>, Vec<Lane<Letter>>
     let limits = Limits {
         lanes,
         tries: 64,
+        keys: 64,
         numbers: 16,
         keep_faults: false,
     };

@@ -153,6 +153,7 @@ fn open_for_numbers(alloc: Global) -> Option<Opened<Letter>>
     let limits = Limits {
         lanes: 2,
         tries: 1,
+        keys: 64,
         numbers: NUMBERS,
         keep_faults: false,
     };

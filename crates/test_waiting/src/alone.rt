@@ -22,7 +22,7 @@ fn store_first<R: Wait>(
     requires context { 0 < length store.now.tree }
     ensures { IsLaneOf store.now.id lane.new }
 {
-    let Ok(kept) = store.keep_wait(rt, lane, Letter { letter: 'x' }) else {
+    let Ok(kept) = store.keep_wait(lane, Letter { letter: 'x' }) else {
         return None;
     };
     let number = kept.number();
@@ -78,7 +78,7 @@ fn calls_by_number(
 ) -> Option<(Look, Option<u32>)>
     requires lane { IsLaneOf store.now.id lane.old }
     requires context { 2 < length store.now.tree }
-    requires key { key < 64 }
+    requires key { key < length store.now.id.keys }
     ensures { IsLaneOf store.now.id lane.new }
 {
     let Ok(kept) = store.keep(lane, Letter { letter: 'x' }) else {
@@ -101,10 +101,10 @@ fn waiting_calls_by_number<R: Wait>(
 ) -> Option<(Look, Option<u32>)>
     requires lane { IsLaneOf store.now.id lane.old }
     requires context { 2 < length store.now.tree }
-    requires key { key < 64 }
+    requires key { key < length store.now.id.keys }
     ensures { IsLaneOf store.now.id lane.new }
 {
-    let Ok(kept) = store.keep_wait(rt, lane, Letter { letter: 'x' }) else {
+    let Ok(kept) = store.keep_wait(lane, Letter { letter: 'x' }) else {
         return None;
     };
     let Ok(None) = store.put_wait_numbered(rt, lane, 0, key, kept) else {
@@ -135,7 +135,7 @@ fn computes_by_number<R: Wait>(
 ) -> Option<(u32, u32)>
     requires lane { IsLaneOf store.now.id lane.old }
     requires context { 0 < length store.now.tree }
-    requires key { number < 64 }
+    requires key { number < length store.now.id.keys }
 {
     if !lane.knows_key(number) {
         return None;
@@ -159,7 +159,7 @@ fn computes_by_number<R: Wait>(
 fn number_of<R: Abort>(rt: &R, store: &Store<Letter>, lane: &mut Lane<Letter>, key: &Key) -> KeyNo
     requires { IsLaneOf store.now.id lane.old }
     ensures lane { IsLaneOf store.now.id lane.new }
-    ensures within { result < 64 }
+    ensures within { result < length store.now.id.keys }
 {
     let Ok(number) = store.number(lane, key) else {
         panic!(rt; "no number");
@@ -236,7 +236,7 @@ fn fails_and_meets<R: Wait>(
 ) -> Option<(u32, (ContextNo, u32))>
     requires lane { IsLaneOf store.now.id lane.old }
     requires context { 2 < length store.now.tree }
-    requires key { number < 64 }
+    requires key { number < length store.now.id.keys }
     ensures { IsLaneOf store.now.id lane.new }
 {
     let fails = |_key: &Key| -> Result<Letter, Fault> { Err(Fault::Memory) };
@@ -263,7 +263,7 @@ fn fails_by_number<R: Wait>(
 ) -> Option<(u32, u32)>
     requires lane { IsLaneOf store.now.id lane.old }
     requires context { 2 < length store.now.tree }
-    requires key { number < 64 }
+    requires key { number < length store.now.id.keys }
     ensures { IsLaneOf store.now.id lane.new }
 {
     if !lane.knows_key(number) {
@@ -321,7 +321,7 @@ fn replace<R: Wait>(
     requires context { 2 < length store.now.tree }
     ensures { IsLaneOf store.now.id lane.new }
 {
-    let Ok(kept) = store.keep_wait(rt, lane, Letter { letter: 'x' }) else {
+    let Ok(kept) = store.keep_wait(lane, Letter { letter: 'x' }) else {
         return None;
     };
     let Ok(stood) = store.put_wait(rt, lane, 2, key, kept) else {

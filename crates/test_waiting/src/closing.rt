@@ -105,7 +105,7 @@ fn put_beside<R: Wait + Clock>(
     requires context { 1 < length store.now.tree }
     ensures lane { IsLaneOf store.now.id lane.new }
 {
-    let Ok(kept) = store.keep_wait(rt, lane, Letter { letter: 'z' }) else {
+    let Ok(kept) = store.keep_wait(lane, Letter { letter: 'z' }) else {
         return None;
     };
     gate.come(rt);

@@ -164,7 +164,7 @@ fn put<R: Wait>(
     requires context { context < length store.now.tree }
     ensures { IsLaneOf store.now.id lane.new }
 {
-    let Ok(kept) = store.keep_wait(rt, lane, Letter { letter: 'y' }) else {
+    let Ok(kept) = store.keep_wait(lane, Letter { letter: 'y' }) else {
         add(&counts.wrong);
         return;
     };

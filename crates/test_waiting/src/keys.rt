@@ -45,7 +45,7 @@ fn put_refused<R: Wait>(
     requires context { context < length store.now.tree }
     ensures { IsLaneOf store.now.id lane.new }
 {
-    let Ok(kept) = store.keep_wait(rt, lane, Letter { letter: 'x' }) else {
+    let Ok(kept) = store.keep_wait(lane, Letter { letter: 'x' }) else {
         return None;
     };
     let Err((kept, refusal)) = store.put_wait(rt, lane, context, key, kept) else {

@@ -74,6 +74,7 @@ fn open(alloc: Global, lanes: usize, keep_faults: bool) -> Result<Opened, Fail>
     let limits = Limits {
         lanes,
         tries: 8,
+        keys: 64,
         numbers: 65_535,
         keep_faults,
     };

@@ -111,6 +111,7 @@ pub(crate) fn open(alloc: Global, tree: Option<Tree>, lanes: usize) -> Result<Op
     let limits = Limits {
         lanes,
         tries: 64,
+        keys: 64,
         numbers: NUMBERS,
         keep_faults: false,
     };

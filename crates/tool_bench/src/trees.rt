@@ -49,6 +49,7 @@ fn open_ids(alloc: Global, ids: &[UniqueId], lanes: usize) -> Result<Opened<Payl
     let limits = Limits {
         lanes,
         tries: 64,
+        keys: 64,
         numbers: 1_000,
         keep_faults: false,
     };

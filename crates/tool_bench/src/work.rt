@@ -35,7 +35,7 @@ pub(crate) fn look_up_numbered(
 fn finds(store: &Store<Payload>, lane: &mut Lane<Payload>, context: ContextNo, key: KeyNo) -> bool
     requires lane { IsLaneOf store.now.id lane.old }
     requires context { context < length store.now.tree }
-    requires key { key < 64 }
+    requires key { key < length store.now.id.keys }
     ensures { IsLaneOf store.now.id lane.new }
 {
     match store.get_numbered(lane, context, key) {
@@ -71,7 +71,7 @@ pub(crate) fn look_up_shown(
 fn shows(store: &Store<Payload>, lane: &mut Lane<Payload>, context: ContextNo, key: KeyNo) -> bool
     requires lane { IsLaneOf store.now.id lane.old }
     requires context { context < length store.now.tree }
-    requires key { key < 64 }
+    requires key { key < length store.now.id.keys }
     ensures { IsLaneOf store.now.id lane.new }
 {
     match store.get_numbered(lane, context, key) {

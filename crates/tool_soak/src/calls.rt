@@ -6,7 +6,8 @@ use crate::chance::{below, once_in};
 use crate::fault::SoakFault;
 use crate::mark::Mark;
 use crate::opening::{
-    COMPUTED, CONTEXTS, ENGINE, KEYS, LATE, MOVED, Payload, Place, STANDING, Shared, late_key,
+    COMPUTED, CONTEXTS, ENGINE, KEYS, LATE, MANY_LATE, MOVED, Payload, Place, STANDING, Shared,
+    late_key,
 };
 use crate::told::{Log, Told};
 use ext_model::{ContextNo, Fault, Look};
@@ -53,7 +54,11 @@ fn name_late(shared: &Shared, lane: &mut Lane<Payload>, numbers: &mut Pcg32, log
     requires { IsLaneOf shared.now.store.id lane.old }
     ensures { IsLaneOf shared.now.store.id lane.new }
 {
-    let late = below(numbers, LATE);
+    let late = if shared.many_keys {
+        below(numbers, MANY_LATE)
+    } else {
+        below(numbers, LATE)
+    };
     let context = below(numbers, CONTEXTS);
     match late_key(shared.alloc, late) {
         Some(key) => ask_late(shared, lane, context, late, &key, log),
@@ -73,7 +78,7 @@ fn ask_late(
 )
     requires lane { IsLaneOf shared.now.store.id lane.old }
     requires context { context < 7 }
-    requires late { late < 70 }
+    requires late { late < 1030 }
     ensures { IsLaneOf shared.now.store.id lane.new }
 {
     let seen = shared.store.get(lane, context, key);

@@ -1,13 +1,15 @@
 //! What is checked once all lanes of a round have ended: each reply against those of all other lanes.
 use crate::fault::SoakFault;
 use crate::mark::Mark;
-use crate::opening::{CLASS, CONTEXTS, KEYS, LAST_IN_CLASS, LATE, MOVED, NUMBERS, Place, STANDING};
+use crate::opening::{
+    CLASS, CONTEXTS, KEYS, LAST_IN_CLASS, MANY_LATE, MOVED, NUMBERS, Place, STANDING,
+};
 use crate::told::{Log, Told};
 use ext_model::KeyNo;
 use std::alloc::{AllocError, Global};
 
-/// How many keys have a number.
-const NUMBERS_OF_KEYS: usize = 64;
+/// How many keys have a number at most.
+const NUMBERS_OF_KEYS: usize = 1_024;
 
 /// What became of a number.
 #[derive(Clone, Copy)]
@@ -110,7 +112,7 @@ impl Checks {
         Ok(Checks {
             fates: unknown_fates(alloc)?,
             standing: zeros(alloc, CONTEXTS * KEYS)?,
-            named: nothing(alloc, KEYS + LATE)?,
+            named: nothing(alloc, KEYS + MANY_LATE)?,
             holders: nothing(alloc, NUMBERS_OF_KEYS)?,
             fault: None,
         })

@@ -27,6 +27,9 @@ pub(crate) const KEYS: usize = 4;
 /// How many further keys the lanes name late in a round, under which nothing is stored. They are more than there are numbers.
 pub(crate) const LATE: usize = 70;
 
+/// How many these are in a round whose store has many keys.
+pub(crate) const MANY_LATE: usize = 1_030;
+
 /// The key under which a value stands in the engine all along.
 pub(crate) const STANDING: usize = 0;
 
@@ -69,11 +72,29 @@ pub(crate) fn keeps_faults(round: u32) -> bool {
     round % 2 == 1
 }
 
+/// Whether the store of a round has 1,024 keys, and not 64: that of every second pair has.
+pub(crate) fn has_many_keys(round: u32) -> bool {
+    round / 2 % 2 == 1
+}
+
+/// The limits of a round's store with so many lanes and tries.
+fn limits_of(lanes: usize, tries: u32, round: u32) -> Limits {
+    Limits {
+        lanes,
+        tries,
+        keys: if has_many_keys(round) { 1_024 } else { 64 },
+        numbers: NUMBERS,
+        keep_faults: keeps_faults(round),
+    }
+}
+
 /// What the lanes of a round share.
 #[derive(Drop)]
 pub(crate) struct Shared {
     pub(crate) store: Store<Payload>,
     keys: Vec<Key>,
+    /// Whether the store has 1,024 keys.
+    pub(crate) many_keys: bool,
     /// Where factories take memory for their faults, and lanes for late keys.
     pub(crate) alloc: Global,
     /// The places for which a factory runs, one bit each.
@@ -171,42 +192,30 @@ fn made(
 /// A store, its lanes and its closers.
 type Parts = (Store<Payload>, Vec<Lane<Payload>>, Vec<Closer>);
 
-/// A store of these contexts, which keeps faults or not.
-fn open_store(
-    alloc: Global,
-    tree: Tree,
-    lanes: usize,
-    tries: u32,
-    keep_faults: bool,
-) -> Result<Parts, SoakFault>
+/// A store of these contexts with such limits.
+fn open_store(alloc: Global, tree: Tree, limits: Limits) -> Result<Parts, SoakFault>
     ensures tree { IfOk result (λ r. r.0.tree ≡ tree) }
     ensures lanes { IfOk result (λ r. All (IsLaneOf r.0.id) r.1.items) }
     ensures closers { IfOk result (λ r. All (IsCloserOf r.0) r.2.items) }
 {
-    let limits = Limits {
-        lanes,
-        tries,
-        numbers: NUMBERS,
-        keep_faults,
-    };
     match Store::open(alloc, tree, limits) {
         Ok(parts) => Ok(parts),
         Err(_) => Err(SoakFault::Memory),
     }
 }
 
-/// A round's store with so many lanes and tries, which keeps faults or not.
-pub(crate) fn open(
-    alloc: Global,
-    lanes: usize,
-    tries: u32,
-    keep_faults: bool,
-) -> Result<Opened, SoakFault>
+/// The store of a round with so many lanes and tries.
+pub(crate) fn open(alloc: Global, lanes: usize, tries: u32, round: u32) -> Result<Opened, SoakFault>
     ensures lanes { IfOk result (λ o. All (IsLaneOf o.shared.store.id) o.lanes.items) }
     ensures closers { IfOk result (λ o. All (IsCloserOf o.shared.store) o.closers.items) }
 {
     match made(contexts(alloc), keys(alloc), CONTEXTS) {
-        Ok(made) => open_with(alloc, made, lanes, tries, keep_faults),
+        Ok(made) => open_with(
+            alloc,
+            made,
+            limits_of(lanes, tries, round),
+            has_many_keys(round),
+        ),
         Err(fault) => Err(fault),
     }
 }
@@ -215,21 +224,21 @@ pub(crate) fn open(
 fn open_with(
     alloc: Global,
     made: (Tree, Vec<Key>),
-    lanes: usize,
-    tries: u32,
-    keep_faults: bool,
+    limits: Limits,
+    many_keys: bool,
 ) -> Result<Opened, SoakFault>
     requires { (length made.0 ≡ 7) × (length made.1.items ≡ 4) }
     ensures lanes { IfOk result (λ o. All (IsLaneOf o.shared.store.id) o.lanes.items) }
     ensures closers { IfOk result (λ o. All (IsCloserOf o.shared.store) o.closers.items) }
 {
     let (tree, keys) = made;
-    match open_store(alloc, tree, lanes, tries, keep_faults) {
+    match open_store(alloc, tree, limits) {
         Ok((store, lanes, closers)) => {
             let running = AtomicU64::new(0);
             let shared = Shared {
                 store,
                 keys,
+                many_keys,
                 alloc,
                 running,
             };
@@ -303,7 +312,14 @@ fn open_deep_with(
     ensures { IfOk result (λ o. All (IsLaneOf o.deep.store.id) o.lanes.items) }
 {
     let (tree, keys) = made;
-    match open_store(alloc, tree, 2, 64, keep_faults) {
+    let limits = Limits {
+        lanes: 2,
+        tries: 64,
+        keys: 64,
+        numbers: NUMBERS,
+        keep_faults,
+    };
+    match open_store(alloc, tree, limits) {
         Ok((store, lanes, _closers)) => {
             let deep = Deep { store, keys };
             Ok(OpenedDeep { deep, lanes })

@@ -8,7 +8,7 @@ use crate::checks::Checks;
 use crate::closing::{Closing, are_closed, close_all, close_some};
 use crate::fault::SoakFault;
 use crate::moving::move_often;
-use crate::opening::{ENGINE, MOVED, Opened, Payload, Place, STANDING, Shared, keeps_faults, open};
+use crate::opening::{ENGINE, MOVED, Opened, Payload, Place, STANDING, Shared, open};
 use crate::told::Log;
 use crate::words::Soak;
 use ext_store::{Closer, Lane};
@@ -38,7 +38,7 @@ fn open_and_call<R: Threads + Sync + Wait + AllocGlobal>(
 ) -> Result<(), SoakFault> {
     let mut numbers = numbers_of(soak.seed, round, soak.lanes);
     let tries = tries_of(&mut numbers);
-    match open(rt.alloc(), soak.lanes, tries, keeps_faults(round)) {
+    match open(rt.alloc(), soak.lanes, tries, round) {
         Ok(opened) => call_in(rt, opened, numbers, logs, soak, round),
         Err(fault) => Err(fault),
     }

@@ -33,7 +33,7 @@ pub(crate) fn put_value<'a, R: Wait>(
     ensures frame { HasFrame store.now lane.old lane.new }
     ensures placed { PlacesOnly (call_view call.now).key lane.old.keys lane.new.keys }
 {
-    let kept = match store.keep_wait(rt, lane, value) {
+    let kept = match store.keep_wait(lane, value) {
         Ok(kept) => kept,
         Err((_, why)) => return end_unkept(alloc, call, why),
     };

@@ -1,4 +1,5 @@
 //! Explanations of faults in fields.
+use crate::explaining::near::nearest;
 use crate::explaining::words::{quoted, said};
 use crate::fault::{Place, PlanFault};
 use crate::fields::{
@@ -62,7 +63,7 @@ pub(crate) fn table_of<'a>(
     Ok(tables.get(number).copied())
 }
 
-/// Names the first field that the place may not have.
+/// Names the first field that the place may not have, and those that it may.
 pub(crate) fn unknown_field(
     alloc: Global,
     top: &Table,
@@ -71,15 +72,47 @@ pub(crate) fn unknown_field(
     let Some(table) = table_of(alloc, top, place)? else {
         return Ok(None);
     };
-    let other = match place {
-        Place::Whole => first_other(&TOP_FIELDS, table),
-        Place::Key(_) => first_other(&KEY_FIELDS, table),
-        Place::Node(_) => first_other(&NODE_FIELDS, table),
-    };
-    match other {
-        None => Ok(None),
-        Some(name) => quoted(alloc, "it may not have a field ", name, ""),
+    match place {
+        Place::Whole => first_unknown(alloc, table, &TOP_FIELDS),
+        Place::Key(_) => first_unknown(alloc, table, &KEY_FIELDS),
+        Place::Node(_) => first_unknown(alloc, table, &NODE_FIELDS),
     }
+}
+
+/// Names the first field of a table that is none of these.
+fn first_unknown(
+    alloc: Global,
+    table: &Table,
+    fields: &[&str],
+) -> Result<Option<String>, PlanFault> {
+    match first_other(fields, table) {
+        None => Ok(None),
+        Some(name) => unknown_among(alloc, name, fields),
+    }
+}
+
+/// Says that a field is none of these, and which is near.
+fn unknown_among(alloc: Global, name: &str, fields: &[&str]) -> Result<Option<String>, PlanFault> {
+    let all = listed(alloc, fields)?;
+    let all = all.as_str();
+    Ok(Some(match nearest(fields, name) {
+        None => format!(in alloc; "it may not have a field {name:?}. Allowed are {all}")?,
+        Some(near) => format!(in alloc;
+            "it may not have a field {name:?}: did you mean {near:?}? Allowed are {all}"
+        )?,
+    }))
+}
+
+/// The names, with a comma and a space between two.
+fn listed(alloc: Global, names: &[&str]) -> Result<String, PlanFault> {
+    let mut list = String::new(alloc);
+    for name in names {
+        if !list.is_empty() {
+            list.push_str(", ")?;
+        }
+        list.push_str(name)?;
+    }
+    Ok(list)
 }
 
 /// Names the first field of the place that is missing or has another type.
@@ -106,10 +139,34 @@ fn first_bad(
 ) -> Result<Option<String>, PlanFault> {
     for (name, kind) in fields {
         if !is_right(alloc, table, name, *kind)? {
-            return quoted(alloc, "its field ", name, what_is_wrong(*kind));
+            return no_type(alloc, table, name, *kind);
         }
     }
     Ok(None)
+}
+
+/// Says that a field has not this type, and how an array of tables is written where one is meant.
+fn no_type(
+    alloc: Global,
+    table: &Table,
+    name: &str,
+    kind: FieldType,
+) -> Result<Option<String>, PlanFault> {
+    let wrong = what_is_wrong(kind);
+    if let FieldType::TablesIfGiven = kind
+        && is_table(table, name)
+    {
+        return Ok(Some(format!(in alloc; "its field {name:?}{wrong}: write [[{name}]]")?));
+    }
+    quoted(alloc, "its field ", name, wrong)
+}
+
+/// Tests whether there is a single table under a name.
+fn is_table(table: &Table, name: &str) -> bool {
+    match table.get(name) {
+        None => false,
+        Some(value) => value.as_table().is_some(),
+    }
 }
 
 /// Tests whether a field has its type, by the functions that read it.

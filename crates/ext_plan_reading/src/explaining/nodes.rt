@@ -113,11 +113,37 @@ fn in_the_way(
         TreeFault::TooMany => too_many_nodes(alloc, sketches.len()),
         TreeFault::NoRoot => {
             let why = "has more than one segment, so that it is no root";
-            named(alloc, sketches, 0, why)
+            without_parent(alloc, sketches, 0, why)
         }
         TreeFault::TwoRoots(node) => named(alloc, sketches, node, "is a second root"),
-        TreeFault::NoParent(node) => named(alloc, sketches, node, "has no parent before it"),
+        TreeFault::NoParent(node) => {
+            without_parent(alloc, sketches, node, "has no parent before it")
+        }
         TreeFault::Twice(node) => named(alloc, sketches, node, "stands before already"),
+    }
+}
+
+/// Says something of a node that has no parent before it, and whether its parent stands behind it.
+fn without_parent(
+    alloc: Global,
+    sketches: &[NodeSketch<'_>],
+    node: usize,
+    why: &str,
+) -> Result<Option<String>, PlanFault> {
+    if !has_parent(sketches, node) {
+        return named(alloc, sketches, node, why);
+    }
+    let why = format!(in alloc; "{why}: its parent stands further down")?;
+    named(alloc, sketches, node, why.as_str())
+}
+
+/// Tests whether the parent of a node stands anywhere.
+fn has_parent(sketches: &[NodeSketch<'_>], node: usize) -> bool {
+    match sketches.get(node) {
+        None => false,
+        Some(child) => sketches
+            .iter()
+            .any(|other| other.id.is_parent_of(&child.id)),
     }
 }
 

@@ -3,13 +3,28 @@ ghost use Rattle.std.specs.Prelude.{◌<◌, HoldsAt, IfOk, IfSome, IsErr, lengt
 ghost use Rattle.ext_plan_reading.specs.StepReading.{step_at};
 
 use crate::depths::least_test_depth;
+use crate::explaining::near::nearest;
 use crate::explaining::nodes::{keys_in, sketches_in};
 use crate::fault::PlanFault;
 use crate::labels::Labels;
 use crate::nodes::{NodeSketch, tree_of};
 use crate::steps::{step_at, step_of, words_of};
-use std::alloc::Global;
+use std::alloc::{AllocError, Global};
 use toml::Table;
+
+/// The words that begin a step.
+const STEP_WORDS: [&str; 10] = [
+    "put",
+    "put!",
+    "want",
+    "none",
+    "remove",
+    "compute",
+    "compute!",
+    "computefail",
+    "fail",
+    "abort",
+];
 
 /// Explains the first text of a node's callbacks and test that is no step there, in reading order.
 pub(crate) fn bad_step(
@@ -116,7 +131,7 @@ fn no_step(
     text: &str,
 ) -> Result<Option<String>, PlanFault> {
     let why = reason(alloc, labels, text)?;
-    Ok(Some(format!(in alloc; "step {step} of its {list}, {text:?}, {why}")?))
+    Ok(Some(format!(in alloc; "step {step} of its {list}, {text:?}, {}", why.as_str())?))
 }
 
 /// The index of the first text that the reader refuses as a step of the node.
@@ -141,15 +156,11 @@ fn first_bad(
 }
 
 /// Why the reader refuses a text as a step.
-fn reason(alloc: Global, labels: &Labels<'_>, text: &str) -> Result<&'static str, PlanFault> {
+fn reason(alloc: Global, labels: &Labels<'_>, text: &str) -> Result<String, PlanFault> {
     if is_step(alloc, labels, text)? {
-        return Ok("goes up past the root");
+        return Ok(String::from_str(alloc, "goes up past the root")?);
     }
-    if text.split(' ').any(|word| word.is_empty()) {
-        return Ok("has a space too many");
-    }
-    let words = words_of(text);
-    Ok(reason_among(words.as_slice()))
+    Ok(reason_of_text(alloc, text)?)
 }
 
 /// Tests whether a text is a step.
@@ -157,29 +168,56 @@ fn is_step(alloc: Global, labels: &Labels<'_>, text: &str) -> Result<bool, PlanF
     Ok(step_of(alloc, labels, text)?.is_some())
 }
 
-fn reason_among(words: &[&str]) -> &'static str {
-    match words {
-        [name, rest @ ..] => reason_of(name, rest),
-        [] => NO_STEP,
+/// Why a text is no step, wherever it stands.
+fn reason_of_text(alloc: Global, text: &str) -> Result<String, AllocError> {
+    if text.is_empty() {
+        return String::from_str(alloc, "is an empty step");
+    }
+    let why = reason_of_words(alloc, text)?;
+    if text.as_bytes().contains(&b'\t') {
+        return format!(in alloc; "has a tab, and {}", why.as_str());
+    }
+    Ok(why)
+}
+
+/// Why the words of a text are no step.
+fn reason_of_words(alloc: Global, text: &str) -> Result<String, AllocError> {
+    if text.split(' ').any(|word| word.is_empty()) {
+        return String::from_str(alloc, "has a space too many");
+    }
+    match words_of(text).as_slice() {
+        [name, rest @ ..] => match reason_of(name, rest) {
+            None => no_step_word(alloc, name),
+            Some(why) => String::from_str(alloc, why),
+        },
+        [] => no_step_word(alloc, ""),
     }
 }
 
-const NO_STEP: &str = "is none of the steps";
+/// Says that no step begins with the word, and which one is near.
+fn no_step_word(alloc: Global, word: &str) -> Result<String, AllocError> {
+    match nearest(&STEP_WORDS, word) {
+        None => String::from_str(alloc, "is none of the steps"),
+        Some(near) => format!(in alloc; "is none of the steps: did you mean {near:?}?"),
+    }
+}
 
 const NO_HEIGHT: &str = "has an up that is no number from 1 to 15";
 
-/// Why a text is no step, by its first word and the words after it.
-fn reason_of(name: &str, rest: &[&str]) -> &'static str {
+/// Why a text is no step, by its first word and the words after it, unless no step begins so.
+fn reason_of(name: &str, rest: &[&str]) -> Option<&'static str> {
     match name {
-        "fail" | "abort" => "takes one text and no up",
-        "none" | "remove" => reason_of_key(rest),
-        "put" | "put!" | "want" | "compute" | "compute!" | "computefail" => reason_of_text(rest),
-        _ => NO_STEP,
+        "fail" | "abort" => Some("takes one text and no up"),
+        "none" | "remove" => Some(no_key_alone(rest)),
+        "put" | "put!" | "want" | "compute" | "compute!" | "computefail" => {
+            Some(no_key_and_text(rest))
+        }
+        _ => None,
     }
 }
 
 /// Why these words do not follow the name of a step with a key.
-fn reason_of_key(rest: &[&str]) -> &'static str {
+fn no_key_alone(rest: &[&str]) -> &'static str {
     match rest {
         [_, up, _] if *up == "up" => NO_HEIGHT,
         _ => "takes a key and no text",
@@ -187,7 +225,7 @@ fn reason_of_key(rest: &[&str]) -> &'static str {
 }
 
 /// Why these words do not follow the name of a step with a key and a text.
-fn reason_of_text(rest: &[&str]) -> &'static str {
+fn no_key_and_text(rest: &[&str]) -> &'static str {
     match rest {
         [_, _, up, _] if *up == "up" => NO_HEIGHT,
         _ => "takes a key and one text",

@@ -7,7 +7,7 @@ use Rattle.ext_c.proofs.exports.open.Goals as goal
 pub returns-in-Err-clause-says : goal.returns-in-Err-clause-says
 returns-in-Err-clause-says c =
     let empty : AreEmpty c.args.slots.now = search rules in
-    let limits : AreStoreLimits (length c.args.slots.now) c.args.tries c.args.numbers = search rules in
+    let limits : AreStoreLimits 64 (length c.args.slots.now) c.args.tries c.args.numbers = search rules in
     open_no_tree c.args.bytes.now c.args.lengths.now c.args.tries c.args.numbers c.args.keep_faults c.args.slots.now c.in-Err.code empty limits c.in-Err.ensures.refused
 
 pub take_seats-requires : goal.take_seats-requires
@@ -27,5 +27,5 @@ returns-in-Some-clause-says c =
 pub returns-in-None-clause-says : goal.returns-in-None-clause-says
 returns-in-None-clause-says c =
     let empty : AreEmpty c.args.slots.now = search rules in
-    let limits : AreStoreLimits (length c.args.slots.now) c.args.tries c.args.numbers = search rules in
+    let limits : AreStoreLimits 64 (length c.args.slots.now) c.args.tries c.args.numbers = search rules in
     OpenSays.no_memory empty limits c.in-Ok.ensures.texts refl refl

@@ -3,11 +3,11 @@ use Rattle.ext_store.specs.Stores.{IsLaneOf, StillKeeps}
 use Rattle.ext_closing.specs.InnerSteps.{SealedSoFar}
 use Rattle.ext_closing.proofs.closing.seal_all.Given as goal
 
-abbrev pub invariant-loop-half : goal.invariant-loop-half
-invariant-loop-half g l = record {
-  so_far : SealedSoFar l.store l.closer.context (l.half * 32) l.fn.lane.cells l.lane.cells l.numbers;
-  few : length l.numbers ≤ l.half * 32;
-  steps : length l.lane.cells.view.fronts ≤ length l.fn.lane.cells.view.fronts + l.half * (32 * (l.store.tries + 1) + 1);
+abbrev pub invariant-loop-block : goal.invariant-loop-block
+invariant-loop-block g l = record {
+  so_far : SealedSoFar l.store l.closer.context (l.block * 32) l.fn.lane.cells l.lane.cells l.numbers;
+  few : length l.numbers ≤ l.block * 32;
+  steps : length l.lane.cells.view.fronts ≤ length l.fn.lane.cells.view.fronts + l.block * (32 * (l.store.tries + 1) + 1);
   known : l.lane.known ≡ l.fn.lane.known;
   faults : l.lane.faults ≡ l.fn.lane.faults;
   keys : l.lane.keys ≡ l.fn.lane.keys;

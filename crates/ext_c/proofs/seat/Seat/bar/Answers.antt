@@ -9,5 +9,5 @@ returns-then-is_some-clause-barred c = has_claim c.args.context c.args.key c.arg
 pub returns-then-context-len-clause-barred : goal.returns-then-context-len-clause-barred
 returns-then-context-len-clause-barred c = NotAsked.no_context (has_none c.args.self.now (sym c.is_some.ensures ∙ c.if-is_some.false)) (search rules)
 
-pub returns-then-key-ge64-clause-barred : goal.returns-then-key-ge64-clause-barred
-returns-then-key-ge64-clause-barred c = NotAsked.no_key (has_none c.args.self.now (sym c.is_some.ensures ∙ c.if-is_some.false)) c.if-key-ge64.true
+pub returns-then-key-key_count-clause-barred : goal.returns-then-key-key_count-clause-barred
+returns-then-key-key_count-clause-barred c = NotAsked.no_key (has_none c.args.self.now (sym c.is_some.ensures ∙ c.if-is_some.false)) (search rules)

@@ -1,16 +1,17 @@
-use Rattle.std.proofs.Common.{◌<◌, ◌++◌, [], ◌∷◌, get_or, sym, ap, ◌∙◌, subst, arith, rules}
+use Rattle.std.proofs.Common.{◌≡◌, ◌*◌, ◌<◌, ◌++◌, [], ◌∷◌, get_or, take, length, inl, refl, sym, ap, ◌∙◌, subst, arith, rules}
 use Rattle.std.specs.Prelude.{All}
 use Rattle.std.proofs.lemmas.List.Elements.{All-push}
 use Rattle.std.proofs.lemmas.List.Sums.{sum_by-append, sum_by-cons}
 use Rattle.ext_cells.specs.Lanes.{Lane}
 use Rattle.ext_cells.specs.CellCalls.{cell_at, cells_in}
+use Rattle.ext_cells.specs.InnerPasses.{ReadPass}
 use Rattle.ext_cells.specs.InnerSteps.{Finds}
 use Rattle.ext_cells.specs.WordChanges.{IsEmptyWord, version_in}
-use Rattle.ext_cells.proofs.Rows.{row_known, row_more}
+use Rattle.ext_cells.proofs.Rows.{cells_length, row_known, row_more}
 use Rattle.ext_cells.proofs.cells.Cells.read_empty.Goals as goal
 
 pub read_at-word-requires-clause-cell : goal.read_at-word-requires-clause-cell
-read_at-word-requires-clause-cell c = row_known _ c.args.rows.now c.args.column c.loop-count.count c.requires.known c.loop-count-test.true
+read_at-word-requires-clause-cell c = row_known _ c.args.rows.now (c.args.column.blocks * 32) c.args.column.place c.loop-count.count c.requires.known c.loop-count-test.true
 
 pub loop-count-preserved : goal.loop-count-preserved
 loop-count-preserved c =
@@ -26,9 +27,9 @@ loop-count-preserved c =
     let was = old.read.1 in
     let is = c.version-versions.ensures.version in
     let none : IsEmptyWord c.read_at-word.result = search rules in
-    let known = subst (λ z. All (λ cell. cell < z.limits.cells) (cells_in c.args.rows.now c.args.column)) (sym c.requires.lane) c.requires.known in
-    let found : Finds c.args.lane.now.cells.limits c.loop-count.lane.view (cell_at c.args.column (get_or c.args.rows.now i 0)) c.read_at-word.result f.0 =
-    subst (λ z. Finds z.limits c.loop-count.lane.view (cell_at c.args.column (get_or c.args.rows.now i 0)) c.read_at-word.result f.0) old.cells f.1 in
+    let known = subst (λ z. All (λ cell. cell < z.limits.cells) (cells_in c.args.rows.now (c.args.column.blocks * 32) c.args.column.place)) (sym c.requires.lane) c.requires.known in
+    let found : Finds c.args.lane.now.cells.limits c.loop-count.lane.view (cell_at (c.args.column.blocks * 32) c.args.column.place (get_or c.args.rows.now i 0)) c.read_at-word.result f.0 =
+    subst (λ z. Finds z.limits c.loop-count.lane.view (cell_at (c.args.column.blocks * 32) c.args.column.place (get_or c.args.rows.now i 0)) c.read_at-word.result f.0) old.cells f.1 in
     record {
       cells = ap (λ (l : Lane). l.cells) f.2 ∙ old.cells;
       versions = omega (arith, least, within);
@@ -36,6 +37,21 @@ loop-count-preserved c =
         words ++ word ∷ [],
         omega (arith, sum, last, was, is),
         All-push IsEmptyWord words word old.read.2 none,
-        row_more _ _ _ _ c.args.rows.now words c.args.column i _ f.0 known c.loop-count-test.true old.read.3 found (ap (λ (l : Lane). l.view) f.2),
+        row_more _ _ _ _ c.args.rows.now words (c.args.column.blocks * 32) c.args.column.place i _ f.0 known c.loop-count-test.true old.read.3 found (ap (λ (l : Lane). l.view) f.2),
       );
+    }
+
+pub returns-clause-read : goal.returns-clause-read
+returns-clause-read c =
+    let was = c.loop-count.invariant.read in
+    let cells = cells_in c.args.rows.now (c.args.column.blocks * 32) c.args.column.place in
+    let past = c.loop-count-test.false in
+    let end = c.loop-count.auto.count-end in
+    let all : c.loop-count.count ≡ length c.args.rows.now = omega (arith, past, end) in record {
+      between = c.loop-count.lane.view;
+      words = was.0;
+      nothing = was.2;
+      versions = was.1;
+      read = subst (λ n. ReadPass c.args.lane.now.cells.limits c.args.lane.now.view c.loop-count.lane.view (take n cells) was.0) all was.3;
+      ends = inl (refl, sym (cells_length c.args.rows.now (c.args.column.blocks * 32) c.args.column.place), refl);
     }

@@ -20,19 +20,19 @@ use Rattle.ext_store.proofs.store.Store.fill_quietly.Goals as goal
 pub fill_quietly-requires-clause-held : goal.fill_quietly-requires-clause-held
 fill_quietly-requires-clause-held g c =
     subst (λ (l : Lane). IsHeld l.view c.args.claim) (sym (ap (λ (l : StoreLane g.row.V.Denot). l.cells) c.lane.view_is))
-    (kept_held c.args.self.now c.args.lane.now.cells c.keep_decided.new.lane.cells c.requires.lane.cells c.args.claim c.in-Ok.kept (subst (λ (z : CellsId). IsLegal z.limits (seen_by c.keep_decided.new.lane.cells.view)) c.keep_decided.ensures.lane.cells c.recall.ensures.legal) c.in-Ok.ensures.answer.drawn c.requires.held)
+    (kept_held c.args.self.now c.args.lane.now.cells c.keep_wait.new.lane.cells c.requires.lane.cells c.args.claim c.in-Ok.kept (subst (λ (z : CellsId). IsLegal z.limits (seen_by c.keep_wait.new.lane.cells.view)) c.keep_wait.ensures.lane.cells c.recall.ensures.legal) c.in-Ok.ensures.answer.drawn c.requires.held)
 
 pub abandon_quietly-requires-clause-held : goal.abandon_quietly-requires-clause-held
 abandon_quietly-requires-clause-held g c =
     subst (λ (l : Lane). IsHeld l.view c.args.claim) (sym (ap (λ (l : StoreLane g.row.V.Denot). l.cells) c.lane.view_is))
-    (fails_held c.args.self.now c.args.lane.now.cells c.keep_decided.new.lane.cells c.requires.lane.cells c.args.claim c.in-Err.unkept.1 (subst (λ (z : CellsId). IsLegal z.limits (seen_by c.keep_decided.new.lane.cells.view)) c.keep_decided.ensures.lane.cells c.recall-in-Err.ensures.legal) c.in-Err.ensures.answer.fails c.requires.held)
+    (fails_held c.args.self.now c.args.lane.now.cells c.keep_wait.new.lane.cells c.requires.lane.cells c.args.claim c.in-Err.unkept.1 (subst (λ (z : CellsId). IsLegal z.limits (seen_by c.keep_wait.new.lane.cells.view)) c.keep_wait.ensures.lane.cells c.recall-in-Err.ensures.legal) c.in-Err.ensures.answer.fails c.requires.held)
 
 pub returns-in-Ok-clause-events : goal.returns-in-Ok-clause-events
 returns-in-Ok-clause-events g c =
-    let b = c.keep_decided.new.lane.cells in
+    let b = c.keep_wait.new.lane.cells in
     let number : c.kept.inside.number ≡ c.in-Ok.kept = c.kept.view_is in
     let two : Calls c.args.self.now.id.cells.limits b.view c.fill_quietly.new.lane.view (Fill c.args.claim c.in-Ok.kept ∷ []) =
-    subst (λ (z : CellsId × ℕ). Calls z.0.limits b.view c.fill_quietly.new.lane.view (Fill c.args.claim z.1 ∷ [])) {x = (b.cells, c.kept.inside.number)} (λ i. (c.keep_decided.ensures.lane.cells i, number i))
+    subst (λ (z : CellsId × ℕ). Calls z.0.limits b.view c.fill_quietly.new.lane.view (Fill c.args.claim z.1 ∷ [])) {x = (b.cells, c.kept.inside.number)} (λ i. (c.keep_wait.ensures.lane.cells i, number i))
     (subst (λ (z : Lane). Calls z.cells.limits z.view c.fill_quietly.new.lane.view (Fill c.args.claim c.kept.inside.number ∷ [])) (ap (λ (l : StoreLane g.row.V.Denot). l.cells) c.lane.view_is) c.fill_quietly.ensures.filled.calls) in
     subst (Fills c.args.self.now.id.cells.limits [] c.args.claim c.args.lane.now.cells.view c.fill_quietly.new.lane.view) (sym number)
     (fills c.args.self.now c.args.lane.now.cells b c.requires.lane.cells c.args.claim c.fill_quietly.new.lane c.in-Ok.kept c.in-Ok.ensures.answer.drawn two)
@@ -42,21 +42,21 @@ returns-in-Ok-clause-apart g c m kept e = c.in-Ok.ensures.apart m kept (e ∙ c.
 
 pub returns-in-Ok-clause-frame : goal.returns-in-Ok-clause-frame
 returns-in-Ok-clause-frame g c =
-    fill_frame c.args.self.now.id c.args.lane.now (record { cells = c.lane.inside.cells; known = c.lane.inside.notes; faults = c.lane.inside.faults; keys = c.lane.inside.keys }) _ (record { cells = c.fill_quietly.new.lane; known = c.lane.inside.notes; faults = c.lane.inside.faults; keys = c.lane.inside.keys }) c.lane.view_is c.keep_decided.ensures.frame c.fill_quietly.ensures.lane refl
+    fill_frame c.args.self.now.id c.args.lane.now (record { cells = c.lane.inside.cells; known = c.lane.inside.notes; faults = c.lane.inside.faults; keys = c.lane.inside.keys }) _ (record { cells = c.fill_quietly.new.lane; known = c.lane.inside.notes; faults = c.lane.inside.faults; keys = c.lane.inside.keys }) c.lane.view_is c.keep_wait.ensures.frame c.fill_quietly.ensures.lane refl
     c.args.claim c.kept.inside.number c.fill_quietly.ensures.filled.calls (λ m kept e. c.in-Ok.ensures.apart m kept (e ∙ c.kept.view_is))
 
 pub returns-in-Err-clause-events : goal.returns-in-Err-clause-events
 returns-in-Err-clause-events g c =
-    let b = c.keep_decided.new.lane.cells in
+    let b = c.keep_wait.new.lane.cells in
     let two : Calls c.args.self.now.id.cells.limits b.view c.abandon_quietly.new.lane.view (Abandon c.args.claim ∷ []) =
-    subst (λ (z : CellsId). Calls z.limits b.view c.abandon_quietly.new.lane.view (Abandon c.args.claim ∷ [])) {x = b.cells} c.keep_decided.ensures.lane.cells
+    subst (λ (z : CellsId). Calls z.limits b.view c.abandon_quietly.new.lane.view (Abandon c.args.claim ∷ [])) {x = b.cells} c.keep_wait.ensures.lane.cells
     (subst (λ (z : Lane). Calls z.cells.limits z.view c.abandon_quietly.new.lane.view (Abandon c.args.claim ∷ [])) (ap (λ (l : StoreLane g.row.V.Denot). l.cells) c.lane.view_is) c.abandon_quietly.ensures.abandoned.calls) in
     unkept c.args.self.now c.args.lane.now.cells b c.requires.lane.cells c.args.claim c.abandon_quietly.new.lane c.in-Err.unkept.1 c.in-Err.ensures.answer.fails (λ e. absurd (subst IsDecidedFault e c.in-Err.ensures.decided)) two
 
 pub returns-in-Err-clause-frame : goal.returns-in-Err-clause-frame
 returns-in-Err-clause-frame g c =
-    frames_compose c.args.self.now.id [] [] c.args.lane.now c.keep_decided.new.lane (record { cells = c.abandon_quietly.new.lane; known = c.lane.inside.notes; faults = c.lane.inside.faults; keys = c.lane.inside.keys }) c.keep_decided.ensures.frame
-    (storing_frame c.args.self.now.id (record { cells = c.lane.inside.cells; known = c.lane.inside.notes; faults = c.lane.inside.faults; keys = c.lane.inside.keys }) c.keep_decided.new.lane (record { cells = c.abandon_quietly.new.lane; known = c.lane.inside.notes; faults = c.lane.inside.faults; keys = c.lane.inside.keys }) c.lane.view_is c.keep_decided.ensures.lane c.abandon_quietly.ensures.lane refl
+    frames_compose c.args.self.now.id [] [] c.args.lane.now c.keep_wait.new.lane (record { cells = c.abandon_quietly.new.lane; known = c.lane.inside.notes; faults = c.lane.inside.faults; keys = c.lane.inside.keys }) c.keep_wait.ensures.frame
+    (storing_frame c.args.self.now.id (record { cells = c.lane.inside.cells; known = c.lane.inside.notes; faults = c.lane.inside.faults; keys = c.lane.inside.keys }) c.keep_wait.new.lane (record { cells = c.abandon_quietly.new.lane; known = c.lane.inside.notes; faults = c.lane.inside.faults; keys = c.lane.inside.keys }) c.lane.view_is c.keep_wait.ensures.lane c.abandon_quietly.ensures.lane refl
     (Abandon c.args.claim ∷ []) (nor_this (Abandon c.args.claim) [] refl none_stored) c.abandon_quietly.ensures.abandoned.calls)
 
 pub returns-in-Ok-clause-lane : goal.returns-in-Ok-clause-lane
@@ -77,5 +77,5 @@ returns-in-Err-clause-known g c =
     let on = subst (λ (l : StoreLane g.row.V.Denot). IsPrefix (seen_by l.cells.view) (seen_by c.abandon_quietly.new.lane.view)) c.lane.view_is (seen_goes_on c.abandon_quietly.ensures.abandoned.calls) in (
       unkept.handed_back,
       subst (λ (l : StoreLane g.row.V.Denot). KnowsUnkept c.args.lane.now.cells.view c.abandon_quietly.new.lane.view c.args.lane.now.known l.known c.in-Err.unkept.1) (sym c.lane.view_is)
-          (knows_until c.args.lane.now.cells.view c.keep_decided.new.lane.cells.view c.abandon_quietly.new.lane.view c.args.lane.now.known c.keep_decided.new.lane.known c.in-Err.unkept.1 on unkept.known),
+          (knows_until c.args.lane.now.cells.view c.keep_wait.new.lane.cells.view c.abandon_quietly.new.lane.view c.args.lane.now.known c.keep_wait.new.lane.known c.in-Err.unkept.1 on unkept.known),
     )

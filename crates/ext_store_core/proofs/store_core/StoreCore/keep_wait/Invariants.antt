@@ -1,5 +1,5 @@
-use Rattle.ext_store_core.proofs.Waited.{Waited}
+use Rattle.ext_store_core.proofs.DrawnAgain.{DrawsAgain}
 use Rattle.ext_store_core.proofs.store_core.StoreCore.keep_wait.Given as goal
 
 abbrev pub invariant-loop : goal.invariant-loop
-invariant-loop g l = Waited l.fn.lane l.lane
+invariant-loop l = DrawsAgain l.fn.lane l.lane l.counter

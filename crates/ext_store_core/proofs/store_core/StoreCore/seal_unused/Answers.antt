@@ -1,12 +1,18 @@
-use Rattle.std.proofs.Common.{◌≡◌, ◌+◌, ◌*◌, ◌≤◌, length, ap, arith, ◌∙◌}
+use Rattle.std.proofs.Common.{ap, arith, ◌∙◌}
 use Rattle.ext_cells.specs.Lanes.{CellsId}
-use Rattle.ext_store_core.proofs.Halves.{seals_unused}
+use Rattle.ext_store_core.specs.ContextCalls.{ContextCells}
+use Rattle.ext_store_core.proofs.Blocks.{block_fits, row_fits, seals_unused}
 use Rattle.ext_store_core.proofs.store_core.StoreCore.seal_unused.Goals as goal
+
+pub end_block-requires-clause-block : goal.end_block-requires-clause-block
+end_block-requires-clause-block c =
+    block_fits c.args.self.now c.args.context c.blocks-blocks.result c.args.block c.blocks-blocks.ensures.places _ c.requires.block
+    (row_fits c.args.self.now c.args.context _ (ap (λ (s : ContextCells). s.cells.limits.cells) c.self.view_is ∙ c.recall.ensures.cells) c.requires.context)
 
 pub returns-clause-answer : goal.returns-clause-answer
 returns-clause-answer c =
-    let contexts = length c.args.self.now.tree in
-    let cells : c.args.lane.now.cells.limits.cells ≡ contexts * 64 =
-    ap (λ (id : CellsId). id.limits.cells) c.requires.lane ∙ c.recall.ensures.cells ∙ ap (λ n. contexts * n) c.recall.ensures.keys in
-    seals_unused c.args.self.now c.args.context c.args.half c.recall.ensures.keys c.end_half.result c.args.lane.now c.end_half.new.lane c.end_half.ensures.ended c.requires.half
-    (omega (arith, cells, c.requires.context))
+    let places = c.blocks-blocks.ensures.places in
+    let within = c.requires.block in
+    seals_unused c.args.self.now c.args.context c.blocks-blocks.result c.args.block places c.end_block.result c.args.lane.now c.end_block.new.lane c.end_block.ensures.ended
+    (omega (arith, places, within))
+    (row_fits c.args.self.now c.args.context _ (ap (λ (id : CellsId). id.limits.cells) c.requires.lane ∙ c.recall.ensures.cells) c.requires.context)

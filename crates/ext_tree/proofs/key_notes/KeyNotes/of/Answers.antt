@@ -1,9 +1,8 @@
-use Rattle.std.proofs.Common.{rules, ◌≡◌, ℕ, List, inl, length, refl, subst, sym}
-use Rattle.std.proofs.lemmas.List.Elements.{All-replicate}
-use Rattle.ext_tree.specs.Keys.{AreHints, IsHint}
+use Rattle.std.proofs.Common.{arith, ◌≡◌, length}
+use Rattle.ext_tree.proofs.KeyIndexing.{nothing_indexed}
 use Rattle.ext_tree.proofs.key_notes.KeyNotes.of.Goals as goal
 
 pub invariant_of-result : goal.invariant_of-result
 invariant_of-result c =
-    let long : length c.args.entries ≡ 64 = search rules in
-    (long, subst (λ (l : List ℕ). AreHints c.args.entries l) (sym c.no_hints.ensures) (All-replicate (λ hint. IsHint c.args.entries hint) 128 0 (inl refl)))
+    let long : c.len.result ≡ length c.args.entries.items = omega arith in
+    nothing_indexed c.args.entries.items c.in_ok-index.index.hints.items c.len.result c.in_ok-index.index.next c.requires long c.in_ok-index.ensures.hints c.in_ok-index.ensures.next

@@ -1,0 +1,118 @@
+//! Contexts with more values than a block of keys has places, and with as many as there can be.
+ghost use Rattle.std.specs.Prelude.{◌≡◌, ◌<◌, ◌≤◌, All, length};
+ghost use Rattle.ext_store.specs.Stores.{IsCloserOf, IsLaneOf};
+
+use crate::full::number_key;
+use crate::opening::{Letter, Opened, closeable, open_store};
+use crate::{Log, close_logged};
+use ext_store::{Closer, Lane, Limits, Refusal, Store};
+use std::alloc::Global;
+use std::process::Abort;
+use std::slice;
+
+/// Has the lane keep so many letters and put each in the method, under a key of its own.
+fn put_many<R: Abort>(
+    rt: &R,
+    alloc: Global,
+    store: &Store<Letter>,
+    lane: &mut Lane<Letter>,
+    count: usize,
+)
+    requires lane { IsLaneOf store.now.id lane.old }
+    requires context { 2 < length store.now.tree }
+    ensures { IsLaneOf store.now.id lane.new }
+{
+    for number in 0..count {
+        let key = number_key(rt, alloc, number);
+        let Ok(kept) = store.keep(lane, closeable('x')) else {
+            panic!(rt; "no number");
+        };
+        let Ok(None) = store.put(lane, 2, &key, kept) else {
+            panic!(rt; "no put");
+        };
+    }
+}
+
+/// Asserts that no key after so many others gets a number.
+fn no_more_keys<R: Abort>(
+    rt: &R,
+    alloc: Global,
+    store: &Store<Letter>,
+    lane: &mut Lane<Letter>,
+    count: usize,
+)
+    requires { IsLaneOf store.now.id lane.old }
+    ensures { IsLaneOf store.now.id lane.new }
+{
+    let key = number_key(rt, alloc, count);
+    assert!(rt; store.number(lane, &key) == Err(Refusal::DirectoryFull));
+}
+
+/// Asserts that a close of the context gives its action the numbers from so many on down to 1.
+fn closes_latest_first<R: Abort>(
+    rt: &R,
+    alloc: Global,
+    store: &Store<Letter>,
+    lane: &mut Lane<Letter>,
+    closer: Closer,
+    count: usize,
+)
+    requires lane { IsLaneOf store.now.id lane.old }
+    requires closer { IsCloserOf store.now closer }
+{
+    let mut log = Log {
+        numbers: Vec::new(alloc),
+    };
+    let Ok(closed) = close_logged(store, closer, slice::from_mut(lane), &mut log) else {
+        panic!(rt; "not closed");
+    };
+    assert!(rt; closed.closed as usize == count && log.numbers.len() == count);
+    for (at, number) in log.numbers.iter().enumerate() {
+        assert!(rt; *number as usize == count.saturating_sub(at));
+    }
+}
+
+/// Puts so many letters in the method of a store for as many keys, the last of which there can be, and closes it.
+fn put_and_close<R: Abort>(rt: &R, alloc: Global, count: usize, places: usize) {
+    let limits = Limits {
+        lanes: 2,
+        tries: 8,
+        keys: count,
+        numbers: 1_024,
+        keep_faults: false,
+    };
+    let Some(opened) = open_store(alloc, limits) else {
+        panic!(rt; "no store");
+    };
+    let Opened {
+        store,
+        mut first,
+        second: _,
+        mut closers,
+    } = opened;
+    assert!(rt; store.key_count() == places);
+    put_many(rt, alloc, &store, &mut first, count);
+    if count == places {
+        no_more_keys(rt, alloc, &store, &mut first, count);
+    }
+    let Some(closer) = closers.pop() else {
+        panic!(rt; "no closer");
+    };
+    closes_latest_first(rt, alloc, &store, &mut first, closer, count);
+}
+
+/// Tests `Store::open`, `Store::key_count`, `Store::number`, `Store::put`, `Store::seal_unused`,
+/// `FallingNumbers::put_in` and `close`.
+#[test]
+fn many_values_are_closed_latest_first(rt: HostRuntime) {
+    for (count, places) in [
+        (1, 32),
+        (32, 32),
+        (33, 64),
+        (64, 64),
+        (65, 96),
+        (1_024, 1_024),
+    ] {
+        put_and_close(&rt, rt.alloc(), count, places);
+    }
+}
