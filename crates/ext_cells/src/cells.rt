@@ -343,10 +343,10 @@ impl Cells {
         self.end_claim(lane, cell, Act::Abandon(cell));
     }
 
-    /// Ends a block of 32 cells; block 0 has the cells 0 to 31. Seals at once all cells of the block
-    /// that never had an event, and answers the marks of the others, the first of the block in bit
-    /// 0. A cell that has a mark may still be empty. Of a block that was ended before, the call
-    /// only reads the marks. It is never refused, and makes one step.
+    /// Ends a block of 32 cells; block 0 has the cells 0 to 31. Seals at once all cells of the
+    /// block that never had an event, and answers the marks of the others, the first of the block
+    /// in bit 0. A cell that has a mark may still be empty. Of a block that was ended before, the
+    /// call only reads the marks. It is never refused, and makes one step.
     pub fn end_block(&self, lane: &mut CellLane, block: usize) -> u32
         requires lane { lane.old.cells ≡ self.now.id }
         requires block { block * 32 < self.now.id.limits.cells }

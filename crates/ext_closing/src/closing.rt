@@ -29,8 +29,8 @@ use ext_store::{Closer, Lane, Refusal, Store, StoreValue};
 /// Afterwards nothing is stored or claimed in the context, whatever key is named later.
 ///
 /// It costs a step for each block, a seal for each place that was used in the context, a look at
-/// each value that remains, and the calls of the action. The first lane makes at most `tries` + 1 steps for
-/// each seal, so no close waits for a factory. Takes no memory of its own.
+/// each value that remains, and the calls of the action. The first lane makes at most `tries` + 1
+/// steps for each seal, so no close waits for a factory. Takes no memory of its own.
 ///
 /// There must be at least one lane, and the lanes and the closer must be the store's.
 ///
@@ -71,7 +71,7 @@ pub fn close<V: StoreValue + Drop, A: CloseAction<V>>(
     }
 }
 
-// The same, with room for so many numbers.
+// The same, with room for so many numbers: a new list costs the more the more it has room for.
 fn close_within<V: StoreValue + Drop, A: CloseAction<V>, const ROOM: usize>(
     store: &Store<V>,
     closer: Closer,

@@ -77,9 +77,9 @@ impl<V: StoreValue + Drop> Store<V> {
     }
 
     /// Computes as `compute` does, but by the key's number, as `number` gives it. The factory is
-    /// called with the key that stands in the place of this number. The number must be below `key_count`,
-    /// and the lane must know its key, which `Lane::knows_key` tests. Refused as `compute` is,
-    /// except for the key. Takes memory for the value.
+    /// called with the key that stands in the place of this number. The number must be below
+    /// `key_count`, and the lane must know its key, which `Lane::knows_key` tests. Refused as
+    /// `compute` is, except for the key. Takes memory for the value.
     #[tactic(auto, unfolding(crate::specs::LaneCalls::Frame))]
     pub fn compute_numbered<F: FnOnce(&Key) -> Result<V, Fault>>(
         &self,
@@ -189,9 +189,9 @@ impl<V: StoreValue + Drop> Store<V> {
     }
 
     /// Computes as `compute_wait` does, but by the key's number, as `number` gives it. The factory
-    /// is called with the key that stands in the place of this number. The number must be below `key_count`,
-    /// and the lane must know its key, which `Lane::knows_key` tests. Refused as `compute_wait` is,
-    /// except for the key. Takes memory for the value. It may wait.
+    /// is called with the key that stands in the place of this number. The number must be below
+    /// `key_count`, and the lane must know its key, which `Lane::knows_key` tests. Refused as
+    /// `compute_wait` is, except for the key. Takes memory for the value. It may wait.
     #[tactic(auto, unfolding(crate::specs::LaneCalls::Frame))]
     pub fn compute_wait_numbered<R: Wait, F: FnOnce(&Key) -> Result<V, Fault>>(
         &self,

@@ -48,8 +48,8 @@ impl<V: StoreValue + Drop> Store<V> {
         self.place_drawn(&mut lane.notes, drawn, boxed)
     }
 
-    /// Keeps a value as `keep` does, but draws again at once where other lanes were in the way. They
-    /// have drawn numbers then, of which there are only so many: so it is never refused as
+    /// Keeps a value as `keep` does, but draws again at once where other lanes were in the way.
+    /// They have drawn numbers then, of which there are only so many: so it is never refused as
     /// `Contended`, and waits for nobody. It is otherwise refused as `keep` is, with the value
     /// handed back. Takes memory for the value.
     #[tactic(auto, unfolding(crate::specs::LaneCalls::KeepFails, crate::specs::LaneCalls::Frame))]

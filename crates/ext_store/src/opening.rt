@@ -33,9 +33,9 @@ fn are_store_limits(limits: &Limits) -> bool
     (1..=1024).contains(&limits.keys) && are_limits(0, limits.lanes, limits.tries, limits.numbers)
 }
 
-// The parts of a store with so many contexts: the cells, the places of values, of kept faults and of
-// keys, a lane for each lane of the limits, and a closer for each of the contexts. Or why it is not
-// opened.
+// The parts of a store with so many contexts: the cells, the places of values, of kept faults and
+// of keys, a lane for each lane of the limits, and a closer for each of the contexts. Or why it is
+// not opened.
 pub(crate) fn open_parts<V: Drop>(
     alloc: Global,
     contexts: ContextNo,

@@ -50,8 +50,8 @@ impl<V: StoreValue + Drop> Store<V> {
     }
 
     /// Stores the kept number as `put` does, but by the key's number, as `number` gives it. The
-    /// number must be below `key_count`, and need not have a key yet. Refused as `put` is, except for the
-    /// key.
+    /// number must be below `key_count`, and need not have a key yet. Refused as `put` is, except
+    /// for the key.
     #[tactic(auto, unfolding(crate::specs::LaneCalls::Frame))]
     pub fn put_numbered(
         &self,
@@ -109,8 +109,8 @@ impl<V: StoreValue + Drop> Store<V> {
     }
 
     /// Stores the kept number as `put_wait` does, but by the key's number, as `number` gives it.
-    /// The number must be below `key_count`, and need not have a key yet. Refused as `put_wait` is, except
-    /// for the key. It may wait.
+    /// The number must be below `key_count`, and need not have a key yet. Refused as `put_wait` is,
+    /// except for the key. It may wait.
     #[tactic(auto, unfolding(crate::specs::LaneCalls::Frame))]
     pub fn put_wait_numbered<R: Wait>(
         &self,

@@ -46,8 +46,8 @@ impl<V: StoreValue + Drop> Store<V> {
     }
 
     /// Takes what stands under the key as `remove` does, but by the key's number, as `number` gives
-    /// it. The number must be below `key_count`, and need not have a key yet. Refused as `remove` is, except
-    /// for the key.
+    /// it. The number must be below `key_count`, and need not have a key yet. Refused as `remove`
+    /// is, except for the key.
     #[tactic(auto, unfolding(crate::specs::LaneCalls::Frame))]
     pub fn remove_numbered(
         &self,
@@ -97,8 +97,8 @@ impl<V: StoreValue + Drop> Store<V> {
     }
 
     /// Takes what stands under the key as `remove_wait` does, but by the key's number, as `number`
-    /// gives it. The number must be below `key_count`, and need not have a key yet. Refused as `remove_wait`
-    /// is, except for the key. It may wait.
+    /// gives it. The number must be below `key_count`, and need not have a key yet. Refused as
+    /// `remove_wait` is, except for the key. It may wait.
     #[tactic(auto, unfolding(crate::specs::LaneCalls::Frame))]
     pub fn remove_wait_numbered<R: Wait>(
         &self,

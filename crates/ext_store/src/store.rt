@@ -29,9 +29,9 @@ use std::marker::Model;
 /// found from there and from all contexts below. A lane and a closer are used with the store that
 /// gave them out. A refused call changes nothing unless it says so.
 ///
-/// A key has one of so many numbers from the first call on that names it, for as long as the store
-/// lives. A look-up gives it one too, and so does a call that is then refused for another reason
-/// than the key.
+/// A key has a number from the first call on that names it, for as long as the store lives. A
+/// look-up gives it one too, and so does a call that is then refused for another reason than the
+/// key.
 ///
 /// Javadoc `ExtensionContext.Store`; JUnit 5 User Guide, section "Keeping State in Extensions".
 /// Numbers, lanes, claims, closers and refusals are own rules.

@@ -78,10 +78,10 @@ impl KeyPlaces {
     ///
     /// Among the places that these notes passed before, the key is looked up by its hash: one load
     /// and one comparison, and a few more if hashes collide. If it is not there, the places after
-    /// those are tried in order: one that holds another key is passed, once for all keys, and a free
-    /// one is offered a copy of the key. Memory is taken for copies only: none if a place already
-    /// holds the key, else one copy, and one more for each place that another thread sets in
-    /// between.
+    /// those are tried in order: one that holds another key is passed, once for all keys, and a
+    /// free one is offered a copy of the key. Memory is taken for copies only: none if a place
+    /// already holds the key, else one copy, and one more for each place that another thread sets
+    /// in between.
     ///
     /// A key that has a number in the notes is never refused. Any other is refused as `Memory` if
     /// it cannot be copied, at the first place that is not known to hold a key, and as

@@ -4,8 +4,8 @@
 //!
 //! Two types give each key a number. A `Directory` has one owner, which declares up to 64 keys, one
 //! after another; contracts see the list of its keys. `KeyPlaces` are up to 1,024 places, shared by
-//! several lanes, each of which may number a key at any time, without a lock; contracts see the list
-//! of the names of the places. `KeyNotes` are what one lane knows of each place.
+//! several lanes, each of which may number a key at any time, without a lock; contracts see the
+//! list of the names of the places. `KeyNotes` are what one lane knows of each place.
 #![tactic(auto)]
 
 mod building;
