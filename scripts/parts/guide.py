@@ -6,11 +6,10 @@ files that the blocks make are those of crates/test_engine, but for its name, th
 examples/server.
 
 Then the guide's commands are run in an empty folder, its files are written there, and the crate's tests are run by `rt try --test`, unproved. With --texts nothing is run. With
---prove they are run by `rt test`, which proves the crate: over the libraries that `rt check` has proved in this repository, and those below that it has not.
+--prove they are run by `rt test`, which proves the crate, and the libraries below it where no check on this machine has kept their proofs.
 """
 import pathlib
 import re
-import shutil
 import subprocess
 import tempfile
 
@@ -99,24 +98,16 @@ def faults_of_files(files):
             yield f"{path} of the guide is not that of crates/{PROVED}"
 
 
-def libraries(store):
-    """Copies the libraries, without what was built of them."""
-    hidden = shutil.ignore_patterns("out", "must-fail*")
-    for crate in TOP.glob("crates/ext_*"):
-        shutil.copytree(crate, store / "crates" / crate.name, ignore=hidden)
-    for name in ["crates.txt", "HANDLES"]:
-        shutil.copy(TOP / name, store / name)
-
-
-def follow(folder, store, commands, files):
-    """Runs the guide's commands in the folder, and writes its files."""
-    script = "\n".join(commands).replace("STORE", str(store))
+def follow(folder, commands, files):
+    """Runs the guide's commands in the folder, and writes its files; of crates.txt it replaces the crate's line."""
+    script = "\n".join(commands).replace("STORE", str(TOP))
     subprocess.run(["bash", "-ec", script], cwd=folder, check=True, stdout=subprocess.DEVNULL)
     for path, text in files.items():
         at = folder / path if path == "crates.txt" else folder / "crates" / CRATE / path
         at.parent.mkdir(parents=True, exist_ok=True)
-        with at.open("a" if path == "crates.txt" else "w", encoding="utf-8") as it:
-            it.write(text)
+        if path == "crates.txt":
+            text = re.sub(rf"(?m)^{CRATE}:.*\n", lambda _: text, at.read_text(encoding="utf-8"))
+        at.write_text(text, encoding="utf-8")
 
 
 def tests_passed(commands, files, proving):
@@ -124,11 +115,7 @@ def tests_passed(commands, files, proving):
     with tempfile.TemporaryDirectory(prefix="guide-") as name:
         folder = pathlib.Path(name) / "repository"
         folder.mkdir()
-        store = TOP
-        if not proving:
-            store = pathlib.Path(name) / "store"
-            libraries(store)
-        follow(folder, store, commands, files)
+        follow(folder, commands, files)
         words = ["rt", "test"] if proving else ["rt", "try", "--test"]
         ran = subprocess.run(words, cwd=folder / "crates" / CRATE, capture_output=True, text=True)
         found = PASSED.search(ran.stdout + ran.stderr)

@@ -32,6 +32,7 @@ def test(steps):
 # Each field, with the place of a fault in it, and the values that it may have. All other values are of another type.
 FIELDS = [
     ("keep_faults", "", ["true"]),
+    ("keys", "", ["1", "0x1"]),
     ("key", "", ["[]"]),
     ("node", "", ["[]"]),
     ("label", " key 0", ['"x"', '"[a:b]"']),
@@ -139,7 +140,7 @@ PLANS = [
     ("plan: P3", "when = 1979-05-27"),
     ("plan: P3", "Key = []"),
     ("plan: P3", '"" = 1'),
-    ("plan: P3", "[keys]"),
+    ("plan: P3", "Keys = 64"),
     ("plan: P3", "[[nodes]]"),
     ("plan: P3", "nodes.key = 1"),
     ("plan: P3", "keep_fault = true\n" + ROOT),
@@ -165,6 +166,12 @@ PLANS = [
     ("plan: P4", "keep_faults = [{}]\n" + ROOT),
     ("plan: P4", "keep_faults.x = true\n" + ROOT),
     ("plan: P4", "[keep_faults]\nx = true\n" + ROOT),
+    ("plan: P4", "[keys]"),
+    ("plan: P4", '[[keys]]\nlabel = "a"\n'),
+    ("plan: P4", "keys = 0\n" + ROOT),
+    ("plan: P4", "keys = -1\n" + ROOT),
+    ("plan: P4", "keys = 1025\n" + ROOT),
+    ("plan: P4", "keys = 9223372036854775807\n" + ROOT),
     ("plan: P4", 'key.label = "a"'),
     ("plan: P4", 'node.id = "[a:b]"'),
     ("plan: P4", '[key]\nlabel = "a"'),
@@ -272,6 +279,7 @@ PLANS = [
     ("plan: P3", "key = 1\nx = 1"),
     ("plan: P3", "keep_faults = 1\nkeep_fault = 1"),
     ("plan: P4", "keep_faults = 1\n" + key("x = 1")),
+    ("plan: P4", "keys = 0\n" + key("x = 1")),
     ("plan: P7", "keep_faults = true\n"),
     ("plan: P4", "key = 1\n" + node('id = "[a"')),
     ("plan: P4", "node = 1\n" + key("x = 1")),
@@ -395,6 +403,15 @@ LIMITS = [
     ("65 undeclared keys, a put of the last", undeclared(64, "put z x"), directory_full("put z")),
     ("65 undeclared keys, a compute of the last", undeclared(64, "compute! z x"), directory_full("compute! z")),
     ("65 undeclared keys, a fault for the last", undeclared(64, "computefail z x"), directory_full("computefail z")),
+    ("keys = 1, 32 undeclared keys", "keys = 1\n" + undeclared(32), nodes_report(["[a:b]"], 1)),
+    ("keys = 1, 33 undeclared keys", "keys = 1\n" + undeclared(32, "none z"), directory_full("none z")),
+    ("keys = 65, 96 undeclared keys", "keys = 65\n" + undeclared(96), nodes_report(["[a:b]"], 1)),
+    ("keys = 65, 97 undeclared keys", "keys = 65\n" + undeclared(96, "none z"), directory_full("none z")),
+    ("1,024 undeclared keys", "keys = 1024\n" + undeclared(1024), nodes_report(["[a:b]"], 1)),
+    ("1,025 undeclared keys", "keys = 1024\n" + undeclared(1024, "none z"), directory_full("none z")),
+    ("keys = 1024, 1,024 declared keys", "keys = 1024\n" + many_keys(1024) + ROOT, nodes_report(["[a:b]"])),
+    ("keys = 1024, 1,025 declared keys", "keys = 1024\n" + many_keys(1025) + ROOT, "plan: P11"),
+    ("keys = 1, 33 declared keys", "keys = 1\n" + many_keys(33) + ROOT, "plan: P11"),
     ("64 undeclared keys, the first one again", undeclared(64, "none k0"), nodes_report(["[a:b]"], 1)),
     ("256 nodes and no key", nodes_of(flat(256)), nodes_report(flat(256))),
     ("63 names of locks, one of them often", locks_and_one_of_all(63), nodes_report(["[a:b]"])),
@@ -407,7 +424,16 @@ LIMITS = [
     ("65,535 numbers and a fault that is not kept", FAULT_AFTER_PUTS, nodes_report(CHAIN_IDS, 1)),
     ("64 keys", many_keys(64) + ROOT, nodes_report(["[a:b]"])),
     ("65 keys", many_keys(65) + ROOT, "plan: P11"),
+    ("96 keys where 65 are asked for", "keys = 65\n" + many_keys(96) + ROOT, nodes_report(["[a:b]"])),
+    ("97 keys where 65 are asked for", "keys = 65\n" + many_keys(97) + ROOT, "plan: P11"),
+    ("33 keys where 1 is asked for", "keys = 1\n" + many_keys(33) + ROOT, "plan: P11"),
+    ("1,024 keys", "keys = 1024\n" + many_keys(1024) + ROOT, nodes_report(["[a:b]"])),
+    ("1,025 keys", "keys = 1024\n" + many_keys(1025) + ROOT, "plan: P11"),
+    ("1,024 undeclared keys", "keys = 1024\n" + undeclared(1024), nodes_report(["[a:b]"], 1)),
+    ("1,025 undeclared keys", "keys = 1024\n" + undeclared(1024, "none z"), directory_full("none z")),
+    ("33 undeclared keys where 1 is asked for", "keys = 1\n" + undeclared(32, "put z x"), directory_full("put z")),
     ("256 nodes and 64 keys", many_keys(64) + nodes_of(flat(256)), nodes_report(flat(256))),
+    ("256 nodes and 1,024 keys", "keys = 1024\n" + many_keys(1024) + nodes_of(flat(256)), nodes_report(flat(256))),
     ("257 nodes and no key", nodes_of(flat(257)), "plan: P7"),
     ("63 names of locks", locks(63), nodes_report(["[a:b]"])),
     ("64 names of locks", locks(64), "plan: P11"),
@@ -566,7 +592,9 @@ def main(program, _words):
         cases.run(f"step {step!r}", ["run"], test_below(f'"want a x", "{step}"'), "plan: P8 node 2")
     for callback, levels, ends, stays in UPS:
         tests = sum(end.endswith(" test") for end in ends)
-        wanted = f"ok, {len(ends) + 2} nodes, {tests} tests, 1 keys\n" if stays else "plan: P8 node 1"
+        below = sum(end.endswith(" test") and not end.startswith("1") for end in ends)
+        keys = int(callback.endswith("_all") or below > 0)  # the callback runs
+        wanted = f"ok, {len(ends) + 2} nodes, {tests} tests, {keys} of 64 keys\n" if stays else "plan: P8 node 1"
         cases.run(f"{callback} up {levels} with {ends}", ["check"], plan_going_up(callback, levels, ends), wanted)
     cases.run("a word that is no text", ["run", b"\xff"], "", "error: a word of the command line is not UTF-8")
     for text, lines in READ_IDS:

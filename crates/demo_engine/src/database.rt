@@ -1,5 +1,5 @@
 //! The database that the tests share.
-use sqlite::{Connection, params};
+use sqlite::{Alter, Connection, Error, params};
 use std::sync::{Mutex, Wait};
 
 /// What makes its table.
@@ -16,8 +16,7 @@ pub(crate) struct Database {
 impl Database {
     /// Makes the file, and the table in it.
     pub(crate) fn create(rt: &HostRuntime, file: String) -> anyhow::Result<Database> {
-        let mut connection = Connection::open(rt, file.as_str())?;
-        connection.execute_batch(TABLE)?;
+        make_table(Connection::open(rt, file.as_str()))?;
         Ok(Database {
             file,
             door: Mutex::new(0),
@@ -32,9 +31,7 @@ impl Database {
         question: &str,
     ) -> anyhow::Result<i64> {
         let _door = self.door.lock(rt);
-        let mut connection = Connection::open(files, self.file.as_str())?;
-        let row = connection.query_row(question, &[])?;
-        Ok(row.get(0)?)
+        number(Connection::open(files, self.file.as_str()), question)
     }
 
     /// Sets what Ann has.
@@ -45,11 +42,34 @@ impl Database {
         money: i64,
     ) -> anyhow::Result<()> {
         let _door = self.door.lock(rt);
-        let mut connection = Connection::open(files, self.file.as_str())?;
-        connection.execute(
-            "UPDATE account SET money = ?1 WHERE name = 'ann'",
-            params![money],
-        )?;
-        Ok(())
+        update_money(Connection::open(files, self.file.as_str()), money)
     }
+}
+
+// What is done over a connection does not name what it stands on, by which its proof costs half.
+
+/// Makes the table.
+fn make_table<S: Alter + Drop>(opened: Result<Connection<S>, Error>) -> anyhow::Result<()> {
+    Ok(opened?.execute_batch(TABLE)?)
+}
+
+/// The number that is answered to this question.
+fn number<S: Alter + Drop>(
+    opened: Result<Connection<S>, Error>,
+    question: &str,
+) -> anyhow::Result<i64> {
+    let row = opened?.query_row(question, &[])?;
+    Ok(row.get(0)?)
+}
+
+/// Sets what Ann has.
+fn update_money<S: Alter + Drop>(
+    opened: Result<Connection<S>, Error>,
+    money: i64,
+) -> anyhow::Result<()> {
+    opened?.execute(
+        "UPDATE account SET money = ?1 WHERE name = 'ann'",
+        params![money],
+    )?;
+    Ok(())
 }

@@ -1,5 +1,5 @@
 //! A run: what it goes over is opened, the nodes are run on four lanes, and the report is written.
-ghost use Rattle.std.specs.Prelude.{◌≡◌, [], ◌∷◌, IfOk, IsPermutation, codes, length};
+ghost use Rattle.std.specs.Prelude.{◌≡◌, ◌<◌, [], ◌∷◌, All, IfOk, IsPermutation, codes, length};
 ghost use Rattle.ext_store.specs.Stores.{closers_below};
 ghost use Rattle.ext_engine.specs.TreeRun.{IsUsable};
 
@@ -8,10 +8,10 @@ use crate::picture::Spans;
 use crate::shared::Shared;
 use crate::suite::{DemoSuite, TABLE};
 use crate::tests::{Keys, Tests};
-use ext_engine::{OpenGate, Opened, leaf_laws, open_run, read_ids, run_tree};
-use ext_report::{any_failed, report_text};
+use ext_engine::{EngineFault, OpenGate, Opened, leaf_laws, open_run, read_ids, run_tree};
+use ext_report::{NodeResult, any_failed, report_text};
 use ext_store::Limits;
-use ext_tree::{Key, Namespace};
+use ext_tree::{Key, Namespace, Tree};
 use std::alloc::Global;
 use std::sync::Wait;
 use std::sync::atomic::AtomicU32;
@@ -115,9 +115,21 @@ fn report_of<R: Threads + Wait + Sync>(
         lock_lanes.as_mut_slice(),
         closers,
         &OpenGate,
-    )?;
+    );
+    told(rt.alloc(), store.tree(), results)
+}
+
+/// What is told of a run over these nodes that had these results.
+fn told(
+    alloc: Global,
+    nodes: &Tree,
+    results: Result<Vec<NodeResult>, EngineFault>,
+) -> anyhow::Result<Report>
+    requires { IfOk results (λ results. All (λ r. r.node < length nodes.now) results.items) }
+{
+    let results = results?;
     Ok(Report {
-        text: report_text(rt.alloc(), store.tree(), results.as_slice())?,
+        text: report_text(alloc, nodes, results.as_slice())?,
         failed: any_failed(results.as_slice()),
     })
 }

@@ -1,5 +1,5 @@
 -- What a run of a plan on several lanes and its plain run begin with, and what both stand on.
-use Rattle.std.proofs.Common.{◌≡◌, ℕ, ◌<◌, true, List, [], ◌∷◌, length, refl, ap, sym, subst, ◌∙◌, arith}
+use Rattle.std.proofs.Common.{◌≡◌, ℕ, ◌<◌, ◌≤◌, true, List, [], ◌∷◌, length, refl, ap, sym, subst, ◌∙◌, arith}
 use mathlib.Core.List.{IsPrefix}
 use Rattle.ext_model.specs.declared.look.Fault.{Fault}
 use Rattle.ext_model.specs.History.{History, Limits}
@@ -14,7 +14,7 @@ use Rattle.ext_plain.specs.PlainRun.{node_run, run_opening}
 use Rattle.ext_plain.specs.ValueStates.{run_numbers, value_opening}
 use Rattle.ext_one_report.proofs.StoredRuns.{stand_once, unnamed_keep_nothing}
 use Rattle.ext_races.specs.Races.{number_limit}
-use Rattle.ext_races.specs.Touches.{numbers_drawn}
+use Rattle.ext_races.specs.Touches.{keys_named, numbers_drawn}
 use Rattle.ext_one_report.proofs.MatchingWords.{HasNumberIn, Places, RunView, cell_of}
 use Rattle.ext_one_report.proofs.Matching.{first_is_numbered, first_matches}
 use Rattle.ext_one_report.proofs.Covered.{cells, changed_in}
@@ -48,15 +48,20 @@ module _ (plan : PlanText) (lanes : ℕ) (results : List (ResultOf Fault)) (read
       cells_are_at_places (setting_in plan its run.locks) plan run.store run.numbered.numbering node context number key read run.store_is.tree refl (is_view plan lanes results run full).places named below
 
   -- before the run the same stands at any places: nothing
-  pub opens_level : (places : Places) → AreLevel plan its places (first_seen run.first.first) (value_opening plan.keep_faults)
-  opens_level places =
-      subst (λ h. AreLevel plan its places h (value_opening plan.keep_faults)) (sym (nothing_before plan lanes results run full)) (record {
-        matches = first_matches its places plan.keep_faults;
-        numbered = first_is_numbered places plan.keep_faults;
+  pub opens_level : length (keys_named plan) ≤ plan.key_places → (places : Places) → AreLevel plan its places (first_seen run.first.first) (value_opening plan.keep_faults plan.key_places)
+  opens_level few places =
+      subst (λ h. AreLevel plan its places h (value_opening plan.keep_faults plan.key_places)) (sym (nothing_before plan lanes results run full)) (record {
+        matches = first_matches its places plan.keep_faults plan.key_places;
+        numbered = first_is_numbered places plan.keep_faults plan.key_places;
         memory = refl;
         keeps = ap (λ (l : Limits). l.keep_faults) run.store_is.limits;
-        gave = record { values = refl; keys = record { different = λ i j d below inside. absurd (omega (arith, below, inside)); few = omega arith }; named = λ i d within. absurd (omega (arith, within)) };
-        of_plan = opens_of_plan plan plan.keep_faults;
+        gave = record {
+          values = refl;
+          keys = record { different = λ i j d below inside. absurd (omega (arith, below, inside)); few = omega arith };
+          named = λ i d within. absurd (omega (arith, within));
+          room = few;
+        };
+        of_plan = opens_of_plan plan plan.keep_faults plan.key_places;
       })
 
   -- at the end of the plain run there are numbers left

@@ -1,7 +1,7 @@
 -- Which cells the events of a run are on.
-use Rattle.std.proofs.Common.{◌≡◌, inl, inr, ℕ, ◌<◌, zero, suc, List, [], ◌∷◌, length, ap, sym, subst, ◌∙◌, arith}
+use Rattle.std.proofs.Common.{◌≡◌, inl, inr, ℕ, ◌<◌, List, [], ◌∷◌, length, ap, sym, subst, ◌∙◌}
 use Rattle.std.specs.Prelude.{All, Contains, IfSome, None, Option, Some, slice_get}
-use Rattle.std.proofs.lemmas.List.Elements.{All-contains, All-head, Contains-push_cases}
+use Rattle.std.proofs.lemmas.List.Elements.{All-contains, All-head}
 use base.Growing.{prefix_refl}
 use Rattle.ext_history.specs.Histories.{seen_by}
 use Rattle.ext_history.proofs.Lists.{contains_cons, contains_here, contains_later, contains_none}

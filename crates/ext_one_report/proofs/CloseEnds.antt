@@ -1,5 +1,5 @@
 -- The end of a node's context on several lanes, at places where they are alone, and in the plain run.
-use Rattle.std.proofs.Common.{◌≡◌, ◌≢◌, ◌<◌, ◌≤◌, ◌+◌, ◌*◌, ℕ, Bool, true, false, List, [], ◌∷◌, length, map, Contains, Option, None, Some, refl, ap, sym, subst, ◌∙◌, arith, eq-eqb}
+use Rattle.std.proofs.Common.{◌≡◌, ◌≢◌, ◌<◌, ◌≤◌, ℕ, Bool, true, false, List, [], ◌∷◌, length, map, Contains, Option, None, Some, refl, ap, sym, subst, ◌∙◌, eq-eqb}
 use Rattle.std.specs.Prelude.{All, IsPermutation, if◌then◌else◌, not, ◌&&◌, ◌==◌, option_map}
 use Rattle.std.proofs.lemmas.List.{length-map}
 use Rattle.std.proofs.lemmas.List.Elements.{All-contains, All-head}
@@ -26,7 +26,7 @@ use Rattle.ext_engine.specs.TreeRun.{ClosesNode}
 use Rattle.ext_parallel.specs.declared.steps.stored_value.StoredValue.{StoredValue}
 use Rattle.ext_parallel.specs.StoreCalls.{PlanLane, stored_view}
 use Rattle.ext_races.specs.Touches.{keys_named}
-use Rattle.ext_plain.specs.ValueStates.{ValueState, key_limit, value_of}
+use Rattle.ext_plain.specs.ValueStates.{ValueState, value_of}
 use Rattle.ext_plain.specs.ContextEnds.{closeables, faults_of_closes, seal_keys}
 use Rattle.ext_one_report.proofs.MatchingWords.{HasNumberIn, IsRunView, Places, RunView, cell_of, plain_meaning, plain_slot}
 use Rattle.ext_one_report.proofs.Rooms.{GaveFew}
@@ -44,12 +44,10 @@ use Rattle.ext_one_report.proofs.CloseFaults.{closeable, closeables_are, closes_
 use Rattle.ext_one_report.proofs.CloseLists.{there_of}
 use Rattle.ext_one_report.proofs.ClosePlain.{plain_seals_places}
 use Rattle.ext_one_report.proofs.CloseResults.{results_tell_no_order}
-use Rattle.ext_one_report.proofs.CloseSame.{number_within, same_remaining}
+use Rattle.ext_one_report.proofs.CloseSame.{same_remaining}
+use Rattle.ext_one_report.proofs.Matching.{number_within}
+use Rattle.ext_one_report.proofs.StoreCells.{cell_apart}
 use Rattle.ext_one_report.proofs.OfPlanEnds.{ends_tell_one, seals_of}
-
--- cells in different contexts differ
-cell_apart : (a b m n : ℕ) → m < 64 → n < 64 → a * 64 + m ≡ b * 64 + n → a ≡ b
-cell_apart a b m n less few same = omega (arith, less, few, same)
 
 both_true : (a b : Bool) → a && b ≡ true → (a ≡ true) × (b ≡ true)
 both_true true b is = (refl, is)
@@ -65,11 +63,7 @@ map_both (answer ∷ answers) = ap (λ l. text_in answer ∷ l) (map_both answer
 -- the cells of a context are those of no other
 pub other_cell : (run : RunView) → IsRunView run → (context node number k : ℕ) (key : KeyValue) → context ≢ node → HasNumberIn run key number → k < length run.store.id.keys
     → cell_of run number context ≢ cell_in run.store k node
-other_cell run view context node number k key other has less same =
-    let count = view.count in
-    let few = number_within run key number view has in
-    let P : ℕ → Type 0 = λ n. context * n + number ≡ node * n + k in
-    other (cell_apart context node number k (omega (arith, few, count)) (omega (arith, less, count)) (subst P count same))
+other_cell run view context node number k key other has less same = other (cell_apart run.store context node number k (number_within run key number view has) less same).0
 
 -- in the plain run the seals of a context leave what stands in another
 pub sealed_slot : (node : ℕ) (s t : ValueState) → SealsPlaces node s t → (context : ℕ) (key : KeyValue) → context ≢ node → plain_slot t context key ≡ plain_slot s context key
@@ -152,30 +146,30 @@ module _ (plan : PlanText) (run : RunView) (locks : LocksView) (h : History) (to
       some_key = key_of global_namespace []
 
       same_values : IsPermutation (there_of (λ number. closeable (run.meaning.values number)) (left node))
-          (there_of (λ number. closeable (value_of s.values number)) (remaining (λ i. (seal_keys key_limit node s).store.slots (node, i)) key_limit))
+          (there_of (λ number. closeable (value_of s.values number)) (remaining (λ i. (seal_keys s.places node s).store.slots (node, i)) s.places))
       same_values =
           let lanes = lanes_seal in
           let in_tree : node < length run.store.tree = subst (λ (n : ℕ). node < n) (sym (ap length close.basis.tree ∙ length-map plan.nodes (λ (n : NodeText). n.id))) close.inside in
           subst (λ l. IsPermutation (there_of (λ number. closeable (run.meaning.values number)) l)
-          (there_of (λ number. closeable (value_of s.values number)) (remaining (λ i. (seal_keys key_limit node s).store.slots (node, i)) key_limit))) seen_left
-          (same_remaining run close.basis.view node in_tree (seen_by lane.cells.view) (first_seen after) s (seal_keys key_limit node s) (keys_named plan)
+          (there_of (λ number. closeable (value_of s.values number)) (remaining (λ i. (seal_keys s.places node s).store.slots (node, i)) s.places))) seen_left
+          (same_remaining run close.basis.view node in_tree (seen_by lane.cells.view) (first_seen after) s (seal_keys s.places node s) (keys_named plan)
           (λ key number has. level.matches.slots node key number (close.all key) has) (λ key number has free. lanes.sealed key number has free)
           (λ key none. level.matches.unnumbered node key (close.all key) none) (plain_seals_places node s) level.gave
           (λ number past. level.numbered.beyond node some_key number (close.all some_key) past) seen_in
           (λ i j number a b. ap (λ (p : Place). p.1) (level.of_plan.once (node, i) (node, j) number a b)))
 
-      plain_told : faults_of_closes key_limit node (seal_keys key_limit node s)
-          ≡ map close_fault (there_of (λ number. closeable (value_of s.values number)) (remaining (λ i. (seal_keys key_limit node s).store.slots (node, i)) key_limit))
+      plain_told : faults_of_closes s.places node (seal_keys s.places node s)
+          ≡ map close_fault (there_of (λ number. closeable (value_of s.values number)) (remaining (λ i. (seal_keys s.places node s).store.slots (node, i)) s.places))
       plain_told =
-          let t = seal_keys key_limit node s in
-          let numbers = remaining (λ i. t.store.slots (node, i)) key_limit in
+          let t = seal_keys s.places node s in
+          let numbers = remaining (λ i. t.store.slots (node, i)) s.places in
           ap (λ values. map close_fault (closeables values numbers)) (plain_seals_places node s).values ∙ ap (map close_fault) (closeables_are s.values numbers)
 
-      pub same_texts : IsPermutation (map (option_map fault_text) faults) (faults_of_closes key_limit node (seal_keys key_limit node s))
+      pub same_texts : IsPermutation (map (option_map fault_text) faults) (faults_of_closes s.places node (seal_keys s.places node s))
       same_texts =
           let a = there_of (λ number. closeable (run.meaning.values number)) (left node) in
-          let b = there_of (λ number. closeable (value_of s.values number)) (remaining (λ i. (seal_keys key_limit node s).store.slots (node, i)) key_limit) in
-          subst (λ l. IsPermutation l (faults_of_closes key_limit node (seal_keys key_limit node s))) (sym lanes_told)
+          let b = there_of (λ number. closeable (value_of s.values number)) (remaining (λ i. (seal_keys s.places node s).store.slots (node, i)) s.places) in
+          subst (λ l. IsPermutation l (faults_of_closes s.places node (seal_keys s.places node s))) (sym lanes_told)
           (subst (λ l. IsPermutation (map close_fault a) l) (sym plain_told) (IsPermutation-map close_fault a b same_values))
 
   -- ---- the end of a node
@@ -205,9 +199,10 @@ module _ (plan : PlanText) (run : RunView) (locks : LocksView) (h : History) (to
       values = ap length plain.values ∙ (level.gave.values ∙ sym plain.drawn);
       keys = record {
         different = subst AreDifferent (sym plain.keys) level.gave.keys.different;
-        few = subst (λ (keys : List KeyValue). length keys ≤ key_limit) (sym plain.keys) level.gave.keys.few;
+        few = subst (λ n. length t.keys ≤ n) (sym plain.places) (subst (λ (keys : List KeyValue). length keys ≤ s.places) (sym plain.keys) level.gave.keys.few);
       };
       named = subst (All (Contains (keys_named plan))) (sym plain.keys) level.gave.named;
+      room = subst (λ n. length (keys_named plan) ≤ n) (sym plain.places) level.gave.room;
     }
 
     level_besides : IsOfPlan plan t → AreLevel plan run (besides node places) after t
@@ -228,12 +223,12 @@ module _ (plan : PlanText) (run : RunView) (locks : LocksView) (h : History) (to
   pub closes_end_level : ClosesEndLevel plan run locks h touched changes changed shares
   closes_end_level node is_test places lane rest outcomes faults after end close level alike =
       let s = end.state in
-      let t = seal_keys key_limit node s in
+      let t = seal_keys s.places node s in
       let lanes = lanes_seal node places lane rest faults after close in
       let texts = same_texts node places lane rest faults after close s level in
-      let plain = faults_of_closes key_limit node t in
+      let plain = faults_of_closes s.places node t in
       record {
-        level = level_besides node places (seen_by lane.cells.view) (first_seen after) s t (plain_seals_places node s) lanes level (seals_of plan key_limit node s level.of_plan);
+        level = level_besides node places (seen_by lane.cells.view) (first_seen after) s t (plain_seals_places node s) lanes level (seals_of plan s.places node s level.of_plan);
         told = told_alike run places node is_test outcomes lane end faults alike
             ∙ sym (results_tell_no_order node is_test end.calls end.computed end.found plain (map (option_map fault_text) faults)
             (IsPermutation-sym (map (option_map fault_text) faults) plain texts) (ends_tell_one plan node s close.basis.closes level.of_plan));

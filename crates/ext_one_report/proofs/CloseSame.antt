@@ -11,18 +11,18 @@ use Rattle.ext_model.specs.History.{History, slots_in}
 use Rattle.ext_tree.specs.Keys.{HasNumber, HoldsOther, KeyValue, KnownPlace, PassedBefore, key_at}
 use Rattle.ext_tree.specs.Traits.{key_eq}
 use Rattle.ext_tree.proofs.Equalities.{keys_Decides}
-use Rattle.ext_tree.proofs.KeyPlacing.{key_within, length-places, one_key, one_number}
+use Rattle.ext_tree.proofs.KeyPlacing.{key_within, one_key, one_number}
 use Rattle.ext_tree.proofs.Numbers.{contains_at, one_place}
 use Rattle.ext_plan.specs.StoreKeys.{is_there, place_of_key}
 use Rattle.ext_plan.specs.Values.{ValueText}
 use Rattle.ext_plan.proofs.KeyLists.{has_place, place_within}
-use Rattle.ext_plain.specs.ValueStates.{ValueState, key_limit, value_of}
+use Rattle.ext_plain.specs.ValueStates.{ValueState, value_of}
 use Rattle.ext_plain.proofs.Numberings.{there_by}
 use Rattle.ext_one_report.proofs.StoredWords.{number_in}
 use Rattle.ext_one_report.proofs.StandingsWords.{AreMatched, Standing, fault, nothing, sealed, standing_of, value}
 use Rattle.ext_one_report.proofs.MatchingWords.{HasNumberIn, IsRunView, RunView, TextMeaning, cell_of, plain_meaning, plain_slot}
 use Rattle.ext_one_report.proofs.Rooms.{GaveFew}
-use Rattle.ext_one_report.proofs.Matching.{plain_none, plain_there}
+use Rattle.ext_one_report.proofs.Matching.{number_within, plain_none, plain_there}
 use Rattle.ext_one_report.proofs.Standings.{Holds, holds}
 use Rattle.ext_one_report.proofs.Closes.{SealsPlaces, seal_of}
 use Rattle.ext_one_report.proofs.Levels.{HoldsOnce}
@@ -153,12 +153,6 @@ numbered_or_not run key = elim (numbered_below run key (length run.numbering)) [
   | inr none ↦ inr (λ number has. none number (key_within run.numbering number key has.there) has)
 ]
 
-pub number_within : (run : RunView) (key : KeyValue) (number : ℕ) → IsRunView run → HasNumberIn run key number → number < length run.store.id.keys
-number_within run key number view has =
-    let within : number < length run.numbering = key_within run.numbering number key has.there in
-    let same : length run.numbering ≡ length run.store.id.keys = length-places run.numbering run.store.id.keys view.places in
-    omega (arith, within, same)
-
 -- each number below the count is that of a key
 key_there : (keys : List KeyValue) (i : ℕ) → i < length keys → (key : KeyValue) × HasNumber keys key i
 key_there [] i less = absurd (omega (arith, less))
@@ -208,7 +202,7 @@ module _ (run : RunView) (view : IsRunView run) (node : ℕ) (inside : node < le
       plain_there s node key there ∙ ap (λ k. s.store.slots (node, k)) (one_place s.keys gave.keys.different key (place_of_key s.keys key) i (has_place s.keys key there) has)
 
   -- what the seals of one key keep
-  same_seals : (i n : ℕ) → i < key_limit → OneKeys i n → kept_in run.meaning.values (cells n) ≡ kept_in (λ number. value_of s.values number) (places i)
+  same_seals : (i n : ℕ) → i < s.places → OneKeys i n → kept_in run.meaning.values (cells n) ≡ kept_in (λ number. value_of s.values number) (places i)
   same_seals i n less one =
       let key = one.0 in
       let m = matches key n one.2 in
@@ -218,7 +212,7 @@ module _ (run : RunView) (view : IsRunView run) (node : ℕ) (inside : node < le
       ap (kept_in run.meaning.values) here ∙ (same_kept run.meaning (plain_meaning s.values) (slots_in (cell_of run n) h node) (plain_slot s node key) m ∙ sym (ap (kept_in (λ number. value_of s.values number)) beside))
 
   -- a place whose seal keeps a value is that of a key
-  to_number : (i : ℕ) (v : ValueText) → i < key_limit → kept_in (λ number. value_of s.values number) (places i) ≡ Some v → (n : ℕ) × (n < count) × OneKeys i n
+  to_number : (i : ℕ) (v : ValueText) → i < s.places → kept_in (λ number. value_of s.values number) (places i) ≡ Some v → (n : ℕ) × (n < count) × OneKeys i n
   to_number i v less is = elim (cases_lt i (length s.keys)) [
     | inr past ↦
         let none : places i ≡ Some (slot.Sealed None) = plain.sealed i less ∙ ap seal_of (beyond i past) in
@@ -234,7 +228,7 @@ module _ (run : RunView) (view : IsRunView run) (node : ℕ) (inside : node < le
   ]
 
   -- and so is a cell
-  from_number : (n : ℕ) (v : ValueText) → n < count → kept_in run.meaning.values (cells n) ≡ Some v → (i : ℕ) × (i < key_limit) × OneKeys i n
+  from_number : (n : ℕ) (v : ValueText) → n < count → kept_in run.meaning.values (cells n) ≡ Some v → (i : ℕ) × (i < s.places) × OneKeys i n
   from_number n v less is = elim (named_or_not run n) [
     | inr none ↦ let k = has_kept run.meaning.values (cells n) v is in absurd (once.unnamed node n inside less none k.0 k.1)
     | inl one ↦
@@ -259,22 +253,22 @@ module _ (run : RunView) (view : IsRunView run) (node : ℕ) (inside : node < le
       let same : node * count + i ≡ node * count + j = once.once (cell_of run i node) (cell_of run j node) number (ap number_in x) (ap number_in y) in
       omega (arith, same)
 
-  places_once : (i j number : ℕ) → i < key_limit → j < key_limit → places i ≡ Some (slot.Sealed (Some number)) → places j ≡ Some (slot.Sealed (Some number)) → i ≡ j
+  places_once : (i j number : ℕ) → i < s.places → j < s.places → places i ≡ Some (slot.Sealed (Some number)) → places j ≡ Some (slot.Sealed (Some number)) → i ≡ j
   places_once i j number a b x y =
       plain_once i j number (kept_stood (s.store.slots (node, i)) number (sym (plain.sealed i a) ∙ x)) (kept_stood (s.store.slots (node, j)) number (sym (plain.sealed j b) ∙ y))
 
   -- so the values that remain to be closed are the same in both, in another order
-  pub same_remaining : IsPermutation (there_of (λ number. closeable (run.meaning.values number)) (remaining cells count)) (there_of (λ number. closeable (value_of s.values number)) (remaining places key_limit))
+  pub same_remaining : IsPermutation (there_of (λ number. closeable (run.meaning.values number)) (remaining cells count)) (there_of (λ number. closeable (value_of s.values number)) (remaining places s.places))
   same_remaining =
       let v : ℕ → Option ValueText = λ number. closeable (run.meaning.values number) in
       let w : ℕ → Option ValueText = λ number. closeable (value_of s.values number) in
       let f : ℕ → Option ValueText = λ n. kept_in run.meaning.values (cells n) in
       let g' : ℕ → Option ValueText = λ i. kept_in (λ number. value_of s.values number) (places i) in
-      let pairs : ArePaired OneKeys one_second one_first count key_limit f g' = record {
+      let pairs : ArePaired OneKeys one_second one_first count s.places f g' = record {
         to = λ i a less is. to_number i a less is;
         same = λ i n less one. same_seals i n less one;
         from = λ n a less is. from_number n a less is;
       } in
       IsPermutation-trans _ (gather f count) _ (remaining_there v cells count cells_once)
-      (IsPermutation-trans _ (gather g' key_limit) _ (paired OneKeys one_second one_first count key_limit f g' pairs)
-      (IsPermutation-sym (there_of w (remaining places key_limit)) (gather g' key_limit) (remaining_there w places key_limit places_once)))
+      (IsPermutation-trans _ (gather g' s.places) _ (paired OneKeys one_second one_first count s.places f g' pairs)
+      (IsPermutation-sym (there_of w (remaining places s.places)) (gather g' s.places) (remaining_there w places s.places places_once)))

@@ -15,7 +15,7 @@ use Rattle.ext_plan.specs.Plans.{PlanText}
 use Rattle.ext_engine.specs.Meeting.{HasSeenWithin, first_seen}
 use Rattle.ext_engine.specs.TreeRun.{ClosesNode}
 use Rattle.ext_parallel.specs.StoreCalls.{PlanLane}
-use Rattle.ext_plain.specs.ValueStates.{ValueState, key_limit}
+use Rattle.ext_plain.specs.ValueStates.{ValueState}
 use Rattle.ext_plain.specs.ContextEnds.{faults_of_closes, seal_keys}
 use Rattle.ext_plain.specs.NodeCalls.{CallsEnd}
 use Rattle.ext_plain.specs.PlainRun.{outcome_of}
@@ -39,9 +39,10 @@ seal_of (Some (slot.Sealed kept)) = Some (slot.Sealed kept)
 
 -- From one state of a plain run to another: the places of all numbers of keys are sealed in this context, and nothing else is changed
 pub record SealsPlaces (node : ℕ) (before after : ValueState) : Type 0 where
-  pub sealed : (key : ℕ) → key < key_limit → after.store.slots (node, key) ≡ seal_of (before.store.slots (node, key))
+  pub sealed : (key : ℕ) → key < before.places → after.store.slots (node, key) ≡ seal_of (before.store.slots (node, key))
   pub others : (context key : ℕ) → context ≢ node → after.store.slots (context, key) ≡ before.store.slots (context, key)
   pub drawn : after.store.drawn ≡ before.store.drawn
+  pub places : after.places ≡ before.places
   pub keys : after.keys ≡ before.keys
   pub values : after.values ≡ before.values
   pub memory : after.memory ≡ before.memory
@@ -49,7 +50,7 @@ pub record SealsPlaces (node : ℕ) (before after : ValueState) : Type 0 where
 
 -- so is it at the end of a context
 abbrev pub PlainSealsPlaces : Type 0
-PlainSealsPlaces = (node : ℕ) (s : ValueState) → SealsPlaces node s (seal_keys key_limit node s)
+PlainSealsPlaces = (node : ℕ) (s : ValueState) → SealsPlaces node s (seal_keys s.places node s)
 
 -- From one history to a later one: the cells of this context are sealed, and those of these places in other contexts are as before
 pub record SealsCells (run : RunView) (node : ℕ) (places : Places) (before after : History) : Type 0 where
@@ -62,9 +63,9 @@ pub record SealsCells (run : RunView) (node : ℕ) (places : Places) (before aft
 
 -- A node's context is closed on lanes and in the plain run: the same stands at all other places after it, and one result is told of the node
 pub record ClosesLevel (plan : PlanText) (run : RunView) (node : ℕ) (places : Places) (is_test : Bool) (outcomes : List Outcome) (faults : List (Option Fault)) (after : History) (end : CallsEnd) : Type 0 where
-  pub level : AreLevel plan run (besides node places) after (seal_keys key_limit node end.state)
+  pub level : AreLevel plan run (besides node places) after (seal_keys end.state.places node end.state)
   pub told : with_fault_told fault_text (result_of node is_test (endings_of outcomes) (computed_in outcomes) (found_in outcomes) faults)
-      ≡ outcome_of node is_test end (faults_of_closes key_limit node (seal_keys key_limit node end.state))
+      ≡ outcome_of node is_test end (faults_of_closes end.state.places node (seal_keys end.state.places node end.state))
 
 module _ (plan : PlanText) (run : RunView) (locks : LocksView) (h : History) (touched changes : ℕ → Places) (changed : ℕ → List ℕ) (shares : ℕ → Open) where
   -- a node's context is closed on lanes, the first of which is this, that are alone at these places, among them all of the context, whatever others do meanwhile

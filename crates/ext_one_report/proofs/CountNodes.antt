@@ -22,7 +22,7 @@ use Rattle.ext_races.proofs.Paths.{path_is}
 use Rattle.ext_plain.specs.NodeCalls.{CallsEnd, call_run, make, make_all, make_befores, make_if_successful, no_calls}
 use Rattle.ext_plain.specs.PlainRun.{RunState, body_run, container_run, node_run, run_opening, test_node_run}
 use Rattle.ext_plain.specs.StepRuns.{StepEnd}
-use Rattle.ext_plain.specs.ValueStates.{ValueState, key_limit}
+use Rattle.ext_plain.specs.ValueStates.{ValueState}
 use Rattle.ext_plain.proofs.Below.{children-all}
 use Rattle.ext_plain.proofs.Ends.{body_end, container_end, test_end}
 use Rattle.ext_plain.proofs.Nodes.{child_path, node_run-suc, node_run-zero, start_is}
@@ -206,7 +206,7 @@ module _ (plan : PlanText) where
         let first = before_node false node path r.state g in
         let second = body_draws path_run (all_successful before.calls) node path opened within start each first.goes in
         let third = after_node false node path (record before { state = body.state }) second.goes in
-        let last = seals_draw keeps key_limit node end.state third.goes in
+        let last = seals_draw keeps end.state.places node end.state third.goes in
         let cost = calls_cost node path false same is in
         let whole = with_children node within in
         draws_more keeps (befores + (inner + (afters + 0))) (cost_below node) r.state sealed (omega (arith, cost, whole))
@@ -226,7 +226,7 @@ module _ (plan : PlanText) where
         let first = before_node true node path r.state g in
         let second = made_draws keeps cost_of_call (call_run plan path) (one_draws path) (test_call node) before first.goes in
         let third = after_node true node path body second.goes in
-        let last = seals_draw keeps key_limit node end.state third.goes in
+        let last = seals_draw keeps end.state.places node end.state third.goes in
         let cost = calls_cost node path true same is in
         let whole = with_children node within in
         draws_more keeps (befores + (test + (afters + 0))) (cost_below node) r.state sealed (omega (arith, cost, whole))

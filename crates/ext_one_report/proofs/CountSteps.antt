@@ -70,14 +70,14 @@ named_same full key s = refl
 -- a step that may draw no number keeps no value
 none_kept : (keys : List KeyText) (path : List ℕ) (step : StepText) (s : ValueState) → draws s.keep_faults step ≡ false → (step_run keys path step s).state.values ≡ s.values
 none_kept keys path (keyed words.Want key text up) s none =
-    number_same (codes "want") (label_of keys key) (key_of_step keys key) (want_numbered enough (codes "want") (label_of keys key) (drop up path) text) s (numbering_of s.keys (key_of_step keys key)) (λ number t same. same)
+    number_same (codes "want") (label_of keys key) (key_of_step keys key) (want_numbered enough (codes "want") (label_of keys key) (drop up path) text) s (numbering_of s.places s.keys (key_of_step keys key)) (λ number t same. same)
 none_kept keys path (keyed words.None key text up) s none =
-    number_same (codes "none") (label_of keys key) (key_of_step keys key) (none_numbered enough (codes "none") (label_of keys key) (drop up path)) s (numbering_of s.keys (key_of_step keys key)) (λ number t same. same)
+    number_same (codes "none") (label_of keys key) (key_of_step keys key) (none_numbered enough (codes "none") (label_of keys key) (drop up path)) s (numbering_of s.places s.keys (key_of_step keys key)) (λ number t same. same)
 none_kept keys path (keyed words.Remove key text up) s none =
-    number_same (codes "remove") (label_of keys key) (key_of_step keys key) (remove_numbered enough (codes "remove") (label_of keys key) (drop up path)) s (numbering_of s.keys (key_of_step keys key)) (λ number t same. same)
+    number_same (codes "remove") (label_of keys key) (key_of_step keys key) (remove_numbered enough (codes "remove") (label_of keys key) (drop up path)) s (numbering_of s.places s.keys (key_of_step keys key)) (λ number t same. same)
 none_kept keys path (keyed words.ComputeFail key text up) s none =
     let k = key_of_step keys key in
-    ap (λ (t : ValueState). t.values) (no_fault_stays keys path key up text s none) ∙ named_same (numbering_of s.keys k) k s
+    ap (λ (t : ValueState). t.values) (no_fault_stays keys path key up text s none) ∙ named_same (numbering_of s.places s.keys k) k s
 none_kept keys path (keyed word key text up) s none = absurd cc
 none_kept keys path (fail text) s none = refl
 none_kept keys path (abort text) s none = refl

@@ -1,5 +1,5 @@
 -- The cells that the nodes of a plan change are those of the steps of their calls and of their contexts, and are at places that they may change.
-use Rattle.std.proofs.Common.{◌≡◌, ◌≢◌, ◌<◌, ◌/◌, ◌%◌, ◌⊎◌, ℕ, Bool, true, false, List, [], ◌∷◌, ◌++◌, length, Contains, drop, Option, Some, None, refl, ap, sym, subst, ◌∙◌, arith, inl, inr, append_assoc}
+use Rattle.std.proofs.Common.{◌≡◌, ◌≢◌, ◌<◌, ◌⊎◌, ℕ, Bool, true, false, List, [], ◌∷◌, ◌++◌, length, Contains, drop, Option, Some, None, refl, ap, sym, subst, ◌∙◌, arith, inl, inr, append_assoc}
 use Rattle.std.specs.Prelude.{is_some}
 use Rattle.std.specs.List.{flat_map, position_or_len, range_with_len}
 use Rattle.std.proofs.lemmas.Bool.{false_from_ne_true}
@@ -7,7 +7,6 @@ use Rattle.std.proofs.lemmas.List.{length-map}
 use Rattle.std.proofs.lemmas.List.Elements.{Contains-append_cases, Contains-append_left, Contains-append_right}
 use Rattle.std.proofs.lemmas.List.Quantifiers.{position-Some}
 use Rattle.std.proofs.lemmas.List.Sums.{position_or_len_is}
-use Rattle.std.proofs.lemmas.Nat.{div-mul-add, mod-mul-add}
 use Rattle.ext_tree.specs.Keys.{AreKeyNotesOf, IsKeyNumber, KeyValue, KnownPlace, key_at, unknown_place}
 use Rattle.ext_tree.specs.Traits.{key_eq}
 use Rattle.ext_tree.specs.Trees.{IsPathOf}
@@ -35,6 +34,7 @@ use Rattle.ext_one_report.proofs.CoveredCalls.{made_path}
 use Rattle.ext_one_report.proofs.CoveredPaths.{has_context, path_there}
 use Rattle.ext_one_report.proofs.CoveredPlans.{IsTouchedBelow, changed_by_touch, changed_own, path_of_context, step_changes, within_found, within_told}
 use Rattle.ext_one_report.proofs.CoveredTouches.{in_range}
+use Rattle.ext_one_report.proofs.StoreCells.{cell_apart}
 
 -- ---- the number of a key
 
@@ -185,14 +185,6 @@ cells_are_changed plan store locks numbering read tree = record {
 
 -- ---- cells are at places
 
--- a cell tells its context and its number
-pub cells_apart : (store : StoreView) (a b m n : ℕ) → m < length store.id.keys → n < length store.id.keys → cell_in store m a ≡ cell_in store n b → (a ≡ b) × (m ≡ n)
-cells_apart store a b m n less few same =
-    let count = length store.id.keys in (
-      sym (div-mul-add a count m less) ∙ (ap (λ k. k / count) same ∙ div-mul-add b count n few),
-      sym (mod-mul-add a count m less) ∙ (ap (λ k. k % count) same ∙ mod-mul-add b count n few),
-    )
-
 module _ (plan : PlanText) (read : IsReadPlan plan) where
   -- the node is this one or below it
   pub below_told : (node one : ℕ) → IsAtOrBelow (ids_of_nodes plan.nodes) node one → is_within plan node one ≡ true
@@ -227,7 +219,7 @@ module _ (plan : PlanText) (read : IsReadPlan plan) where
       let count = length-places numbering store.id.keys notes in
       let less = key_within numbering number key named in
       let within = is.within in
-      let parts = cells_apart store (start_of (drop is.up (plan_path plan node))) context is.number number (omega (arith, within, count)) (omega (arith, less, count)) is.cell_is in
+      let parts = cell_apart store (start_of (drop is.up (plan_path plan node))) context is.number number (omega (arith, within, count)) (omega (arith, less, count)) is.cell_is in
       let keys : Some (key_of_step plan.keys is.key) ≡ Some key = sym is.named ∙ (ap (key_at numbering) parts.1 ∙ named) in
       let key_is : key_of_step plan.keys is.key ≡ key = cc keys in
       subst (λ c. IsTouchedBelow plan node c key true) parts.0
@@ -243,7 +235,7 @@ cells_are_at_places t plan store numbering node context number key read tree sam
     let count = length-places numbering store.id.keys notes in
     elim (cell_cases plan store numbering is.one (cell_in store number context) is.has) [
       | inl own ↦
-          let parts = cells_apart store is.one context own.0 number own.1 (omega (arith, less, count)) own.2 in
+          let parts = cell_apart store is.one context own.0 number own.1 (omega (arith, less, count)) own.2 in
           let size = length-map plan.nodes (λ n. n.id) in
           let near = has_context ids read.runnable.tree is.one below.path below.path_is in
           changed_own plan node context key

@@ -17,7 +17,7 @@ use Rattle.ext_races.specs.Acts.{act_of}
 use Rattle.ext_races.specs.MadeSteps.{MadeText, calls_of, made_by, steps_made}
 use Rattle.ext_races.specs.Touches.{key_of_act, key_of_made, keys_named, keys_of_steps, with_key_of}
 use Rattle.ext_races.proofs.Lists.{all_contained}
-use Rattle.ext_plain.specs.ValueStates.{ValueState, key_limit}
+use Rattle.ext_plain.specs.ValueStates.{ValueState}
 use Rattle.ext_plain.specs.ContextEnds.{seal_keys}
 use Rattle.ext_plain.specs.PlainRun.{RunState, node_run}
 use Rattle.ext_plain.specs.PlainRunLaws.{NamesOneOf}
@@ -73,7 +73,12 @@ module _ (names : List KeyValue) where
   seals_few zero node s few = few
   seals_few (suc key) node s few =
       let before = seals_few key node s few in
-      record { values = act-values (Seal (node, key)) (seal_keys key node s) refl before.values; keys = record { different = before.keys.different; few = before.keys.few }; named = before.named }
+      record {
+        values = act-values (Seal (node, key)) (seal_keys key node s) refl before.values;
+        keys = record { different = before.keys.different; few = before.keys.few };
+        named = before.named;
+        room = before.room;
+      }
 
   -- any node of the plan
   abbrev Any : ℕ → List ℕ → Type 0
@@ -84,7 +89,7 @@ module _ (names : List KeyValue) where
     below = λ parent child path is parented any. tt;
     calls = λ node path call s any is there few. few_are_given names plan.keys path (steps_of_call plan call) s few
         (subst (λ ns. All (NamesOneOf ns plan.keys) (steps_of_call plan call)) (sym are) (calls_name_keys plan node call (within_nodes plan node path tree is) there));
-    seals = λ node path s any is few. seals_few key_limit node s few;
+    seals = λ node path s any is few. seals_few s.places node s few;
   }
 
 pub nodes_give_few : (plan : PlanText) (levels node : ℕ) (path : List ℕ) (r : RunState) → NodesAreTree plan → IsPathOf (ids_of_nodes plan.nodes) node path

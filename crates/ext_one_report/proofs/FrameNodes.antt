@@ -17,7 +17,7 @@ use Rattle.ext_plan.specs.ReadPlans.{NodesAreTree, TestsHaveNoChildren, ids_of_n
 use Rattle.ext_races.specs.MadeSteps.{calls_of, plan_path}
 use Rattle.ext_races.proofs.Lists.{all_contained, contains_first}
 use Rattle.ext_races.proofs.Paths.{path_is}
-use Rattle.ext_plain.specs.ValueStates.{ValueState, key_limit}
+use Rattle.ext_plain.specs.ValueStates.{ValueState}
 use Rattle.ext_plain.specs.ContextEnds.{seal_keys}
 use Rattle.ext_plain.specs.NodeCalls.{CallsEnd, befores_run, call_run, make, make_all, make_befores, make_if_successful, no_calls, test_run}
 use Rattle.ext_plain.specs.PlainRun.{RunState, body_run, container_run, node_run, test_node_run}
@@ -79,7 +79,7 @@ module _ (plan : PlanText) (node : ℕ) (path : List ℕ) (is_test : Bool) (on :
 pub record KeepNodes (plan : PlanText) (Of : ℕ → List ℕ → Type 0) (P : ValueState → Type 0) : Type 0 where
   pub below : (parent child : ℕ) (path : List ℕ) → IsPathOf (ids_of_nodes plan.nodes) parent path → IsParentOf (ids_of_nodes plan.nodes) parent child → Of parent path → Of child (child ∷ path)
   pub calls : (node : ℕ) (path : List ℕ) (call : Call) (s : ValueState) → Of node path → IsPathOf (ids_of_nodes plan.nodes) node path → Contains (calls_of plan node) call → P s → P (call_run plan path call s).state
-  pub seals : (node : ℕ) (path : List ℕ) (s : ValueState) → Of node path → IsPathOf (ids_of_nodes plan.nodes) node path → P s → P (seal_keys key_limit node s)
+  pub seals : (node : ℕ) (path : List ℕ) (s : ValueState) → Of node path → IsPathOf (ids_of_nodes plan.nodes) node path → P s → P (seal_keys s.places node s)
 
 module _ (plan : PlanText) (Of : ℕ → List ℕ → Type 0) (P : ValueState → Type 0) (keep : KeepNodes plan Of P) (tree : NodesAreTree plan) where
   abbrev ids : List Id
@@ -195,9 +195,9 @@ module _ (plan : PlanText) (touched changes : ℕ → Places) (covered : AreCove
       (leaves_more (changes node) (changes root) no_context (is_within plan root) t after part.changed nothing_closed
       (call_leaves plan touched changes covered node path is call t there (left.memory none)))
 
-  part_seals : (node : ℕ) (path : List ℕ) (t : ValueState) → IsPartOf changes root node path → IsPathOf (ids_of_nodes plan.nodes) node path → Left t → Left (seal_keys key_limit node t)
+  part_seals : (node : ℕ) (path : List ℕ) (t : ValueState) → IsPartOf changes root node path → IsPathOf (ids_of_nodes plan.nodes) node path → Left t → Left (seal_keys t.places node t)
   part_seals node path t part is left =
-      let after = seal_keys key_limit node t in
+      let after = seal_keys t.places node t in
       let within = within_nodes plan node path tree is in
       let whole : plan_path plan node ≡ path = sym (path_is (ids_of_nodes plan.nodes) tree node path (within_path (ids_of_nodes plan.nodes) node path tree is) is) in
       let inside : is_within plan root node ≡ true = ap (stands_on root false) whole ∙ part.stands in

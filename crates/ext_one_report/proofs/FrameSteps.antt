@@ -23,7 +23,7 @@ use Rattle.ext_plan.specs.Values.{ValueText}
 use Rattle.ext_plan.proofs.KeyLists.{place_last}
 use Rattle.ext_races.specs.MadeSteps.{calls_of}
 use Rattle.ext_races.proofs.Lists.{contains_first, contains_later}
-use Rattle.ext_plain.specs.ValueStates.{Numbering, ValueState, after_act, enough, full, keep_value, key_limit, known, next, next_number, numbering_of, why_refused, with_number}
+use Rattle.ext_plain.specs.ValueStates.{Numbering, ValueState, after_act, enough, full, keep_value, known, next, next_number, numbering_of, why_refused, with_number}
 use Rattle.ext_plain.specs.ContextEnds.{seal_keys}
 use Rattle.ext_plain.specs.StepRuns.{StepEnd, acts_by, claim_and, compute_looked, compute_numbered, computefail_looked, ended, factory_failed, factory_gave, found_along, kept_or_refused, number_by, numbered_by, or_refused, put_by, put_in, step_run, steps_run}
 use Rattle.ext_plain.specs.NodeCalls.{call_run}
@@ -96,11 +96,11 @@ module _ (changes : Places) where
   Leaves s t = LeavesElse changes no_context s t
 
   -- the key has its number, or gets it, and the step goes on
-  number_leaves : (name label : List ℕ) (key : KeyValue) (goes : ℕ → ValueState → StepEnd) (s : ValueState) (numbering : Numbering) → numbering_of s.keys key ≡ numbering
+  number_leaves : (name label : List ℕ) (key : KeyValue) (goes : ℕ → ValueState → StepEnd) (s : ValueState) (numbering : Numbering) → numbering_of s.places s.keys key ≡ numbering
       → ((number : ℕ) (t : ValueState) → is_there t.keys key ≡ true → number ≡ place_of_key t.keys key → Leaves t (goes number t).state) → Leaves s (number_by enough name label key goes s numbering).state
-  number_leaves name label key goes s (known number) is each = let has = known_is s.keys key number is in each number s has.there has.place
+  number_leaves name label key goes s (known number) is each = let has = known_is s.places s.keys key number is in each number s has.there has.place
   number_leaves name label key goes s (next number) is each =
-      let new = next_is s.keys key number is in
+      let new = next_is s.places s.keys key number is in
       let t = with_number key s in
       leaves_then changes no_context s t (goes number t).state (leaves_named changes no_context key s new.there)
       (each number t (there_then s.keys key new.there) (new.place ∙ sym (place_last s.keys key new.there)))
@@ -114,14 +114,14 @@ module _ (changes : Places) where
       let stored = numbered_by enough call.name call.label call.key puts kept in
       kept_so (Leaves s) call.name call.label (why_refused (next_number s) s) s stored (leaves_itself changes no_context s)
       (leaves_then changes no_context s kept stored.state (leaves_kept changes no_context value s)
-      (number_leaves call.name call.label call.key puts kept (numbering_of kept.keys call.key) refl (λ number t there is.
+      (number_leaves call.name call.label call.key puts kept (numbering_of kept.places kept.keys call.key) refl (λ number t there is.
       leaves_acts changes no_context at number call.key t (puts number t).state there is may (acts_more (at, number) (Put (at, number) t.store.drawn) t t refl (acts_itself (at, number) t)))))
 
   -- a call that acts at the place of its key once that has its number
   numbered_leaves : (call : CallText) (goes : ℕ → ValueState → StepEnd) (s : ValueState) → changes (start_of call.path) call.key ≡ true
       → ((number : ℕ) (t : ValueState) → ActsAt (start_of call.path, number) t (goes number t).state) → Leaves s (numbered_by enough call.name call.label call.key goes s).state
   numbered_leaves call goes s may each =
-      number_leaves call.name call.label call.key goes s (numbering_of s.keys call.key) refl
+      number_leaves call.name call.label call.key goes s (numbering_of s.places s.keys call.key) refl
       (λ number t there is. leaves_acts changes no_context (start_of call.path) number call.key t (goes number t).state there is may (each number t))
 
   computes_leave : (call : CallText) (value : ValueText) (s : ValueState) → changes (start_of call.path) call.key ≡ true
@@ -132,7 +132,7 @@ module _ (changes : Places) where
   -- one that looks alone
   looks_leave : (call : CallText) (goes : ℕ → ValueState → StepEnd) (s : ValueState) → ((number : ℕ) (t : ValueState) → (goes number t).state ≡ t) → Leaves s (numbered_by enough call.name call.label call.key goes s).state
   looks_leave call goes s same =
-      number_leaves call.name call.label call.key goes s (numbering_of s.keys call.key) refl (λ number t there is. subst (Leaves t) (sym (same number t)) (leaves_itself changes no_context t))
+      number_leaves call.name call.label call.key goes s (numbering_of s.places s.keys call.key) refl (λ number t there is. subst (Leaves t) (sym (same number t)) (leaves_itself changes no_context t))
 
   step_leaves : (keys : List KeyText) (path : List ℕ) (step : StepText) (s : ValueState)
       → ((key : StepKeyText) (up : ℕ) → changed_by step ≡ Some (key, up) → changes (start_of (drop up path)) (key_of_step keys key) ≡ true) → Leaves s (step_run keys path step s).state
@@ -179,8 +179,8 @@ seals_closed (suc key) node s changes closes closed =
     leaves_then changes closes s before (after_act (Seal (node, key)) before) (seals_closed key node s changes closes closed)
     (leaves_closed node key before (after_act (Seal (node, key)) before) (acts_more (node, key) (Seal (node, key)) before before refl (acts_itself (node, key) before)) changes closes closed)
 
-pub seals_leave : (node : ℕ) (s : ValueState) → LeavesElse (all_of node) (λ context. context == node) s (seal_keys key_limit node s)
-seals_leave node s = seals_closed key_limit node s (all_of node) (λ context. context == node) (eq-eqb node node refl)
+pub seals_leave : (node : ℕ) (s : ValueState) → LeavesElse (all_of node) (λ context. context == node) s (seal_keys s.places node s)
+seals_leave node s = seals_closed s.places node s (all_of node) (λ context. context == node) (eq-eqb node node refl)
 
 -- ---- the calls of a node
 

@@ -132,6 +132,7 @@ pub mod StepLooks
 pub mod Steps
 pub mod StepsWords
 pub mod StoreCalls
+pub mod StoreCells
 pub mod Stored
 pub mod StoredRuns
 pub mod StoredWords

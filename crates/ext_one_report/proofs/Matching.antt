@@ -1,5 +1,5 @@
 -- What keeps the places of two runs alike.
-use Rattle.std.proofs.Common.{◌≡◌, ℕ, zero, suc, ◌+◌, ◌*◌, ◌<◌, ◌≤◌, ◌⊎◌, inl, inr, Bool, true, false, List, [], ◌∷◌, ◌++◌, length, Contains, refl, ap, sym, subst, ◌∙◌, arith, nat_eq, Option, None, Some, eq-eqb}
+use Rattle.std.proofs.Common.{◌≡◌, ℕ, zero, suc, ◌+◌, ◌<◌, ◌≤◌, ◌⊎◌, inl, inr, Bool, true, false, List, [], ◌∷◌, ◌++◌, length, Contains, refl, ap, sym, subst, ◌∙◌, arith, nat_eq, Option, None, Some, eq-eqb}
 use Rattle.std.specs.Prelude.{if◌then◌else◌, nat_lt, slice_get}
 use Rattle.std.proofs.lemmas.Bool.Decides.{nat_tests}
 use Rattle.std.proofs.lemmas.List.{length_push}
@@ -25,6 +25,7 @@ use Rattle.ext_plain.proofs.Numberings.{there_by}
 use Rattle.ext_one_report.proofs.StandingsWords.{Meaning, AreMatched, KnowsMore, nothing}
 use Rattle.ext_one_report.proofs.MatchingWords.{RunView, IsRunView, HasNumberIn, Places, Matches, AreNotAt, IsNumbered, cell_of, plain_meaning, plain_slot, text_of, AreEqualEvents, after_event}
 use Rattle.ext_one_report.proofs.Standings.{matched_acts, matched_by_more}
+use Rattle.ext_one_report.proofs.StoreCells.{cell_apart}
 
 -- ---- numbers of keys in a plain run
 
@@ -178,11 +179,11 @@ values_keep_numbered places value s left numbered = record {
 
 -- ---- the first state
 
-pub first_matches : (run : RunView) (places : Places) (keeps : Bool) → Matches run places [] (value_opening keeps)
-first_matches run places keeps = record { slots = λ context key number is has. record { standing = nothing; here = refl; there = refl }; unnumbered = λ context key is none. refl }
+pub first_matches : (run : RunView) (places : Places) (keeps : Bool) (keys : ℕ) → Matches run places [] (value_opening keeps keys)
+first_matches run places keeps keys = record { slots = λ context key number is has. record { standing = nothing; here = refl; there = refl }; unnumbered = λ context key is none. refl }
 
-pub first_is_numbered : (places : Places) (keeps : Bool) → IsNumbered places (value_opening keeps)
-first_is_numbered places keeps = record { beyond = λ context key number is past. refl; drawn = refl }
+pub first_is_numbered : (places : Places) (keeps : Bool) (keys : ℕ) → IsNumbered places (value_opening keeps keys)
+first_is_numbered places keeps keys = record { beyond = λ context key number is past. refl; drawn = refl }
 
 -- ---- fewer places
 
@@ -209,21 +210,15 @@ others_keep_matches run places h more s others matches = record {
 
 -- ---- equal events
 
--- a cell tells its context and its number
-cell_apart : (a b m n : ℕ) → m < 64 → n < 64 → a * 64 + m ≡ b * 64 + n → (a ≡ b) × (m ≡ n)
-cell_apart a b m n less few same = (omega (arith, less, few, same), omega (arith, less, few, same))
-
-number_within : (run : RunView) (key : KeyValue) (number : ℕ) → IsRunView run → HasNumberIn run key number → number < 64
+pub number_within : (run : RunView) (key : KeyValue) (number : ℕ) → IsRunView run → HasNumberIn run key number → number < length run.store.id.keys
 number_within run key number view has =
     let within : number < length run.numbering = key_within run.numbering number key has.there in
     let same : length run.numbering ≡ length run.store.id.keys = length-places run.numbering run.store.id.keys view.places in
-    let count = view.count in
-    omega (arith, within, same, count)
+    omega (arith, within, same)
 
 pub cells_apart : (run : RunView) (a b : ℕ) (key other : KeyValue) (m n : ℕ) → IsRunView run → HasNumberIn run key m → HasNumberIn run other n → cell_of run m a ≡ cell_of run n b → (a ≡ b) × (key ≡ other)
 cells_apart run a b key other m n view has also same =
-    let P : ℕ → Type 0 = λ k. a * k + m ≡ b * k + n in
-    let parts = cell_apart a b m n (number_within run key m view has) (number_within run other n view also) (subst P view.count same) in
+    let parts = cell_apart run.store a b m n (number_within run key m view has) (number_within run other n view also) same in
     (parts.0, one_key run.numbering m key other has.there (subst (λ k. key_at run.numbering k ≡ Some other) (sym parts.1) also.there))
 
 -- what an event leaves in a cell, and in a place

@@ -26,10 +26,9 @@ pub record RunView : Type 0 where
   pub numbering : List KnownPlace
   pub meaning : TextMeaning
 
--- the numbers are those of the 64 places for keys of the store
+-- the numbers are those of the places for keys of the store
 pub record IsRunView (run : RunView) : Type 0 where
   pub places : AreKeyNotesOf run.store.id.keys run.numbering
-  pub count : length run.store.id.keys ≡ 64
 
 -- the number that a key has in the end
 abbrev pub HasNumberIn : RunView → KeyValue → ℕ → Type 0

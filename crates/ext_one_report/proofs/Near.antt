@@ -92,7 +92,6 @@ module _ (plan : PlanText) (lanes : ℕ) (results : List (ResultOf Fault)) (read
     only = only plan lanes results read run full;
     at_places = λ node context number key named within below. at_places plan lanes results read run full node context number key named below;
     once = holds_once plan lanes results read run full;
-    few = has.keys;
     legal = run.shared.legal;
   }
 
@@ -106,7 +105,7 @@ module _ (plan : PlanText) (lanes : ℕ) (results : List (ResultOf Fault)) (read
         open_is = λ context key v is. absurd (cc is);
         own = record { own = λ context number place key event at named seen there on. elim (theirs.each place seen) [ inl made ↦ made | inr none ↦ absurd none ] };
         computed = record { computed = λ context number place key v event is named seen there on. absurd (cc is) };
-        level = opens_level plan lanes results read run full (touched_in plan 0);
+        level = opens_level plan lanes results read run full has.keys (touched_in plan 0);
         near = record {
           lanes = λ context key number v is named. absurd (cc is);
           plain = λ context key v is. absurd (cc is);

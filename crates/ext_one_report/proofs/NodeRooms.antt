@@ -13,7 +13,7 @@ use Rattle.ext_plan.specs.ReadPlans.{IsReadPlan, ids_of_nodes}
 use Rattle.ext_races.specs.MadeSteps.{calls_of}
 use Rattle.ext_races.specs.Touches.{keys_named}
 use Rattle.ext_plain.specs.PlainRunLaws.{NamesOneOf}
-use Rattle.ext_plain.specs.ValueStates.{ValueState, key_limit, run_numbers}
+use Rattle.ext_plain.specs.ValueStates.{ValueState, run_numbers}
 use Rattle.ext_plain.specs.StepRuns.{StepEnd, step_run, steps_run}
 use Rattle.ext_plain.specs.NodeCalls.{CallsEnd, and_call, call_run, make_all, make_befores, make_if_successful}
 use Rattle.ext_one_report.proofs.CallListsWords.{BeforesHaveRoom, CallsHaveRoom}
@@ -78,7 +78,7 @@ module _ (plan : PlanText) (path : List ℕ) where
 
 -- ---- room
 
-module _ (names : List KeyValue) (limit : length names ≤ key_limit) where
+module _ (names : List KeyValue) where
   pub steps_room : (keys : List KeyText) (path : List ℕ) (steps : List StepText) (s : ValueState) → GaveFew names s → All (NamesOneOf names keys) steps → s.memory ≡ []
       → (steps_run keys path steps s).state.store.drawn < run_numbers → StepsHaveRoom keys path steps s
   steps_room keys path [] s few named none left = tt
@@ -87,7 +87,7 @@ module _ (names : List KeyValue) (limit : length names ≤ key_limit) where
       let one : All P (step ∷ []) = All-cons P step [] (All-head P step more named) (All-nil P) in
       let drawn = steps_draw keys path (step ∷ more) s none in
       let next = step_run keys path step s in
-      let first = few_have_room names keys path (step ∷ []) s limit few one (omega (arith, drawn, left)) in (
+      let first = few_have_room names keys path (step ∷ []) s few one (omega (arith, drawn, left)) in (
         first.0,
         λ on.
             let single : (steps_run keys path (step ∷ []) s).state ≡ (steps_run keys path [] next.state).state = ap (λ (e : StepEnd). e.state) (plain_goes keys path step [] s none on) in

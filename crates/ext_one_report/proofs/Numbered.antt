@@ -7,7 +7,7 @@ use Rattle.ext_model.specs.History.{History}
 use Rattle.ext_tree.specs.Keys.{KeyValue}
 use Rattle.ext_plan.specs.StoreKeys.{is_there, place_of_key}
 use Rattle.ext_plan.proofs.KeyLists.{place_last, not_contained}
-use Rattle.ext_plain.specs.ValueStates.{ValueState, enough, key_limit, with_number}
+use Rattle.ext_plain.specs.ValueStates.{ValueState, enough, with_number}
 use Rattle.ext_plain.specs.StepRuns.{StepEnd, number_by, numbered_by}
 use Rattle.ext_plain.proofs.Numberings.{is_known, is_next, there_then}
 use Rattle.ext_one_report.proofs.MatchingWords.{RunView, Places, Matches, IsNumbered}
@@ -27,13 +27,13 @@ pub record IsNamed (places : Places) (key : KeyValue) (s : ValueState) : Type 0 
 less_is : (a b : ℕ) → a < b → nat_lt a b ≡ true
 less_is a b less = grind (arith, nat_tests)
 
-pub named : (places : Places) (key : KeyValue) (s : ValueState) → (is_there s.keys key ≡ false → length s.keys < key_limit) → IsNumbered places s → IsNamed places key s
+pub named : (places : Places) (key : KeyValue) (s : ValueState) → (is_there s.keys key ≡ false → length s.keys < s.places) → IsNumbered places s → IsNamed places key s
 named places key s room numbered =
     elim (bools (is_there s.keys key)) [
       | inl there ↦ record {
         state = s;
         there = there;
-        goes = λ name label goes_on. ap (number_by enough name label key goes_on s) (is_known s.keys key there);
+        goes = λ name label goes_on. ap (number_by enough name label key goes_on s) (is_known s.places s.keys key there);
         matches = λ run h matches. matches;
         numbered = numbered;
         drawn = refl;
@@ -44,7 +44,7 @@ named places key s room numbered =
         state = with_number key s;
         there = there_then s.keys key none;
         goes = λ name label goes_on.
-            ap (number_by enough name label key goes_on s) (is_next s.keys key (not_contained s.keys key none) (less_is (length s.keys) key_limit (room none)))
+            ap (number_by enough name label key goes_on s) (is_next s.places s.keys key (not_contained s.keys key none) (less_is (length s.keys) s.places (room none)))
             ∙ ap (λ n. goes_on n (with_number key s)) (sym (place_last s.keys key none));
         matches = λ run h matches. keys_keep_matches run places h key s none numbered matches;
         numbered = keys_keep_numbered places key s numbered;

@@ -12,7 +12,7 @@ use Rattle.ext_plan.specs.Plans.{PlanText}
 use Rattle.ext_plan.specs.StepTexts.{close_text}
 use Rattle.ext_plan.specs.Values.{ValueText, begins_with, close_fault}
 use Rattle.ext_races.proofs.Lists.{contains_cases, contains_later, contains_first, contains_nothing, contains-map_back}
-use Rattle.ext_plain.specs.ValueStates.{ValueState, key_limit, reply_to, value_of}
+use Rattle.ext_plain.specs.ValueStates.{ValueState, reply_to, value_of}
 use Rattle.ext_plain.specs.ContextEnds.{closeables, faults_of_closes, if_closeable, numbers_left, seal_keys}
 use Rattle.ext_one_report.specs.Apart.{ClosesTellOne}
 use Rattle.ext_one_report.proofs.OfPlan.{IsOfPlan, MayBeLeft, TellOneText, value_in}
@@ -112,23 +112,23 @@ record IsTold (plan : PlanText) (node : ℕ) (text : List ℕ) : Type 0 where
   told : close_text value ≡ text
 
 module _ (plan : PlanText) (node : ℕ) (s : ValueState) (h : IsOfPlan plan s) where
-  told_by : (text : List ℕ) → Contains (faults_of_closes key_limit node (seal_keys key_limit node s)) (Some text) → IsTold plan node text
+  told_by : (text : List ℕ) → Contains (faults_of_closes s.places node (seal_keys s.places node s)) (Some text) → IsTold plan node text
   told_by text there =
-      let sealed = seal_keys key_limit node s in
-      let from = contains-map_back close_fault (closeables sealed.values (numbers_left key_limit node sealed)) (Some text) there in
-      let closed = closed_from sealed.values (numbers_left key_limit node sealed) from.0 from.1 in
+      let sealed = seal_keys s.places node s in
+      let from = contains-map_back close_fault (closeables sealed.values (numbers_left s.places node sealed)) (Some text) there in
+      let closed = closed_from sealed.values (numbers_left s.places node sealed) from.0 from.1 in
       let fails = fails_by (begins_with (codes "bad") from.0.text) from.0 text refl from.2 in
-      let kept = remaining_kept (λ key. under sealed.store key node) key_limit closed.number closed.there in
-      let stands : value_in (s.store.slots (node, kept.0)) ≡ Some closed.number = seals_stood key_limit node s (node, kept.0) closed.number (ap value_in kept.2) in
-      let was : value_of s.values closed.number ≡ Some from.0 = ap (λ vs. value_of vs closed.number) (sym (seals_values key_limit node s)) ∙ closed.is in
+      let kept = remaining_kept (λ key. under sealed.store key node) s.places closed.number closed.there in
+      let stands : value_in (s.store.slots (node, kept.0)) ≡ Some closed.number = seals_stood s.places node s (node, kept.0) closed.number (ap value_in kept.2) in
+      let was : value_of s.values closed.number ≡ Some from.0 = ap (λ vs. value_of vs closed.number) (sym (seals_values s.places node s)) ∙ closed.is in
       record { value = from.0.text; left = h.from node kept.0 closed.number from.0 stands was closed.closes fails.0; told = fails.1 }
 
-  pub one_text : ClosesTellOne plan → TellOneText (faults_of_closes key_limit node (seal_keys key_limit node s))
+  pub one_text : ClosesTellOne plan → TellOneText (faults_of_closes s.places node (seal_keys s.places node s))
   one_text tell one other first second =
       let a = told_by one first in
       let b = told_by other second in
       let same : a.left.touch.text ≡ b.left.touch.text = tell.one a.left.touch b.left.touch a.left.made b.left.made a.left.fails b.left.fails (a.left.context_is ∙ sym b.left.context_is) in
       sym a.told ∙ ap close_text (sym a.left.text_is ∙ same ∙ b.left.text_is) ∙ b.told
 
-pub ends_tell_one : (plan : PlanText) (node : ℕ) (s : ValueState) → ClosesTellOne plan → IsOfPlan plan s → TellOneText (faults_of_closes key_limit node (seal_keys key_limit node s))
+pub ends_tell_one : (plan : PlanText) (node : ℕ) (s : ValueState) → ClosesTellOne plan → IsOfPlan plan s → TellOneText (faults_of_closes s.places node (seal_keys s.places node s))
 ends_tell_one plan node s tell h = one_text plan node s h tell

@@ -15,7 +15,6 @@ use Rattle.ext_plan.specs.StepCalls.{start_of}
 use Rattle.ext_races.specs.MadeSteps.{calls_of}
 use Rattle.ext_races.proofs.Calls.{calls_are}
 use Rattle.ext_races.proofs.Lists.{contains_first, contains_later}
-use Rattle.ext_plain.specs.ValueStates.{key_limit}
 use Rattle.ext_plain.specs.NodeCalls.{CallsEnd, befores_run, call_run, make, make_all, make_befores, make_if_successful, no_calls, test_run}
 use Rattle.ext_plain.specs.PlainRun.{RunState, body_run, container_run, node_run, test_node_run}
 use Rattle.ext_plain.proofs.Below.{children-all}
@@ -122,8 +121,8 @@ module _ (plan : PlanText) (read : IsReadPlan plan) where
       let at = start_of path in
       let test = is_some (test_of plan at) in
       node_by test (test_node_run plan at path run) (container_run plan (node_run plan levels) at path run) test refl
-      (λ tested. seals_ready plan key_limit at (test_end plan at path run).state (test_ready plan path read is run tested h))
-      (λ tested. seals_ready plan key_limit at (container_end plan (node_run plan levels) at path run).state
+      (λ tested. seals_ready plan (test_end plan at path run).state.places at (test_end plan at path run).state (test_ready plan path read is run tested h))
+      (λ tested. seals_ready plan (container_end plan (node_run plan levels) at path run).state.places at (container_end plan (node_run plan levels) at path run).state
       (container_ready plan path read is (node_run plan levels) (λ child r parent p. node_ready levels (child ∷ path) r (child_path (ids_of_nodes plan.nodes) at child path is parent) p) run tested h))
 
 pub node_of : (plan : PlanText) (levels node : ℕ) (path : List ℕ) (r : RunState) → IsReadPlan plan → IsPathOf (ids_of_nodes plan.nodes) node path → r.state.memory ≡ [] → IsOfPlan plan r.state → IsOfPlan plan (node_run plan levels path r).state

@@ -240,7 +240,7 @@ module _ (plan : PlanText) where
 -- ---- before the first node
 
 pub opens_of_plan : OpensOfPlan
-opens_of_plan plan keeps = record {
+opens_of_plan plan keeps places = record {
   once = λ place other number first second. absurd cc;
   drawn = λ place number is. absurd cc;
   values = refl;

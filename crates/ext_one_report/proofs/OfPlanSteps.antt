@@ -53,7 +53,7 @@ module _ (plan : PlanText) where
   -- a call whose key is numbered first
   numbered_of : (call : CallText) (goes : ℕ → ValueState → StepEnd) (s : ValueState) → ((number : ℕ) (t : ValueState) → IsOfPlan plan t → IsOfPlan plan (goes number t).state) → IsOfPlan plan s
       → IsOfPlan plan (numbered_by enough call.name call.label call.key goes s).state
-  numbered_of call goes s each h = number_of (IsOfPlan plan) call.name call.label call.key goes s (numbering_of s.keys call.key) (of_numbered plan call.key) (λ t p. p) each h
+  numbered_of call goes s each h = number_of (IsOfPlan plan) call.name call.label call.key goes s (numbering_of s.places s.keys call.key) (of_numbered plan call.key) (λ t p. p) each h
 
   -- one whose value is kept first
   put_of : (call : CallText) (value : ValueText) (s : ValueState) → IsLeft plan (start_of call.path) value → IsOfPlan plan s
@@ -62,7 +62,7 @@ module _ (plan : PlanText) where
       let kept = keep_value value s in
       let puts : ℕ → ValueState → StepEnd = λ number. put_in enough call.name call.label (start_of call.path, number) in
       kept_of call.name call.label (why_refused (next_number s) s) s (numbered_by enough call.name call.label call.key puts kept) h
-      (λ room. number_of (IsDrawn plan value) call.name call.label call.key puts kept (numbering_of kept.keys call.key) (drawn_numbered plan call.key value) (λ t d. d.of)
+      (λ room. number_of (IsDrawn plan value) call.name call.label call.key puts kept (numbering_of kept.places kept.keys call.key) (drawn_numbered plan call.key value) (λ t d. d.of)
       (λ number t d. of_put plan (start_of call.path, number) value t d left) (of_kept plan value s room h))
 
   gave_of : (name label : List ℕ) (place : Place) (value : ValueText) (s : ValueState) → IsLeft plan place.0 value → IsOfPlan plan s → IsOfPlan plan (factory_gave name label place value s).state

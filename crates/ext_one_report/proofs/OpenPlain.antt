@@ -16,7 +16,7 @@ use Rattle.ext_plan.specs.StepCalls.{label_of, start_of}
 use Rattle.ext_plan.specs.StoreKeys.{is_there, key_of_step, place_of_key}
 use Rattle.ext_plan.specs.Values.{ValueText}
 use Rattle.ext_plan.proofs.KeyLists.{place_last, not_contained}
-use Rattle.ext_plain.specs.ValueStates.{ValueState, enough, key_limit, run_numbers, with_number}
+use Rattle.ext_plain.specs.ValueStates.{ValueState, enough, run_numbers, with_number}
 use Rattle.ext_plain.specs.StepRuns.{StepEnd, compute_looked, compute_numbered, factory_gave, found_along, number_by, numbered_by, step_run}
 use Rattle.ext_plain.proofs.Numberings.{is_known, is_next, there_then}
 use Rattle.ext_one_report.proofs.PlanCells.{changed_by}
@@ -66,13 +66,13 @@ record IsNamedThere (key : KeyValue) (s : ValueState) : Type 0 where
 less_is : (a b : ℕ) → a < b → nat_lt a b ≡ true
 less_is a b less = grind (arith, nat_tests)
 
-named_there : (key : KeyValue) (s : ValueState) → (is_there s.keys key ≡ false → length s.keys < key_limit) → IsNamedThere key s
+named_there : (key : KeyValue) (s : ValueState) → (is_there s.keys key ≡ false → length s.keys < s.places) → IsNamedThere key s
 named_there key s room =
     elim (bools (is_there s.keys key)) [
       | inl there ↦ record {
         state = s;
         there = there;
-        goes = λ name label goes_on. ap (number_by enough name label key goes_on s) (is_known s.keys key there);
+        goes = λ name label goes_on. ap (number_by enough name label key goes_on s) (is_known s.places s.keys key there);
         leaves = leaves_itself (λ context other. false) no_context s;
         store = refl;
         values = refl;
@@ -81,7 +81,7 @@ named_there key s room =
         state = with_number key s;
         there = there_then s.keys key none;
         goes = λ name label goes_on.
-            ap (number_by enough name label key goes_on s) (is_next s.keys key (not_contained s.keys key none) (less_is (length s.keys) key_limit (room none)))
+            ap (number_by enough name label key goes_on s) (is_next s.places s.keys key (not_contained s.keys key none) (less_is (length s.keys) s.places (room none)))
             ∙ ap (λ n. goes_on n (with_number key s)) (sym (place_last s.keys key none));
         leaves = leaves_named (λ context other. false) no_context key s none;
         store = refl;

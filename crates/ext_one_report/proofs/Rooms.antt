@@ -20,12 +20,13 @@ use Rattle.ext_plan.specs.Steps.{step_key}
 use Rattle.ext_plan.specs.StoreKeys.{is_there, key_of_step}
 use Rattle.ext_plan.specs.Values.{ValueText}
 use Rattle.ext_plan.proofs.KeyLists.{not_contained}
-use Rattle.ext_plain.specs.ValueStates.{Numbering, ValueState, after_act, enough, full, keep_value, key_limit, known, next, next_number, numbering_of, run_numbers, why_refused, with_number}
+use Rattle.ext_plain.specs.ValueStates.{Numbering, ValueState, after_act, enough, full, keep_value, known, next, next_number, numbering_of, run_numbers, why_refused, with_number}
 use Rattle.ext_plain.specs.StepRuns.{StepEnd, acts_by, call_by, claim_and, compute_looked, compute_numbered, computefail_looked, ended, factory_failed, factory_gave, found_along, kept_or_refused, number_by, numbered_by, or_refused, put_by, put_in, step_run, steps_run}
 use Rattle.ext_plain.specs.PlainRunLaws.{HasValues, NamesOneOf, NumbersKeys}
 use Rattle.ext_plain.proofs.Kept.{IsKept, IsKeptNaming, step-kept-by, steps-kept-by}
 use Rattle.ext_plain.proofs.Named.{OfKeys, numbers-once, of-keys}
 use Rattle.ext_plain.proofs.Numberings.{is_full}
+use Rattle.ext_plain.proofs.PlacesStay.{keeps-places}
 use Rattle.ext_plain.proofs.Rooms.{has_room}
 use Rattle.ext_plain.proofs.Values.{act-values, keep-drawn}
 use Rattle.ext_one_report.proofs.StepsWords.{HasRoom}
@@ -33,11 +34,13 @@ use Rattle.ext_one_report.proofs.CallsWords.{StepsHaveRoom}
 use Rattle.ext_one_report.proofs.Calls.{all_first, all_later, plain_goes, plain_stops, step_memory}
 use Rattle.ext_plain.proofs.Stepping.{steps_run-nil}
 
--- Each number that was drawn is that of a value, each key has one number at most, and only keys of this list have any
+-- Each number that was drawn is that of a value, each key has one number at most, only keys of this list have any, and
+-- there is a place for each of them
 pub record GaveFew (names : List KeyValue) (s : ValueState) : Type 0 where
   pub values : HasValues s
   pub keys : NumbersKeys s
   pub named : All (Contains names) s.keys
+  pub room : length names ≤ s.places
 
 -- ---- a step keeps one value at most
 
@@ -103,7 +106,7 @@ module _ (n : ℕ) where
   numbered_few : (call : CallText) (goes : ℕ → ValueState → StepEnd) (s : ValueState) → length s.values + 1 ≤ n → ((number : ℕ) (t : ValueState) → length t.values + 1 ≤ n → Few (goes number t).state)
       → Few (numbered_by enough call.name call.label call.key goes s).state
   numbered_few call goes s room each =
-      number_few call.name call.label call.key goes s (numbering_of s.keys call.key) (omega (arith, room)) (λ number t same. each number t (subst (λ v. length v + 1 ≤ n) (sym same) room))
+      number_few call.name call.label call.key goes s (numbering_of s.places s.keys call.key) (omega (arith, room)) (λ number t same. each number t (subst (λ v. length v + 1 ≤ n) (sym same) room))
 
   -- one whose value is kept first
   put_few : (call : CallText) (value : ValueText) (s : ValueState) → length s.values + 1 ≤ n → Few (put_by enough call.name call.label (start_of call.path) call.key value s).state
@@ -111,7 +114,7 @@ module _ (n : ℕ) where
       let kept = keep_value value s in
       let more : Few kept = omega (arith, room, one_longer s.values value) in
       kept_few call.name call.label (why_refused (next_number s) s) s _ (omega (arith, room))
-      (number_few call.name call.label call.key (λ number. put_in enough call.name call.label (start_of call.path, number)) kept (numbering_of kept.keys call.key) more (λ number t same. subst (λ v. length v ≤ n) (sym same) more))
+      (number_few call.name call.label call.key (λ number. put_in enough call.name call.label (start_of call.path, number)) kept (numbering_of kept.places kept.keys call.key) more (λ number t same. subst (λ v. length v ≤ n) (sym same) more))
 
   computes_few : (call : CallText) (value : ValueText) (s : ValueState) → length s.values + 1 ≤ n → Few (numbered_by enough call.name call.label call.key (compute_numbered enough call.name call.label call.path value) s).state
   computes_few call value s room =
@@ -187,6 +190,7 @@ module _ (names : List KeyValue) where
     values = step_values keys path step s few.values;
     keys = numbers-once.step keys enough path step s few.keys;
     named = step-kept-by (OfKeys Within) (of-keys Within) keys enough path step s (by_named keys (step_key step) named) few.named;
+    room = subst (λ n. length names ≤ n) (sym (keeps-places.step keys enough path step s)) few.room;
   }
 
   pub few_are_given : (keys : List KeyText) (path : List ℕ) (steps : List StepText) (s : ValueState) → GaveFew names s → All (NamesOneOf names keys) steps → GaveFew names (steps_run keys path steps s).state
@@ -194,20 +198,21 @@ module _ (names : List KeyValue) where
     values = steps_values keys path steps s few.values;
     keys = numbers-once.steps keys path steps s few.keys;
     named = steps-kept-by (OfKeys Within) (of-keys Within) keys path steps s (λ k d inside. by_named keys (step_key _) (named k d inside)) few.named;
+    room = subst (λ n. length names ≤ n) (sym (keeps-places.steps keys path steps s)) few.room;
   }
 
   -- ---- room
 
-  key_room : (s : ValueState) (key : KeyValue) → length names ≤ key_limit → GaveFew names s → Contains names key → is_there s.keys key ≡ false → length s.keys < key_limit
-  key_room s key limit few there none =
-      elim (bools (nat_lt (length s.keys) key_limit)) [
-        | inl is ↦ ltb-true (length s.keys) key_limit is
-        | inr over ↦ absurd (has_room names s.keys key limit few.keys.different few.named there (is_full s.keys key (not_contained s.keys key none) over))
+  key_room : (s : ValueState) (key : KeyValue) → GaveFew names s → Contains names key → is_there s.keys key ≡ false → length s.keys < s.places
+  key_room s key few there none =
+      elim (bools (nat_lt (length s.keys) s.places)) [
+        | inl is ↦ ltb-true (length s.keys) s.places is
+        | inr over ↦ absurd (has_room s.places names s.keys key few.room few.keys.different few.named there (is_full s.places s.keys key (not_contained s.keys key none) over))
       ]
 
-  room_of : (keys : List KeyText) (o : Option StepKeyText) (s : ValueState) → length names ≤ key_limit → GaveFew names s → s.store.drawn < run_numbers → IfSome o (λ key. Contains names (key_of_step keys key)) → IfSome o (λ key. HasRoom (key_of_step keys key) s)
-  room_of keys None s limit few drawn there = tt
-  room_of keys (Some key) s limit few drawn there = record { numbers = drawn; keys = key_room s (key_of_step keys key) limit few there }
+  room_of : (keys : List KeyText) (o : Option StepKeyText) (s : ValueState) → GaveFew names s → s.store.drawn < run_numbers → IfSome o (λ key. Contains names (key_of_step keys key)) → IfSome o (λ key. HasRoom (key_of_step keys key) s)
+  room_of keys None s few drawn there = tt
+  room_of keys (Some key) s few drawn there = record { numbers = drawn; keys = key_room s (key_of_step keys key) few there }
 
 drawn_few : (keys : List KeyText) (path : List ℕ) (step : StepText) (s : ValueState) → HasValues s → (step_run keys path step s).state.store.drawn ≤ s.store.drawn + 1
 drawn_few keys path step s h =
@@ -216,13 +221,13 @@ drawn_few keys path step s h =
     omega (arith, few, later, h)
 
 pub few_have_room : (names : List KeyValue) (keys : List KeyText) (path : List ℕ) (steps : List StepText) (s : ValueState)
-    → length names ≤ key_limit → GaveFew names s → All (NamesOneOf names keys) steps → s.store.drawn + length steps ≤ run_numbers → StepsHaveRoom keys path steps s
-few_have_room names keys path [] s limit few named count = tt
-few_have_room names keys path (step ∷ more) s limit few named count =
+    → GaveFew names s → All (NamesOneOf names keys) steps → s.store.drawn + length steps ≤ run_numbers → StepsHaveRoom keys path steps s
+few_have_room names keys path [] s few named count = tt
+few_have_room names keys path (step ∷ more) s few named count =
     let one = all_first (NamesOneOf names keys) step more named in
     let drawn = drawn_few keys path step s few.values in (
-      room_of names keys (step_key step) s limit few (omega (arith, count)) one,
-      λ on. few_have_room names keys path more (step_run keys path step s).state limit (step_given names keys path step s few one) (all_later (NamesOneOf names keys) step more named) (omega (arith, count, drawn)),
+      room_of names keys (step_key step) s few (omega (arith, count)) one,
+      λ on. few_have_room names keys path more (step_run keys path step s).state (step_given names keys path step s few one) (all_later (NamesOneOf names keys) step more named) (omega (arith, count, drawn)),
     )
 
 pub steps_draw_few : (keys : List KeyText) (path : List ℕ) (steps : List StepText) (s : ValueState) → HasValues s → s.memory ≡ [] → (steps_run keys path steps s).state.store.drawn ≤ s.store.drawn + length steps

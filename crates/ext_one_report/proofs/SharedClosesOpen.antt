@@ -25,7 +25,7 @@ use Rattle.ext_engine.proofs.Going.{close_goes}
 use Rattle.ext_one_report.proofs.Parts.{first_within}
 use Rattle.ext_parallel.specs.declared.steps.stored_value.StoredValue.{StoredValue}
 use Rattle.ext_parallel.specs.StoreCalls.{PlanLane}
-use Rattle.ext_plain.specs.ValueStates.{ValueState, key_limit}
+use Rattle.ext_plain.specs.ValueStates.{ValueState}
 use Rattle.ext_plain.specs.ContextEnds.{seal_keys}
 use Rattle.ext_one_report.proofs.MatchingWords.{HasNumberIn, IsRunView, Places, RunView, cell_of, plain_meaning, plain_slot}
 use Rattle.ext_one_report.proofs.Open.{AreNear, Computes, MayStand, Stands, StandsOrNot, is_open}
@@ -118,7 +118,7 @@ module _ (plan : PlanText) (run : RunView) (locks : LocksView) (h : History) (vi
 
     -- and they stay
     pub stand_after : (context : ℕ) (key : KeyValue) (v : ValueText) (s : ValueState) → open_at context key ≡ Some v → context ≢ node → StandsInBoth run v context key (seen_by lane.cells.view) s
-        → StandsInBoth run v context key (first_seen after) (seal_keys key_limit node s)
+        → StandsInBoth run v context key (first_seen after) (seal_keys s.places node s)
     stand_after context key v s is other stand = record {
       lanes = λ number has.
           let was = stand.lanes number has in
@@ -128,14 +128,14 @@ module _ (plan : PlanText) (run : RunView) (locks : LocksView) (h : History) (vi
           subst (Stands run.meaning v) (sym same) was;
       plain =
           let plain = plain_seals_places node s in
-          subst (λ values. Stands (plain_meaning values) v (plain_slot (seal_keys key_limit node s) context key)) (sym plain.values)
-          (subst (Stands (plain_meaning s.values) v) (sym (sealed_slot node s (seal_keys key_limit node s) plain context key other)) stand.plain);
+          subst (λ values. Stands (plain_meaning values) v (plain_slot (seal_keys s.places node s) context key)) (sym plain.values)
+          (subst (Stands (plain_meaning s.values) v) (sym (sealed_slot node s (seal_keys s.places node s) plain context key other)) stand.plain);
     }
 
     -- where values may stand they may afterwards
     pub near_after : (s : ValueState) → ((context : ℕ) (key : KeyValue) (v : ValueText) → open_at context key ≡ Some v → context ≢ node)
         → ((context : ℕ) (key : KeyValue) (v : ValueText) (above : List ℕ) → open_at context key ≡ Some v → IsPathOf run.store.tree context (context ∷ above) → All (λ c. c ≢ node) above)
-        → AreNear run open_at (seen_by lane.cells.view) s → AreNear run open_at (first_seen after) (seal_keys key_limit node s)
+        → AreNear run open_at (seen_by lane.cells.view) s → AreNear run open_at (first_seen after) (seal_keys s.places node s)
     near_after s other above near = record {
       lanes = λ context key number v is has.
           subst (λ g. MayStand run.meaning v ((state_after g).slots (cell_of run number context))) on.1
@@ -154,7 +154,7 @@ module _ (plan : PlanText) (run : RunView) (locks : LocksView) (h : History) (vi
     }
       where
         t : ValueState
-        t = seal_keys key_limit node s
+        t = seal_keys s.places node s
 
-        plain : SealsPlaces node s (seal_keys key_limit node s)
+        plain : SealsPlaces node s (seal_keys s.places node s)
         plain = plain_seals_places node s

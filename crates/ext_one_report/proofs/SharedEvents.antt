@@ -31,7 +31,7 @@ use Rattle.ext_parallel.specs.declared.steps.stored_value.StoredValue.{StoredVal
 use Rattle.ext_parallel.specs.StoreCalls.{PlanLane}
 use Rattle.ext_one_report.proofs.MatchingWords.{HasNumberIn, Places, RunView, cell_of}
 use Rattle.ext_one_report.specs.Apart.{is_within}
-use Rattle.ext_one_report.proofs.CoveredCells.{below_told, call_among, cells_apart}
+use Rattle.ext_one_report.proofs.CoveredCells.{below_told, call_among}
 use Rattle.ext_one_report.proofs.CoveredPaths.{has_context}
 use Rattle.ext_one_report.specs.Shares.{Open}
 use Rattle.ext_one_report.proofs.FullRuns.{setting_in}
@@ -39,8 +39,10 @@ use Rattle.ext_one_report.proofs.SharedEventsWords.{OfSharing, SharedIsComputed,
 use Rattle.ext_one_report.proofs.SharedNodesWords.{IsSharedBasis}
 use Rattle.ext_one_report.proofs.LanesAlone.{view_moves}
 use Rattle.ext_one_report.proofs.CallsFrom.{CallsFrom}
-use Rattle.ext_one_report.proofs.SharedEventsActs.{IsComputing, number_within, steps_do}
+use Rattle.ext_one_report.proofs.SharedEventsActs.{IsComputing, steps_do}
 use Rattle.ext_one_report.proofs.SharedEventsSeen.{tree_seen}
+use Rattle.ext_one_report.proofs.Matching.{number_within}
+use Rattle.ext_one_report.proofs.StoreCells.{cell_apart}
 
 module _ (plan : PlanText) (run : RunView) (locks : LocksView) (h : History) (touched changes : ℕ → Places) (changed : ℕ → List ℕ) (shares : ℕ → Open)
     (basis : IsSharedBasis plan run locks h touched changes changed shares) (g : History) where
@@ -89,7 +91,7 @@ module _ (plan : PlanText) (run : RunView) (locks : LocksView) (h : History) (to
       let seal = close_seals t h node before faults after closes within place made in
       let same = one_event h place seal.event event seal.there there in
       let on : Some (cell_in run.store seal.key node) ≡ Some (cell_of run number context) = ap place_of (sym seal.seals ∙ ap (λ (e : Event ℕ). e.act) same) ∙ is in
-      let parts = cells_apart run.store node context seal.key number seal.within (number_within run basis.view key number has) (cc on) in
+      let parts = cell_apart run.store node context seal.key number seal.within (number_within run key number basis.view has) (cc on) in
       let below = has_context (ids_of_nodes plan.nodes) plan_tree node path (in_plan node path path_is) in
       let size = length-map plan.nodes (λ n. n.id) in
       let itself : is_within plan node node ≡ true = below_told plan basis.read node node (at_or_below (ids_of_nodes plan.nodes) node node (under_itself (ids_of_nodes plan.nodes) node path (in_plan node path path_is))) in (

@@ -1,5 +1,5 @@
 -- The events of a lane in the steps of a call: at the places that its node shares they compute the values of the places, each behind a look-up that was absent.
-use Rattle.std.proofs.Common.{◌≡◌, ℕ, zero, suc, ◌<◌, ◌≤◌, inl, inr, true, List, [], ◌∷◌, ◌++◌, Contains, Some, drop, length, refl, ap, sym, subst, ◌∙◌, arith}
+use Rattle.std.proofs.Common.{◌≡◌, ℕ, zero, suc, ◌≤◌, inl, inr, true, List, [], ◌∷◌, ◌++◌, Contains, Some, drop, length, refl, ap, sym, subst, ◌∙◌, arith}
 use Rattle.std.specs.Prelude.{codes, slice_get, Ok}
 use mathlib.Core.List.{IsPrefix, append_cancel_left}
 use base.Growing.{prefix_refl, prefix_trans}
@@ -19,7 +19,7 @@ use Rattle.ext_model.specs.Events.{place_of}
 use Rattle.ext_model.specs.History.{History, Limits, lane_of, own}
 use Rattle.ext_tree.specs.Keys.{IsKeyNumber, KeyValue, key_at}
 use Rattle.ext_tree.specs.Trees.{IsPathOf, IsTree}
-use Rattle.ext_tree.proofs.KeyPlacing.{key_within, length-places, number_stays}
+use Rattle.ext_tree.proofs.KeyPlacing.{number_stays}
 use Rattle.ext_tree.proofs.Walks.{one_path}
 use Rattle.ext_values.specs.Known.{known_at}
 use Rattle.ext_lifecycle.specs.declared.outcome.Outcome.{Outcome}
@@ -53,8 +53,9 @@ use Rattle.ext_one_report.proofs.PlanCells.{changed_by}
 use Rattle.ext_one_report.proofs.Going.{steps_go}
 use Rattle.ext_one_report.proofs.MatchingWords.{HasNumberIn, IsRunView, Places, RunView, cell_of}
 use Rattle.ext_one_report.proofs.StepsWords.{IsLaneIn}
+use Rattle.ext_one_report.proofs.StoreCells.{cell_apart}
+use Rattle.ext_one_report.proofs.Matching.{number_within}
 use Rattle.ext_one_report.proofs.Calls.{lane_before}
-use Rattle.ext_one_report.proofs.CoveredCells.{cells_apart}
 use Rattle.ext_one_report.proofs.Open as values
 use Rattle.ext_one_report.proofs.Open.{ComputesOpen}
 use Rattle.ext_one_report.specs.Shares.{Open}
@@ -297,10 +298,6 @@ module _ (run : RunView) (h g : History) (tree : IsTree run.store.tree) (number 
 
 -- ---- steps
 
--- the number of a key is one of the store
-pub number_within : (run : RunView) → IsRunView run → (key : KeyValue) (number : ℕ) → HasNumberIn run key number → number < length run.store.id.keys
-number_within run view key number has = subst (λ n. number < n) (length-places run.numbering run.store.id.keys view.places) (key_within run.numbering number key has.there)
-
 -- `touched` has the places that the node touches, and `shared` those that it shares
 module _ (run : RunView) (view : IsRunView run) (tree : IsTree run.store.tree) (h g : History) (touched : Places) (shared : Open) where
   -- an act at this place on a cell is at one of the places that are touched, and where the place is shared it computes its value
@@ -325,7 +322,7 @@ module _ (run : RunView) (view : IsRunView run) (tree : IsTree run.store.tree) (
       at_cell place act computing context n other has_other same =
           let start : ℕ = start_of (drop up path) in
           let k : KeyValue = key_of_step keys key in
-          let parts = cells_apart run.store start context number n (number_within run view k number has) (number_within run view other n has_other) same in
+          let parts = cell_apart run.store start context number n (number_within run k number view has) (number_within run other n view has_other) same in
           let both : Some k ≡ Some other = sym has.there ∙ (ap (λ m. key_at run.numbering m) parts.1 ∙ has_other.there) in
           let key_is : k ≡ other = cc both in
           let P : ℕ → ℕ → KeyValue → Type 0 = λ c m x. (touched c x ≡ true) × ((v : ValueText) → shared c x ≡ Some v → IsComputing run h g place m c v act) in

@@ -241,7 +241,7 @@ module _ (g : Ground) where
     }
     befores_called (call ∷ calls) os own made drawn =
         let all = call ∷ calls in
-        let room = befores_room (keys_named g.plan) g.basis.few g.plan g.path all (no_calls s) refl (each_of Own Named all named own) since.level.gave since.level.memory drawn in
+        let room = befores_room (keys_named g.plan) g.plan g.path all (no_calls s) refl (each_of Own Named all named own) since.level.gave since.level.memory drawn in
         let its = beside (first_of_befores g.plan g.run g.locks g.node None call calls a os b made) in
         let finds = befores_find g.plan g.run g.locks g.node None all a os b made in
         let makes = befores_made g.plan g.run g.locks g.node None all a os b made in
@@ -269,7 +269,7 @@ module _ (g : Ground) where
         let all = call ∷ calls in
         let B : ValueState → Type 0 = λ t. AreBesideOpen g.run g.path places o a b t in
         let held : Holds e.state = subst Holds (sym at) held_here in
-        let room = all_room (keys_named g.plan) g.basis.few g.plan g.path all e (each_of Own Named all named own) held.gave held.memory drawn in
+        let room = all_room (keys_named g.plan) g.plan g.path all e (each_of Own Named all named own) held.gave held.memory drawn in
         let its : AreBesideOpen g.run g.path places o a b e.state = subst B (sym at) (beside (first_of_all g.plan g.run g.locks g.node None call calls a os b made)) in
         let finds = all_find g.plan g.run g.locks g.node None all a os b made in
         let makes = all_made g.plan g.run g.locks g.node None all a os b made in

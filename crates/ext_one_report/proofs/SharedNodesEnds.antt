@@ -37,7 +37,7 @@ use Rattle.ext_one_report.proofs.Containers.{Tree, at, body_acts_in, go}
 use Rattle.ext_one_report.proofs.Parts.{no_acts}
 use Rattle.ext_parallel.specs.declared.steps.stored_value.StoredValue.{StoredValue}
 use Rattle.ext_parallel.specs.StoreCalls.{PlanLane}
-use Rattle.ext_plain.specs.ValueStates.{ValueState, key_limit, run_numbers}
+use Rattle.ext_plain.specs.ValueStates.{ValueState, run_numbers}
 use Rattle.ext_plain.specs.ContextEnds.{faults_of_closes, seal_keys}
 use Rattle.ext_plain.specs.NodeCalls.{CallsEnd, afters_run, befores_run, no_calls}
 use Rattle.ext_plain.specs.PlainRun.{RunState, body_run, container_run, node_run, outcome_of, test_node_run, with_result}
@@ -183,7 +183,7 @@ module _ (g : Ground) (container : is_some (test_of g.plan g.node) ≡ false) (e
   called_end = afters_run g.plan false g.node g.path (record opened_end { state = bodied_run.state })
 
   abbrev sealed : ValueState
-  sealed = seal_keys key_limit g.node called_end.state
+  sealed = seal_keys called_end.state.places g.node called_end.state
 
   begins_holds : Holds g r.state
   begins_holds = record { memory = begins.level.memory; keeps = begins.level.keeps; gave = begins.level.gave; of_plan = begins.level.of_plan }
@@ -394,7 +394,7 @@ module _ (g : Ground) (container : is_some (test_of g.plan g.node) ≡ false) (e
     -- ---- what is told
 
     abbrev outcome : NodeOutcome
-    outcome = outcome_of g.node false called_end (faults_of_closes key_limit g.node sealed)
+    outcome = outcome_of g.node false called_end (faults_of_closes called_end.state.places g.node sealed)
 
     own_node : lanes_run.own.result.node ≡ g.node
     own_node = ap (λ (x : Ran). x.result.node) lanes_run.ends.own_is
@@ -402,7 +402,7 @@ module _ (g : Ground) (container : is_some (test_of g.plan g.node) ≡ false) (e
     own_told : AreToldNear (g.shares lanes_run.own.result.node) (with_fault_told fault_text lanes_run.own.result) outcome
     own_told =
         subst (λ (x : Ran). AreToldNear (g.shares x.result.node) (with_fault_told fault_text x.result) outcome) (sym lanes_run.ends.own_is)
-        (told_as (g.shares g.node) g.node false (lanes_run.befores ++ lanes_run.ends.afters) lanes_run.ends.faults called_end (faults_of_closes key_limit g.node sealed) closed.told called.near.counts called.counted)
+        (told_as (g.shares g.node) g.node false (lanes_run.befores ++ lanes_run.ends.afters) lanes_run.ends.faults called_end (faults_of_closes called_end.state.places g.node sealed) closed.told called.near.counts called.counted)
 
     own_apart : HasRun lanes_run.below lanes_run.own.result.node → ⊥
     own_apart has =

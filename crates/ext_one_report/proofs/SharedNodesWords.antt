@@ -1,7 +1,7 @@
 -- Runs of nodes that compute the same values as nodes beside them: on several lanes and in the plain run the same is told of each node but for who computed such a value and who found it.
 -- JUnit 5 User Guide, "Parallel Execution"; Javadoc `ExtensionContext.Store`, `getOrComputeIfAbsent`.
 use Rattle.ext_one_report.specs.Shares.{AreToldNear, Open}
-use Rattle.std.specs.Prelude.{◌≡◌, ℕ, ◌+◌, ◌<◌, ◌≤◌, true, false, List, length, All, Contains, Some, is_some, slice_get}
+use Rattle.std.specs.Prelude.{◌≡◌, ℕ, ◌+◌, ◌<◌, true, false, List, length, All, Contains, Some, is_some, slice_get}
 use mathlib.Core.List.{IsPrefix}
 use Rattle.ext_model.specs.declared.event.Event.{Event}
 use Rattle.ext_model.specs.Events.{place_of}
@@ -15,7 +15,6 @@ use Rattle.ext_plan.specs.Plans.{PlanText}
 use Rattle.ext_plan.specs.PlanCalls.{test_of}
 use Rattle.ext_plan.specs.ReadPlans.{IsReadPlan, ids_of_nodes}
 use Rattle.ext_plan.specs.Values.{ValueText}
-use Rattle.ext_races.specs.Touches.{keys_named}
 use Rattle.ext_one_report.specs.Alone.{IsSeenMeanwhile}
 use Rattle.ext_one_report.specs.Changing.{IsBelow, NodesChangeOnly}
 use Rattle.ext_engine.specs.RunLaws.{HasRun}
@@ -24,7 +23,7 @@ use Rattle.ext_engine.specs.Order.{ChildRun, IsMadeIn}
 use Rattle.ext_engine.specs.TreeRun.{Lanes, Ran, TestRun}
 use Rattle.ext_parallel.specs.declared.steps.stored_value.StoredValue.{StoredValue}
 use Rattle.ext_parallel.specs.StoreCalls.{PlanLane}
-use Rattle.ext_plain.specs.ValueStates.{key_limit, run_numbers}
+use Rattle.ext_plain.specs.ValueStates.{run_numbers}
 use Rattle.ext_plain.specs.PlainRun.{RunState, node_run, test_node_run}
 use Rattle.ext_one_report.proofs.MatchingWords.{HasNumberIn, IsRunView, Places, RunView, cell_of, plain_slot}
 use Rattle.ext_one_report.proofs.StepsWords.{IsLaneIn}
@@ -69,8 +68,6 @@ pub record IsSharedBasis (plan : PlanText) (run : RunView) (locks : LocksView) (
   pub at_places : (node context number : ℕ) (key : KeyValue) → HasNumberIn run key number → context < length plan.nodes → IsBelow (setting_in plan run locks) changed node (cell_of run number context)
       → changes node context key ≡ true
   pub once : (g : History) → IsPrefix g h → HoldsOnce run g
-  -- no more keys are named than get numbers
-  pub few : length (keys_named plan) ≤ key_limit
   pub legal : IsLegal run.store.id.cells.limits h
 
 -- ---- what is told

@@ -31,7 +31,7 @@ use Rattle.ext_engine.proofs.Seen.{acts_close, acts_first}
 use Rattle.ext_one_report.proofs.Parts.{no_acts}
 use Rattle.ext_parallel.specs.declared.steps.stored_value.StoredValue.{StoredValue}
 use Rattle.ext_parallel.specs.StoreCalls.{PlanLane}
-use Rattle.ext_plain.specs.ValueStates.{ValueState, key_limit, run_numbers}
+use Rattle.ext_plain.specs.ValueStates.{ValueState, run_numbers}
 use Rattle.ext_plain.specs.ContextEnds.{faults_of_closes, seal_keys}
 use Rattle.ext_plain.specs.NodeCalls.{CallsEnd}
 use Rattle.ext_plain.specs.PlainRun.{RunState, outcome_of, test_node_run}
@@ -80,7 +80,7 @@ module _ (plan : PlanText) (run : RunView) (locks : LocksView) (h : History) (to
     end = plain_test plan node path r.state
 
     abbrev sealed : ValueState
-    sealed = seal_keys key_limit node end.state
+    sealed = seal_keys end.state.places node end.state
 
     abbrev places : Places
     places = unshared (touched node) open_at
@@ -162,20 +162,20 @@ module _ (plan : PlanText) (run : RunView) (locks : LocksView) (h : History) (to
     abbrev Own : Call → Type 0
     Own = Contains (calls_of plan node)
 
-    holds : rooms.Holds plan run basis.read basis.few node path its is_test r.state
+    holds : rooms.Holds plan run basis.read node path its is_test r.state
     holds = record { memory = begins.level.memory; keeps = begins.level.keeps; gave = begins.level.gave; of_plan = begins.level.of_plan }
 
     room : TestHasRoom plan node path r.state
     room =
         let seals = (seals_leave node end.state).drawn in
-        rooms.room plan run basis.read basis.few node path its is_test r.state holds (omega (arith, seals, drawn))
+        rooms.room plan run basis.read node path its is_test r.state holds (omega (arith, seals, drawn))
 
     near : CallsNear its_run.outcomes end × LeavesNear run places open_at its_run.calls.lane r.state its_run.calls.left end.state
     near =
         let on = its_run.calls in
         let makes = test_made plan run locks node (Some its_run.held) path on.lane its_run.outcomes on.left on.change in
         test_ends_near run plan node path places open_at on.lane its_run.outcomes on.left r.state path_is beside
-        (rooms.all_own plan run basis.read basis.few node path its is_test (CallFitsOpen run plan path places open_at)
+        (rooms.all_own plan run basis.read node path its is_test (CallFitsOpen run plan path places open_at)
         (calls_fit plan run locks h touched changes changed shares basis node path its open_at begins.open_is)) room makes.0 makes.1
 
     abbrev settled : Places
@@ -216,7 +216,7 @@ module _ (plan : PlanText) (run : RunView) (locks : LocksView) (h : History) (to
 
     level : AreLevel plan run around (seen_by its_run.calls.left.cells.view) end.state
     level =
-        let kept = rooms.last_holds plan run basis.read basis.few node path its is_test r.state holds in
+        let kept = rooms.last_holds plan run basis.read node path its is_test r.state holds in
         record { matches = near.1.matches; numbered = near.1.numbered; memory = kept.memory; keeps = kept.keeps; gave = kept.gave; of_plan = kept.of_plan }
 
     closed : ClosesLevel plan run node around true its_run.outcomes its_run.faults (first_seen after.first) said
@@ -230,7 +230,7 @@ module _ (plan : PlanText) (run : RunView) (locks : LocksView) (h : History) (to
     own = record { result = result_of node true (endings_of its_run.outcomes) (computed_in its_run.outcomes) (found_in its_run.outcomes) its_run.faults; went_on = true }
 
     abbrev outcome : NodeOutcome
-    outcome = outcome_of node true end (faults_of_closes key_limit node sealed)
+    outcome = outcome_of node true end (faults_of_closes end.state.places node sealed)
 
     -- where the test shares nothing, it computed and found as many values in both runs
     alike_others : SharesNothing (shares node) → CallsAlike run places its_run.outcomes its_run.calls.left end
@@ -241,14 +241,14 @@ module _ (plan : PlanText) (run : RunView) (locks : LocksView) (h : History) (to
         let each = calls_fit_others plan run locks h touched changes changed shares basis node path its open_at begins.open_is nothing in
         test_alike run plan node path places on.lane its_run.outcomes on.left r.state path_is (beside_at_others run path places open_at on.lane on.left r.state beside)
         (record {
-          befores = each_of Own Fits (befores_round plan node path) each (rooms.own_befores plan run basis.read basis.few node path its is_test);
-          body = each (test_call node) (rooms.own_body plan run basis.read basis.few node path its is_test);
-          afters = each_of Own Fits (afters_round plan node path) each (rooms.own_afters plan run basis.read basis.few node path its is_test);
+          befores = each_of Own Fits (befores_round plan node path) each (rooms.own_befores plan run basis.read node path its is_test);
+          body = each (test_call node) (rooms.own_body plan run basis.read node path its is_test);
+          afters = each_of Own Fits (afters_round plan node path) each (rooms.own_afters plan run basis.read node path its is_test);
         }) room makes.0 makes.1
 
     told : AreToldNear (shares node) (with_fault_told fault_text own.result) outcome
     told =
-        told_as (shares node) node true its_run.outcomes its_run.faults end (faults_of_closes key_limit node sealed) closed.told near.0.counts
+        told_as (shares node) node true its_run.outcomes its_run.faults end (faults_of_closes end.state.places node sealed) closed.told near.0.counts
         (λ nothing. let are = alike_others nothing in record { computed = are.computed; found = are.found })
 
     all_told : AllToldNear shares ran r.results (test_node_run plan node path r).results

@@ -1,5 +1,5 @@
 -- The calls of a test in a plain run: which they are, what each of them keeps, and that there is room at each step where numbers are left at the end.
-use Rattle.std.proofs.Common.{◌≡◌, ℕ, ◌<◌, ◌≤◌, true, List, [], ◌∷◌, ◌++◌, length, Contains, refl, ap, sym, subst, arith, append_assoc}
+use Rattle.std.proofs.Common.{◌≡◌, ℕ, ◌<◌, true, List, [], ◌∷◌, ◌++◌, Contains, refl, ap, sym, subst, arith, append_assoc}
 use Rattle.std.specs.Prelude.{All, is_some}
 use Rattle.std.proofs.lemmas.List.Elements.{All-head, Contains-append_left, Contains-append_right}
 use Rattle.ext_tree.specs.Trees.{IsPathOf}
@@ -11,7 +11,7 @@ use Rattle.ext_plan.specs.ReadPlans.{IsReadPlan, ids_of_nodes}
 use Rattle.ext_races.specs.MadeSteps.{calls_of, plan_path}
 use Rattle.ext_races.specs.Touches.{keys_named}
 use Rattle.ext_races.proofs.Lists.{all_contained}
-use Rattle.ext_plain.specs.ValueStates.{ValueState, key_limit, run_numbers}
+use Rattle.ext_plain.specs.ValueStates.{ValueState, run_numbers}
 use Rattle.ext_plain.specs.NodeCalls.{CallsEnd, befores_run, call_run, no_calls, test_run}
 use Rattle.ext_one_report.proofs.MatchingWords.{RunView}
 use Rattle.ext_one_report.proofs.TestCallsWords.{TestHasRoom, afters_round, befores_round, plain_test}
@@ -21,8 +21,7 @@ use Rattle.ext_one_report.proofs.NodeRooms as calls
 use Rattle.ext_one_report.proofs.NodeRooms.{all_draw, all_room, befores_draw, befores_room, steps_room}
 use Rattle.ext_one_report.proofs.NodeTrees.{its_path}
 
-module _ (plan : PlanText) (run : RunView) (read : IsReadPlan plan) (few : length (keys_named plan) ≤ key_limit)
-    (node : ℕ) (path : List ℕ) (its : IsPathOf (ids_of_nodes plan.nodes) node path) (is_test : is_some (test_of plan node) ≡ true) where
+module _ (plan : PlanText) (run : RunView) (read : IsReadPlan plan) (node : ℕ) (path : List ℕ) (its : IsPathOf (ids_of_nodes plan.nodes) node path) (is_test : is_some (test_of plan node) ≡ true) where
   -- ---- its calls are those of the plan
 
   abbrev pub Own : Call → Type 0
@@ -96,10 +95,10 @@ module _ (plan : PlanText) (run : RunView) (read : IsReadPlan plan) (few : lengt
         let one = befores_draw plan path (test_call node ∷ []) first first_holds.memory in
         let more = all_draw plan path (afters_round plan node path) second second_holds.memory in
         record {
-          befores = befores_room names few plan path (befores_round plan node path) (no_calls s) refl (each_of Own Named (befores_round plan node path) named own_befores) begins.gave begins.memory (omega (arith, one, more, drawn));
+          befores = befores_room names plan path (befores_round plan node path) (no_calls s) refl (each_of Own Named (befores_round plan node path) named own_befores) begins.gave begins.memory (omega (arith, one, more, drawn));
           body = λ good.
               let made : second.state.store.drawn ≡ (call_run plan path (test_call node) first.state).state.store.drawn =
               ap (λ (e : CallsEnd). e.state.store.drawn) (if_made (call_run plan path) first (test_call node) good) in
-              steps_room names few plan.keys path (steps_of_call plan (test_call node)) first.state first_holds.gave (named (test_call node) own_body) first_holds.memory (omega (arith, made, more, drawn));
-          afters = all_room names few plan path (afters_round plan node path) second (each_of Own Named (afters_round plan node path) named own_afters) second_holds.gave second_holds.memory drawn;
+              steps_room names plan.keys path (steps_of_call plan (test_call node)) first.state first_holds.gave (named (test_call node) own_body) first_holds.memory (omega (arith, made, more, drawn));
+          afters = all_room names plan path (afters_round plan node path) second (each_of Own Named (afters_round plan node path) named own_afters) second_holds.gave second_holds.memory drawn;
         }

@@ -137,13 +137,13 @@ some_there lanes lane there = let within = there.1 in omega (arith, within)
 view_of : StoreView → List KnownPlace → List PlanLane → RunView
 view_of store numbering lanes = record { store = store; numbering = numbering_of store numbering lanes; meaning = meaning_of lanes }
 
-seen_as_one : (store : StoreView) (numbering : List KnownPlace) (lanes : List PlanLane) → length store.id.keys ≡ 64 → All (KeysOf store.id.keys) lanes → All (NumbersSo numbering) lanes
+seen_as_one : (store : StoreView) (numbering : List KnownPlace) (lanes : List PlanLane) → All (KeysOf store.id.keys) lanes → All (NumbersSo numbering) lanes
     → AllPairs AllAgree (all_known lanes) → AllPairs AllAgree (all_faults lanes) → AreSeenAsOne store numbering lanes
 unfolding view_of
-seen_as_one store numbering lanes count places parts agree agree_faults = record {
+seen_as_one store numbering lanes places parts agree agree_faults = record {
   view = view_of store numbering lanes;
   store_is = refl;
-  is_view = record { places = numbering_places store numbering lanes places parts; count = count };
+  is_view = record { places = numbering_places store numbering lanes places parts };
   numbering_is = numbering_is store numbering lanes;
   each = λ lane there. record {
     keys = subst (λ n. KeepsKeys lane.keys n) (sym (numbering_is store numbering lanes (some_there lanes lane there))) (All-contains (NumbersSo numbering) lanes lane parts there);
@@ -174,4 +174,4 @@ module _ (moves : PlansGoOn) where
       let fresh = fresh_lanes store.id.cells 0 lanes in
       let first : All (KeysOf keys) run.first.first = subst (λ (l : List PlanLane). All (KeysOf keys) l) (sym run.fresh) (All-map (KeysOf keys) make fresh (λ i d within. key_places_of-nothing keys)) in
       let go = tree_goes (setting_of_plan plan store run.locks) (moves plan store) 16 0 run.first run.ran run.after run.run in
-      seen_as_one store run.numbered.numbering run.after.first run.store_is.key_places (keys_stay keys run.first.first run.after.first go first) run.numbered.parts run.shared.agree run.shared.agree_faults
+      seen_as_one store run.numbered.numbering run.after.first (keys_stay keys run.first.first run.after.first go first) run.numbered.parts run.shared.agree run.shared.agree_faults

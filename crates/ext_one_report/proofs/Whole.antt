@@ -90,7 +90,6 @@ module _ (plan : PlanText) (lanes : ℕ) (results : List (ResultOf Fault)) (run 
   is_view = record {
     places = subst (λ n. map (λ (known : KnownPlace). known.place) n ≡ store.id.keys) (seen.numbering_is some_lane)
         (subst (λ (s : StoreView). map (λ (known : KnownPlace). known.place) seen.view.numbering ≡ s.id.keys) seen.store_is seen.is_view.places);
-    count = run.store_is.key_places;
   }
 
   pub in_view : (lane : PlanLane) → Contains run.after.first lane → IsLaneIn view lane

@@ -344,6 +344,7 @@ are_runnable mode before first second one two three = record {
   tree = are_tree;
   tests = no_children mode before first second;
   locks = omega arith;
+  places = record { whole = refl; some = omega arith; few = omega arith };
   namespaces = all_none HasParts;
   short = of_all_steps (λ steps. length steps ≤ step_limit) mode before first second one.few two.few three.few;
   few = few_callbacks mode before first second;

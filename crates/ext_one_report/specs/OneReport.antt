@@ -6,7 +6,7 @@ use Rattle.ext_lifecycle.specs.FaultTexts.{NodeOutcome, fault_text}
 use Rattle.ext_lifecycle.specs.Results.{ResultOf, with_fault_told}
 use Rattle.ext_plan.specs.Plans.{PlanText}
 use Rattle.ext_plan.specs.ReadPlans.{IsReadPlan}
-use Rattle.ext_races.specs.Races.{key_limit, number_limit}
+use Rattle.ext_races.specs.Races.{number_limit}
 use Rattle.ext_races.specs.Touches.{keys_named, numbers_drawn}
 use Rattle.ext_parallel.specs.ParallelRun.{ParallelRun}
 use Rattle.ext_plain.specs.PlainRun.{plain_run}
@@ -20,7 +20,7 @@ use Rattle.ext_one_report.specs.FullRuns.{LacksNothing}
 pub record HasOneReport (plan : PlanText) : Type 0 where
   pub apart : KeepsApart plan
   pub closes : ClosesTellOne plan
-  pub keys : length (keys_named plan) ≤ key_limit
+  pub keys : length (keys_named plan) ≤ plan.key_places
   pub numbers : numbers_drawn plan < number_limit
 
 -- Each run of such a plan that lacks nothing reports of each node what the plain run does, on however many lanes and in
@@ -35,7 +35,7 @@ OneReport =
 pub record HasNearReport (plan : PlanText) : Type 0 where
   pub alike : SharesValues plan
   pub closes : ClosesTellOne plan
-  pub keys : length (keys_named plan) ≤ key_limit
+  pub keys : length (keys_named plan) ≤ plan.key_places
   pub numbers : numbers_drawn plan < number_limit
 
 -- The reports are the same for each node, except for which shared values it computed and which it found.

@@ -13,7 +13,7 @@ use Rattle.ext_plan.specs.ReadPlans.{IsReadPlan, NamesLabelBelow, StayOnPath}
 use Rattle.ext_plan.specs.Steps.{step_limit}
 use Rattle.ext_races.specs.declared.race.Race.{Race}
 use Rattle.ext_races.specs.Beside.{IsBeside}
-use Rattle.ext_races.specs.Races.{IsRace, key_limit, number_limit}
+use Rattle.ext_races.specs.Races.{IsRace, number_limit}
 use Rattle.ext_races.specs.Touches.{keys_named, numbers_drawn}
 use Rattle.ext_one_report.specs.Apart.{KeepsApart, ClosesTellOne}
 use Rattle.ext_plan.specs.StoreKeys.{key_of_step}
@@ -57,6 +57,7 @@ test_of_class mode name steps = record {
 abbrev pub tests_of_mode : Mode → List StepText → List StepText → List StepText → PlanText
 tests_of_mode mode before first second = record {
   keep_faults = false;
+  key_places = 64;
   keys = [];
   nodes = container root_id [] ∷ container class_id (before ∷ []) ∷ test_of_class mode (codes "m") first ∷ test_of_class mode (codes "n") second ∷ [];
 }
@@ -144,7 +145,7 @@ WorkedTellsOne = ClosesTellOne worked_plan
 
 -- There are keys for all that its steps name.
 abbrev pub WorkedHasKeys : Type 0
-WorkedHasKeys = length (keys_named worked_plan) ≤ key_limit
+WorkedHasKeys = length (keys_named worked_plan) ≤ worked_plan.key_places
 
 -- There are more numbers than they may draw.
 abbrev pub WorkedHasNumbers : Type 0

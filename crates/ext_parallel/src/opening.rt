@@ -2,7 +2,7 @@
 ghost use Rattle.std.specs.Prelude.{◌≡◌, ◌≤◌, ◌*◌, map, length, All, IfOk};
 ghost use Rattle.ext_cells.specs.Lanes.{fresh_lanes};
 ghost use Rattle.ext_plan.specs.Plans.{plan_view};
-ghost use Rattle.ext_plan.specs.ReadPlans.{HasFewLocks, NodesAreTree};
+ghost use Rattle.ext_plan.specs.ReadPlans.{HasFewLocks, HasKeyPlaces, NodesAreTree};
 ghost use Rattle.ext_store.specs.Stores.{IsLaneOf, closers_below, fresh_store_lane};
 ghost use Rattle.ext_locks.specs.Opening as locking;
 ghost use Rattle.ext_parallel.specs.Opened.{IsLocksOf, IsStoreOf};
@@ -26,6 +26,7 @@ pub(crate) fn open_store<V: StoreValue + Drop>(
 ) -> Result<(Store<V>, Vec<Lane<V>>, Vec<Closer>), AllocError>
     requires lanes { (1 ≤ lanes) × (lanes ≤ 16) }
     requires tree { NodesAreTree (plan_view plan.now) }
+    requires places { HasKeyPlaces (plan_view plan.now) }
     ensures store { IfOk result (λ r. IsStoreOf (plan_view plan.now) lanes r.0) }
     ensures lanes { IfOk result (λ r. r.1.items ≡ map (fresh_store_lane r.0.id.places r.0.id.fault_places r.0.id.keys) (fresh_lanes r.0.id.cells 0 lanes)) }
     ensures own_lanes { IfOk result (λ r. All (IsLaneOf r.0.id) r.1.items) }
@@ -35,7 +36,7 @@ pub(crate) fn open_store<V: StoreValue + Drop>(
     let limits = Limits {
         lanes,
         tries: TRIES,
-        keys: 64,
+        keys: plan.key_places,
         numbers: NUMBERS,
         keep_faults: plan.keep_faults,
     };

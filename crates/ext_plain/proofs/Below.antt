@@ -17,7 +17,7 @@ use Rattle.ext_plain.specs.PlainRunLaws.{HasRun}
 use Rattle.ext_plan.specs.PlanCalls.{test_of, concurrent_of}
 use Rattle.ext_plain.specs.NodeCalls.{befores_run}
 use Rattle.ext_plain.specs.PlainRun.{RunState, body_run, container_run, node_run, outcome_of, plain_run_by, run_opening, skipped_from, test_node_run}
-use Rattle.ext_plain.specs.ValueStates.{key_limit, Memory}
+use Rattle.ext_plain.specs.ValueStates.{Memory}
 use Rattle.ext_plain.proofs.Ends.{body_end, container_end, test_end}
 use Rattle.ext_plain.proofs.Nodes.{child_is}
 use Rattle.ext_plain.proofs.Reached.{Stands, outcome-ran, set-elsewhere, set-here, set-kept}
@@ -102,14 +102,14 @@ module _ (plan : PlanText) (tree : NodesAreTree plan) where
       let tested = test_end plan at path run in
       let contained = container_end plan (node_run plan levels) at path run in
       let before = befores_run plan false at path run.state in
-      let x = outcome_of at true tested (faults_of_closes key_limit at (seal_keys key_limit at tested.state)) in
-      let y = outcome_of at false contained (faults_of_closes key_limit at (seal_keys key_limit at contained.state)) in
+      let x = outcome_of at true tested (faults_of_closes tested.state.places at (seal_keys tested.state.places at tested.state)) in
+      let y = outcome_of at false contained (faults_of_closes contained.state.places at (seal_keys contained.state.places at contained.state)) in
       let below : (child : ℕ) (run : RunState) → IsParentOf ids at child → AreAbove ids path run.results → AreAbove ids path (node_run plan levels (child ∷ path) run).results =
       λ child r is old. node-above levels child path r is.child_within (record { parent = λ p other. inl (one_parent ids tree p at child other is) }) old in
       let body = body-above (node_run plan levels) at above below (all_successful before.calls) (record { state = before.state; results = run.results }) within wide in
       either-above ids above (is_some (test_of plan at)) (test_node_run plan at path run) (container_run plan (node_run plan levels) at path run)
-      (set-above ids at above run.results x (outcome-ran at true tested (faults_of_closes key_limit at (seal_keys key_limit at tested.state))) under wide)
-      (set-above ids at above (body_end plan (node_run plan levels) at path run).results y (outcome-ran at false contained (faults_of_closes key_limit at (seal_keys key_limit at contained.state))) under body)
+      (set-above ids at above run.results x (outcome-ran at true tested (faults_of_closes tested.state.places at (seal_keys tested.state.places at tested.state))) under wide)
+      (set-above ids at above (body_end plan (node_run plan levels) at path run).results y (outcome-ran at false contained (faults_of_closes contained.state.places at (seal_keys contained.state.places at contained.state))) under body)
 
 -- ---- the whole run
 

@@ -11,7 +11,6 @@ use Rattle.ext_lifecycle.specs.Modes.{in_run_order}
 use Rattle.ext_plan.specs.Plans.{PlanText}
 use Rattle.ext_plan.specs.PlanCalls.{concurrent_of, test_of}
 use Rattle.ext_plan.specs.ReadPlans.{ids_of_nodes, NodesAreTree}
-use Rattle.ext_plain.specs.ValueStates.{key_limit}
 use Rattle.ext_plain.specs.NodeCalls.{befores_run}
 use Rattle.ext_plain.specs.ContextEnds.{seal_keys, faults_of_closes}
 use Rattle.ext_plain.specs.InnerSteps.{AllBelow}
@@ -92,8 +91,8 @@ module _ (plan : PlanText) (tree : NodesAreTree plan) where
       let before = befores_run plan false at path run.state in
       let opened : RunState = record { state = before.state; results = run.results } in
       let body = body_end plan (node_run plan levels) at path run in
-      let x = outcome_of at true tested (faults_of_closes key_limit at (seal_keys key_limit at tested.state)) in
-      let y = outcome_of at false contained (faults_of_closes key_limit at (seal_keys key_limit at contained.state)) in
+      let x = outcome_of at true tested (faults_of_closes tested.state.places at (seal_keys tested.state.places at tested.state)) in
+      let y = outcome_of at false contained (faults_of_closes contained.state.places at (seal_keys contained.state.places at contained.state)) in
       let one : (r : RunState) (child : ℕ) → IsParentOf ids at child → Elsewhere ids path (node_run plan levels (child ∷ path) r).results r.results k =
       λ r child is. under-parent ids child path (node_run plan levels (child ∷ path) r).results r.results k (outside levels child path k r (is, walk) is.child_within) in
       either-outside path run.results k (is_some (test_of plan at)) (test_node_run plan at path run) (container_run plan (node_run plan levels) at path run)

@@ -155,6 +155,6 @@ step-few keys found path (keyed word key text up) s =
     let acts : ℕ → ValueState → StepEnd = acts_by found word call text in
     made-few found (is_made keys key) s _
     (first-few found call.name call.label (value_first word text) (numbered_by found call.name call.label call.key acts) s
-    (λ t. number-few found call.name call.label call.key acts t (numbering_of t.keys call.key) (acts-few found word call text)))
+    (λ t. number-few found call.name call.label call.key acts t (numbering_of t.places t.keys call.key) (acts-few found word call text)))
 step-few keys found path (fail text) s = said-few found (ended (failed text) s) (ended-few _ s)
 step-few keys found path (abort text) s = said-few found (ended (aborted text) s) (ended-few _ s)

@@ -25,7 +25,7 @@ use Rattle.ext_plan.specs.Steps.{step_key}
 use Rattle.ext_plan.specs.StepWords.{word_text}
 use Rattle.ext_plan.specs.StepCalls.{CallText, call_of, is_made, start_of}
 use Rattle.ext_plan.specs.Values.{ValueText}
-use Rattle.ext_plain.specs.ValueStates.{key_limit, Memory, enough, no_key, no_value, no_number, no_place, no_words, ValueState, with_memory, next_found, found_later, after_act, why_refused, next_number, keep_value, Numbering, known, next, full, numbering_of, with_number}
+use Rattle.ext_plain.specs.ValueStates.{Memory, enough, no_key, no_value, no_number, no_place, no_words, ValueState, with_memory, next_found, found_later, after_act, why_refused, next_number, keep_value, Numbering, known, next, full, numbering_of, with_number}
 use Rattle.ext_plain.specs.StepRuns.{StepEnd, ended, no_memory, said_by, lacks_key, lacks_value, lacks_number, lacks_place, number_by, numbered_by, found_along, or_refused, kept_or_refused, put_kept, put_in, factory_gave, factory_failed, if_empty, if_absent, claim_and, compute_looked, compute_by, computefail_looked, computefail_by, step_by, next_step, unless_ended, steps_run, act_ends, acts_by, call_by, first_kept, value_first, seen_by}
 use Rattle.ext_plain.specs.ContextEnds.{seal_keys}
 use Rattle.ext_plan.specs.PlanCalls.{registered, steps_of_call, test_of, concurrent_of}
@@ -49,11 +49,11 @@ pub record IsKept (P : ValueState → Type 0) : Type 0 where
 
 -- and where this key gets a number,
 pub record IsKeptNaming (P : ValueState → Type 0) (key : KeyValue) : Type 0 where
-  pub gets : (number : ℕ) (s : ValueState) → numbering_of s.keys key ≡ next number → P s → P (with_number key s)
+  pub gets : (number : ℕ) (s : ValueState) → numbering_of s.places s.keys key ≡ next number → P s → P (with_number key s)
 
 -- or where any key gets one
 pub record IsKeptNumbered (P : ValueState → Type 0) : Type 0 where
-  pub numbers : (key : KeyValue) (number : ℕ) (s : ValueState) → numbering_of s.keys key ≡ next number → P s → P (with_number key s)
+  pub numbers : (key : KeyValue) (number : ℕ) (s : ValueState) → numbering_of s.places s.keys key ≡ next number → P s → P (with_number key s)
 
 -- or where the key gets one that the step names, if it names one
 abbrev pub IsKeptByStep : (ValueState → Type 0) → List KeyText → StepText → Type 0
@@ -168,7 +168,7 @@ kept_or_refused-kept P found name label None s goes_on h go = go refl
 kept_or_refused-kept P found name label (Some why) s goes_on h go = h
 
 module _ (P : ValueState → Type 0) (kept : IsKept P) where
-  number-kept : (found : Memory) (name label : List ℕ) (key : KeyValue) (goes_on : ℕ → ValueState → StepEnd) (s : ValueState) (numbering : Numbering) → IsKeptNaming P key → numbering_of s.keys key ≡ numbering
+  number-kept : (found : Memory) (name label : List ℕ) (key : KeyValue) (goes_on : ℕ → ValueState → StepEnd) (s : ValueState) (numbering : Numbering) → IsKeptNaming P key → numbering_of s.places s.keys key ≡ numbering
       → ((number : ℕ) (t : ValueState) → P t → P (goes_on number t).state) → P s → P (number_by found name label key goes_on s numbering).state
   number-kept found name label key goes_on s (known number) named is each h = each number s h
   number-kept found name label key goes_on s (next number) named is each h =
@@ -199,7 +199,7 @@ module _ (P : ValueState → Type 0) (kept : IsKept P) where
       let acts : ℕ → ValueState → StepEnd = acts_by found word call text in
       either-kept P kept (lacks_key found && is_made keys key) (ended no_memory s) (call_by found word call text s) (λ lacks. h)
       (first-kept found call.name call.label (value_first word text) (numbered_by found call.name call.label call.key acts) s
-      (λ t p. number-kept found call.name call.label call.key acts t (numbering_of t.keys call.key) named refl (acts-kept found word call text) p) h)
+      (λ t p. number-kept found call.name call.label call.key acts t (numbering_of t.places t.keys call.key) named refl (acts-kept found word call text) p) h)
   step-kept-by keys found path (fail text) s named h = said-kept P kept found (ended (failed text) s) h
   step-kept-by keys found path (abort text) s named h = said-kept P kept found (ended (aborted text) s) h
 
@@ -275,8 +275,8 @@ module _ (P : ValueState → Type 0) (kept : IsKept P) (plan : PlanText) (calls 
   node-kept-by (suc levels) path run h =
       let at = start_of path in
       node-by-kept (is_some (test_of plan at)) (test_node_run plan at path run) (container_run plan (node_run plan levels) at path run)
-      (seals-kept P kept key_limit at (test_end plan at path run).state (test-open-by at path run h))
-      (seals-kept P kept key_limit at (container_end plan (node_run plan levels) at path run).state (container-open-by (node_run plan levels) (node-kept-by levels) at path run h))
+      (seals-kept P kept (test_end plan at path run).state.places at (test_end plan at path run).state (test-open-by at path run h))
+      (seals-kept P kept (container_end plan (node_run plan levels) at path run).state.places at (container_end plan (node_run plan levels) at path run).state (container-open-by (node_run plan levels) (node-kept-by levels) at path run h))
 
 -- ---- where any key gets a number
 

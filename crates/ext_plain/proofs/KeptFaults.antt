@@ -86,7 +86,7 @@ fault_known place text s h room =
 
 -- ---- the steps that meet it
 
-meets_fault : (keys : List KeyText) (path : List ℕ) (key : StepKeyText) (up : ℕ) (text : List ℕ) (s : ValueState) (named at number : ℕ) → numbering_of s.keys (key_of_step keys key) ≡ known named → found_along named (drop up path) s ≡ look.Fault at number
+meets_fault : (keys : List KeyText) (path : List ℕ) (key : StepKeyText) (up : ℕ) (text : List ℕ) (s : ValueState) (named at number : ℕ) → numbering_of s.places s.keys (key_of_step keys key) ≡ known named → found_along named (drop up path) s ≡ look.Fault at number
     → shown_fault (value_of s.values number) ≡ seen_fault text → MeetsFault keys path key up text s
 meets_fault keys path key up text s named at number has found known_text =
     let label = label_of keys key in
@@ -124,7 +124,7 @@ same_fault name label text (Some fault) passed = ap seen_fault ((bytes_eq-Decide
 
 -- where it found nothing
 kept_is_met : (keys : List KeyText) (path : List ℕ) (at : ℕ) (above : List ℕ) (key : StepKeyText) (up : ℕ) (text : List ℕ) (s : ValueState) (named : ℕ) → drop up path ≡ at ∷ above → HasValues s
-    → numbering_of s.keys (key_of_step keys key) ≡ known named → IsKeptFault (codes "computefail") (label_of keys key) (start_of (drop up path), named) text s
+    → numbering_of s.places s.keys (key_of_step keys key) ≡ known named → IsKeptFault (codes "computefail") (label_of keys key) (start_of (drop up path), named) text s
     → MeetsFault keys path key up text (failing (start_of (drop up path), named) text s)
 kept_is_met keys path at above key up text s named is h has kept =
     let place : Place = (start_of (drop up path), named) in
@@ -134,7 +134,7 @@ kept_is_met keys path at above key up text s named is h has kept =
 
 -- by what it found
 passed_meets : (keys : List KeyText) (path : List ℕ) (at : ℕ) (above : List ℕ) (key : StepKeyText) (up : ℕ) (text : List ℕ) (s : ValueState) (named : ℕ) (found : Look) → drop up path ≡ at ∷ above → HasValues s → s.keep_faults ≡ true
-    → numbering_of s.keys (key_of_step keys key) ≡ known named → found_along named (drop up path) s ≡ found
+    → numbering_of s.places s.keys (key_of_step keys key) ≡ known named → found_along named (drop up path) s ≡ found
     → (let end = computefail_looked (codes "computefail") (label_of keys key) (start_of (drop up path), named) text s found in end.verdict ≡ successful → MeetsFault keys path key up text end.state)
 passed_meets keys path at above key up text s named (look.Found in_context number) is h keeps has found = λ passed. absurd (value_fails (codes "computefail") (label_of keys key) (value_of s.values number) passed)
 passed_meets keys path at above key up text s named (look.Fault in_context number) is h keeps has found = λ passed.
@@ -147,20 +147,20 @@ passed_meets keys path at above key up text s named (look.Closed in_context) is 
 
 -- by what its key had
 named_meets : (keys : List KeyText) (path : List ℕ) (at : ℕ) (above : List ℕ) (key : StepKeyText) (up : ℕ) (text : List ℕ) (s : ValueState) (numbering : Numbering) → drop up path ≡ at ∷ above → HasValues s → s.keep_faults ≡ true
-    → numbering_of s.keys (key_of_step keys key) ≡ numbering
+    → numbering_of s.places s.keys (key_of_step keys key) ≡ numbering
     → (let label = label_of keys key in let end = number_by enough (codes "computefail") label (key_of_step keys key) (computefail_numbered enough (codes "computefail") label (drop up path) text) s numbering in
     end.verdict ≡ successful → MeetsFault keys path key up text end.state)
 named_meets keys path at above key up text s (known named) is h keeps has = passed_meets keys path at above key up text s named (found_along named (drop up path) s) is h keeps has refl
 named_meets keys path at above key up text s (next named) is h keeps has =
     let k = key_of_step keys key in
     let t = with_number k s in
-    passed_meets keys path at above key up text t named (found_along named (drop up path) t) is h keeps (known_then s.keys k named has) refl
+    passed_meets keys path at above key up text t named (found_along named (drop up path) t) is h keeps (known_then s.places s.keys k named has) refl
 named_meets keys path at above key up text s full is h keeps has = λ passed. absurd cc
 
 pub kept_fault_stands : (keys : List KeyText) (path : List ℕ) (at : ℕ) (above : List ℕ) (key : StepKeyText) (up : ℕ) (text : List ℕ) (s : ValueState) → drop up path ≡ at ∷ above → HasValues s → s.keep_faults ≡ true
     → (step_run keys path (keyed words.ComputeFail key text up) s).verdict ≡ successful
     → MeetsFault keys path key up text (step_run keys path (keyed words.ComputeFail key text up) s).state
-kept_fault_stands keys path at above key up text s is h keeps passed = named_meets keys path at above key up text s (numbering_of s.keys (key_of_step keys key)) is h keeps refl passed
+kept_fault_stands keys path at above key up text s is h keeps passed = named_meets keys path at above key up text s (numbering_of s.places s.keys (key_of_step keys key)) is h keeps refl passed
 
 -- ---- where faults are not kept
 
@@ -191,8 +191,8 @@ named-same name label key path text s (next number) keeps = looked-same name lab
 named-same name label key path text s full keeps = refl
 
 pub no_fault_stays : (keys : List KeyText) (path : List ℕ) (key : StepKeyText) (up : ℕ) (text : List ℕ) (s : ValueState) → s.keep_faults ≡ false
-    → (let k = key_of_step keys key in (step_run keys path (keyed words.ComputeFail key text up) s).state ≡ named_by (numbering_of s.keys k) k s)
-no_fault_stays keys path key up text s keeps = named-same (codes "computefail") (label_of keys key) (key_of_step keys key) (drop up path) text s (numbering_of s.keys (key_of_step keys key)) keeps
+    → (let k = key_of_step keys key in (step_run keys path (keyed words.ComputeFail key text up) s).state ≡ named_by (numbering_of s.places s.keys k) k s)
+no_fault_stays keys path key up text s keeps = named-same (codes "computefail") (label_of keys key) (key_of_step keys key) (drop up path) text s (numbering_of s.places s.keys (key_of_step keys key)) keeps
 
 -- ---- where faults are not kept, none stands
 

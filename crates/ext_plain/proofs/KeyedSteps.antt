@@ -49,7 +49,7 @@ numbered-on found name label key goes_on old mid number end has (inr got) is =
     ∙ sym (ap (number_by found name label key goes_on old) got.0)
 
 -- all numbers are given
-numbered-full : (found : Memory) (name label : List ℕ) (key : KeyValue) (goes_on : ℕ → ValueState → StepEnd) (old : ValueState) → numbering_of old.keys key ≡ full
+numbered-full : (found : Memory) (name label : List ℕ) (key : KeyValue) (goes_on : ℕ → ValueState → StepEnd) (old : ValueState) → numbering_of old.places old.keys key ≡ full
     → numbered_by found name label key goes_on old ≡ said_by found (ended (refused name label reasons.DirectoryFull) old)
 numbered-full found name label key goes_on old is = ap (number_by found name label key goes_on old) is
 
@@ -104,7 +104,7 @@ kept-full-says made call value old kept mid drawn answer why r w keeps told refu
     let k = call.key in
     let no : HasNoNumber k kept mid why = subst (λ (a : Result ℕ Reason). Declares k kept mid (Ok a)) refuses told in
     let stores : Memory → ℕ → ValueState → StepEnd = λ m number. put_in m call.name call.label (start_of call.path, number) in
-    let numbering : numbering_of old.keys k ≡ full = sym (ap (λ (s : ValueState). numbering_of s.keys k) keeps.state) ∙ no.numbering in
+    let numbering : numbering_of old.places old.keys k ≡ full = sym (ap (λ (s : ValueState). numbering_of s.places s.keys k) keeps.state) ∙ no.numbering in
     let v = refused call.name call.label reasons.DirectoryFull in
     let stored : Memory → StepEnd = λ m. numbered_by m call.name call.label k (stores m) (keep_value value old) in
     let whole : (m : Memory) → kept_or_refused m call.name call.label (why_refused (next_number old) old) old (stored m) ≡ said_by m (ended v (keep_value value old)) =

@@ -150,6 +150,6 @@ does_or_lacks keys found path (keyed word key text up) s =
     let acts : ℕ → ValueState → StepEnd = acts_by enough word call text in
     made-either found (is_made keys key) s _ _
     (first-either found call.name call.label (value_first word text) (numbered_by found call.name call.label call.key lacks) (numbered_by enough call.name call.label call.key acts) s
-    (λ t. number-either found call.name call.label call.key lacks acts t (numbering_of t.keys call.key) (acts-either found word call text)))
+    (λ t. number-either found call.name call.label call.key lacks acts t (numbering_of t.places t.keys call.key) (acts-either found word call text)))
 does_or_lacks keys found path (fail text) s = said found (ended (failed text) s)
 does_or_lacks keys found path (abort text) s = said found (ended (aborted text) s)

@@ -18,6 +18,7 @@ pub mod Nodes
 pub mod Runs
 pub mod Ends
 pub mod Kept
+pub mod PlacesStay
 pub mod Seals
 pub mod Values
 pub mod KeptFaults

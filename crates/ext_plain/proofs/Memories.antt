@@ -67,7 +67,7 @@ module _ (m : List Memory) where
 
   numbered_by-with : (found : Memory) (name label : List ℕ) (key : KeyValue) (goes_on : ℕ → ValueState → StepEnd) (s : ValueState) → ((number : ℕ) (t : ValueState) → end_with m (goes_on number t) ≡ goes_on number (with_memory m t))
       → end_with m (numbered_by found name label key goes_on s) ≡ numbered_by found name label key goes_on (with_memory m s)
-  numbered_by-with found name label key goes_on s each = number_by-with found name label key goes_on s (numbering_of s.keys key) each
+  numbered_by-with found name label key goes_on s each = number_by-with found name label key goes_on s (numbering_of s.places s.keys key) each
 
   put_in-with : (found : Memory) (name label : List ℕ) (place : Place) (kept : ValueState) → end_with m (put_in found name label place kept) ≡ put_in found name label place (with_memory m kept)
   put_in-with found name label place kept =

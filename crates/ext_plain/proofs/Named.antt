@@ -15,7 +15,7 @@ use Rattle.ext_plan.specs.StepWords.{word_text}
 use Rattle.ext_plan.specs.StepCalls.{call_of, is_made}
 use Rattle.ext_plan.specs.Values.{ValueText}
 use Rattle.ext_plan.specs.Verdicts.{refused}
-use Rattle.ext_plain.specs.ValueStates.{key_limit, Memory, enough, no_key, no_value, no_number, no_place, no_words, ValueState, why_refused, next_number, keep_value, Numbering, known, next, full, numbering_of, with_number}
+use Rattle.ext_plain.specs.ValueStates.{Memory, enough, no_key, no_value, no_number, no_place, no_words, ValueState, why_refused, next_number, keep_value, Numbering, known, next, full, numbering_of, with_number}
 use Rattle.ext_plain.specs.StepRuns.{StepEnd, ended, no_memory, said_by, lacks_key, lacks_number, lacks_value, number_by, numbered_by, kept_or_refused, acts_by, call_by, first_kept, step_by, value_first}
 use Rattle.ext_plain.specs.PlainRunLaws.{IsUnchangedButKept, KeepsNumber, NumbersKeys, NumbersOnce, kept_first}
 use Rattle.ext_plain.proofs.Kept.{IsKept, IsKeptNumbered, acts-kept, node-kept, step-kept, steps-kept}
@@ -52,10 +52,10 @@ keys_kept = record {
   fails = λ place value s keeps won room h. record { different = h.different; few = h.few };
 }
 
-one-more : (key : KeyValue) (number : ℕ) (s : ValueState) → numbering_of s.keys key ≡ next number → NumbersKeys s → NumbersKeys (with_number key s)
+one-more : (key : KeyValue) (number : ℕ) (s : ValueState) → numbering_of s.places s.keys key ≡ next number → NumbersKeys s → NumbersKeys (with_number key s)
 one-more key number s is h =
-    let new = next_is s.keys key number is in
-    let room = ltb-true (length s.keys) key_limit new.room in
+    let new = next_is s.places s.keys key number is in
+    let room = ltb-true (length s.keys) s.places new.room in
     let longer = length-append s.keys (key ∷ []) in
     record { different = different_with s.keys key h.different (not_contained s.keys key new.there); few = omega (arith, room, longer) }
 
@@ -110,12 +110,12 @@ module _ (key : KeyValue) where
   goes-there : (P : ValueState → Type 0) (end : StepEnd) → There end.state.keys → Absent end.state.keys → P end.state
   goes-there P end there absent = absurd (true≢false (sym there ∙ absent))
 
-  number-absent : (P : ValueState → Type 0) (found : Memory) (name label : List ℕ) (goes_on : ℕ → ValueState → StepEnd) (s : ValueState) (numbering : Numbering) → numbering_of s.keys key ≡ numbering
+  number-absent : (P : ValueState → Type 0) (found : Memory) (name label : List ℕ) (goes_on : ℕ → ValueState → StepEnd) (s : ValueState) (numbering : Numbering) → numbering_of s.places s.keys key ≡ numbering
       → ((number : ℕ) (t : ValueState) → There t.keys → There (goes_on number t).state.keys) → P s → Absent (number_by found name label key goes_on s numbering).state.keys → P (number_by found name label key goes_on s numbering).state
-  number-absent P found name label goes_on s (known number) is each h = goes-there P (goes_on number s) (each number s (known_is s.keys key number is).there)
+  number-absent P found name label goes_on s (known number) is each h = goes-there P (goes_on number s) (each number s (known_is s.places s.keys key number is).there)
   number-absent P found name label goes_on s (next number) is each h =
       either-state P (lacks_number found) (ended no_memory s) (goes_on number (with_number key s)) (λ absent. h)
-      (goes-there P (goes_on number (with_number key s)) (each number (with_number key s) (there_then s.keys key (next_is s.keys key number is).there)))
+      (goes-there P (goes_on number (with_number key s)) (each number (with_number key s) (there_then s.keys key (next_is s.places s.keys key number is).there)))
   number-absent P found name label goes_on s full is each h = λ absent. said-state P found (ended (refused name label reasons.DirectoryFull) s) h
 
   kept_or_refused-absent : (P : ValueState → Type 0) (found : Memory) (name label : List ℕ) (why : Option Reason) (s : ValueState) (goes_on : StepEnd) → P s → (Absent goes_on.state.keys → P goes_on.state)
@@ -148,7 +148,7 @@ module _ (keys : List KeyText) (found : Memory) (path : List ℕ) where
       let acts : ℕ → ValueState → StepEnd = acts_by found word call text in
       either-state k (IsUnchangedButKept value s) (lacks_key found && is_made keys own) (ended no_memory s) (call_by found word call text s) (λ absent. unchanged value s)
       (first-absent k found call.name call.label value (numbered_by found call.name call.label call.key acts) s
-      (λ P t h. number-absent k P found call.name call.label acts t (numbering_of t.keys k) refl (acts-kept (OfKeys (There k)) (of-keys (There k)) found word call text) h))
+      (λ P t h. number-absent k P found call.name call.label acts t (numbering_of t.places t.keys k) refl (acts-kept (OfKeys (There k)) (of-keys (There k)) found word call text) h))
 
   -- the key that the step names is the one that is spoken of
   by_own : (own key : StepKeyText) (step : StepText) (s : ValueState) → own ≡ key → is_there (step_by keys found path step s).state.keys (key_of_step keys key) ≡ false

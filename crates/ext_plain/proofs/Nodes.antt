@@ -18,7 +18,7 @@ use Rattle.ext_plain.specs.InnerSteps.{calls_end}
 use Rattle.ext_plan.specs.PlanCalls.{test_of}
 use Rattle.ext_plain.specs.NodeCalls.{CallsEnd}
 use Rattle.ext_plain.specs.PlainRun.{RunState, container_run, outcome_of, with_result, node_end, node_run, test_node_run}
-use Rattle.ext_plain.specs.ValueStates.{key_limit, ValueState}
+use Rattle.ext_plain.specs.ValueStates.{ValueState}
 
 -- ---- levels
 
@@ -67,8 +67,8 @@ outcome_is at is_test s closed outcomes faults r is closes =
     ∙ ap (outcome_of at is_test (calls_end s outcomes)) closes
 
 pub end_is : (at : ℕ) (is_test : Bool) (end : CallsEnd) (results : List NodeOutcome) (sealed : ValueState) (closed : List (Option (List ℕ))) (o : NodeOutcome)
-    → sealed ≡ seal_keys key_limit at end.state → closed ≡ faults_of_closes key_limit at sealed → o ≡ outcome_of at is_test end closed
+    → sealed ≡ seal_keys end.state.places at end.state → closed ≡ faults_of_closes end.state.places at sealed → o ≡ outcome_of at is_test end closed
     → (let run : RunState = record { state = sealed; results = with_result o results } in run ≡ node_end at is_test end results)
 end_is at is_test end results sealed closed o is told shown =
     ap (λ o. record { state = sealed; results = with_result o results }) (shown ∙ ap (outcome_of at is_test end) told)
-    ∙ ap (λ s. record { state = s; results = with_result (outcome_of at is_test end (faults_of_closes key_limit at s)) results }) is
+    ∙ ap (λ s. record { state = s; results = with_result (outcome_of at is_test end (faults_of_closes end.state.places at s)) results }) is

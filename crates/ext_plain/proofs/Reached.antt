@@ -22,7 +22,7 @@ use Rattle.ext_plain.specs.PlainRunLaws.{HasNoBeforeAlls, HasRun, goes_on}
 use Rattle.ext_plan.specs.PlanCalls.{callbacks_in, test_in, test_of, concurrent_of}
 use Rattle.ext_plain.specs.NodeCalls.{CallsEnd, befores_run, call_run, make_befores, no_calls}
 use Rattle.ext_plain.specs.PlainRun.{RunState, body_run, container_run, node_run, outcome_of, plain_run_by, run_opening, test_node_run}
-use Rattle.ext_plain.specs.ValueStates.{key_limit, Memory}
+use Rattle.ext_plain.specs.ValueStates.{Memory}
 use Rattle.ext_plain.proofs.Ends.{body_end, container_end, test_end}
 use Rattle.ext_plain.proofs.Nodes.{node_run-suc}
 use Rattle.ext_plain.proofs.Sound.{node-kept, tests_of_plan}
@@ -173,7 +173,7 @@ module _ (plan : PlanText) where
       let before = befores_run plan false at path run.state in
       let opened : RunState = record { state = before.state; results = run.results } in
       let end = container_end plan (node_run plan levels) at path run in
-      let closed = faults_of_closes key_limit at (seal_keys key_limit at end.state) in
+      let closed = faults_of_closes end.state.places at (seal_keys end.state.places at end.state) in
       let body : HasRun k (body_end plan (node_run plan levels) at path run).results = subst (λ b. HasRun k (body_run plan (node_run plan levels) b path opened).results) (sym go) reached in
       let ran : HasRun k (container_run plan (node_run plan levels) at path run).results = set-kept (body_end plan (node_run plan levels) at path run).results at k (outcome_of at false end closed) (outcome-ran at false end closed) body in
       subst (λ (r : RunState). HasRun k r.results) (sym (node_run-suc plan levels path run ∙ ap (λ b. if b then test_node_run plan at path run else container_run plan (node_run plan levels) at path run) container)) ran
@@ -196,8 +196,8 @@ node-ran plan levels path run =
     let contained = container_end plan (node_run plan levels) at path run in
     subst (λ (r : RunState). HasRun at r.results) (sym (node_run-suc plan levels path run))
     (either-ran at (is_some (test_of plan at)) (test_node_run plan at path run) (container_run plan (node_run plan levels) at path run)
-    (set-here run.results at (outcome_of at true tested (faults_of_closes key_limit at (seal_keys key_limit at tested.state))) (outcome-ran at true tested (faults_of_closes key_limit at (seal_keys key_limit at tested.state))))
-    (set-here (body_end plan (node_run plan levels) at path run).results at (outcome_of at false contained (faults_of_closes key_limit at (seal_keys key_limit at contained.state))) (outcome-ran at false contained (faults_of_closes key_limit at (seal_keys key_limit at contained.state)))))
+    (set-here run.results at (outcome_of at true tested (faults_of_closes tested.state.places at (seal_keys tested.state.places at tested.state))) (outcome-ran at true tested (faults_of_closes tested.state.places at (seal_keys tested.state.places at tested.state))))
+    (set-here (body_end plan (node_run plan levels) at path run).results at (outcome_of at false contained (faults_of_closes contained.state.places at (seal_keys contained.state.places at contained.state))) (outcome-ran at false contained (faults_of_closes contained.state.places at (seal_keys contained.state.places at contained.state)))))
 
 pub runs_node : (plan : PlanText) (levels : ℕ) (path : List ℕ) (run : RunState) → HasRun (start_of path) (node_run plan (levels + 1) path run).results
 runs_node plan levels path run = subst (λ n. HasRun (start_of path) (node_run plan n path run).results) (sym (add-one levels)) (node-ran plan levels path run)
@@ -222,7 +222,7 @@ skips_body plan levels other path run container stop differ =
     ap (λ n. node_run plan n path run) (add-one levels) ∙ node_run-suc plan levels path run ∙ ap (λ b. if b then test_node_run plan at path run else container_run plan (node_run plan levels) at path run) container in
     let body : (body_end plan (node_run plan levels) at path run).results ≡ run.results = ap (λ b. (body_run plan (node_run plan levels) b path opened).results) stop in
     ap (λ (r : RunState). slice_get r.results other) whole
-    ∙ set-elsewhere (body_end plan (node_run plan levels) at path run).results at other (outcome_of at false end (faults_of_closes key_limit at (seal_keys key_limit at end.state))) differ
+    ∙ set-elsewhere (body_end plan (node_run plan levels) at path run).results at other (outcome_of at false end (faults_of_closes end.state.places at (seal_keys end.state.places at end.state))) differ
     ∙ ap (λ rs. slice_get rs other) body
 
 -- ---- without callbacks before all children

@@ -14,7 +14,7 @@ use Rattle.ext_plan.specs.Steps.{step_key}
 use Rattle.ext_plan.specs.PlanCalls.{steps_of_call}
 use Rattle.ext_plan.proofs.KeyLists.{not_contained}
 use Rattle.ext_plan.proofs.PlanCalls.{of_steps_called}
-use Rattle.ext_plain.specs.ValueStates.{key_limit, ValueState, full, numbering_of}
+use Rattle.ext_plain.specs.ValueStates.{ValueState, full, numbering_of}
 use Rattle.ext_plain.specs.NodeCalls.{call_run}
 use Rattle.ext_plain.specs.PlainRunLaws.{NamesOneOf, NamesOnly, NumbersOnly}
 use Rattle.ext_plain.proofs.Kept.{IsKeptNaming, node-kept-by, step-kept-by, steps-kept-by}
@@ -88,10 +88,10 @@ few names (key ∷ keys) different there =
     omega (arith, less, one)
 
 -- no key of them finds all numbers given
-pub has_room : (names keys : List KeyValue) (key : KeyValue) → length names ≤ key_limit → AreDifferent keys → All (Contains names) keys → Contains names key → numbering_of keys key ≢ full
-has_room names keys key limit different within there = λ is.
-    let no = full_is keys key is in
+pub has_room : (places : ℕ) (names keys : List KeyValue) (key : KeyValue) → length names ≤ places → AreDifferent keys → All (Contains names) keys → Contains names key → numbering_of places keys key ≢ full
+has_room places names keys key limit different within there = λ is.
+    let no = full_is places keys key is in
     let all : All (Contains names) (keys ++ key ∷ []) = more-within names keys key there within in
     let count = few names (keys ++ key ∷ []) (different_with keys key different (not_contained keys key no.there)) (λ k d inside. there_by names (get_or (keys ++ key ∷ []) k d) (is_there names (get_or (keys ++ key ∷ []) k d)) refl (all k d inside)) in
-    let given = ltb-false (length keys) key_limit no.room in
+    let given = ltb-false (length keys) places no.room in
     omega (arith, count, given, limit, length-append keys (key ∷ []))

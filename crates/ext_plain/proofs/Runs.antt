@@ -22,7 +22,7 @@ use Rattle.ext_plan.specs.PlanCalls.{registered, test_of, concurrent_of}
 use Rattle.ext_plain.specs.NodeCalls.{CallsEnd, afters_run, befores_run, call_run, make_all, make_befores, make_if_successful}
 use Rattle.ext_plain.specs.ContextEnds.{faults_of_closes, seal_keys}
 use Rattle.ext_plain.specs.PlainRun.{RunState, body_run, container_run, node_end, node_run, outcome_of, test_node_run}
-use Rattle.ext_plain.specs.ValueStates.{Memory, ValueState, key_limit, with_memory}
+use Rattle.ext_plain.specs.ValueStates.{Memory, ValueState, with_memory}
 use Rattle.ext_lifecycle.specs.Modes.{in_run_order}
 use Rattle.ext_plan.specs.ReadPlans.{ids_of_nodes}
 use Rattle.ext_plan.proofs.NodeIds.{ids-map}
@@ -73,7 +73,7 @@ own-spared : (setting : Setting) (at : ℕ) (is_test : Bool) (os : List Outcome)
     → new.results ≡ (node_end at is_test (calls_end s os) results).results → NodeSpared setting.tree.now path new.results → Spares (texts_of os)
 own-spared setting at is_test os s results new path is_path is spared =
     let end = calls_end s os in
-    let closed = faults_of_closes key_limit at (seal_keys key_limit at end.state) in
+    let closed = faults_of_closes end.state.places at (seal_keys end.state.places at end.state) in
     let own = subst (λ rs. IsSomeAnd (slice_get rs at) IsSpared) is (spared.each at [] is_path) in
     subst Spares (texts-are os) (calls-spared at is_test end closed (set-at IsSpared results at (outcome_of at is_test end closed) own))
 
@@ -182,7 +182,8 @@ container-runs setting at p one two befores afters c d e f g first third tally r
       let whole_spared : Type 0 = NodeSpared setting.tree.now path new.results in
       let new_is : new.results ≡ (node_end at false (calls_end (store_of later g) (first ++ third)) left).results = ap (λ (r : RunState). r.results) (ended.each (first ++ third) tallied later) in
       let all_spared : whole_spared → Spares (texts_of (first ++ third)) = own-spared setting at false (first ++ third) (store_of later g) left new path is_path new_is in
-      let own = outcome_of at false (calls_end (store_of later g) (first ++ third)) (faults_of_closes key_limit at (seal_keys key_limit at (calls_end (store_of later g) (first ++ third)).state)) in
+      let last_end = calls_end (store_of later g) (first ++ third) in
+      let own = outcome_of at false last_end (faults_of_closes last_end.state.places at (seal_keys last_end.state.places at last_end.state)) in
       let below_spared : whole_spared → ChildrenSpared d.setting.tree.now at any_child path left =
       λ spared. subst (λ (s : Setting). ChildrenSpared s.tree.now at any_child path left) (sym opened.setting_is)
       (λ child parent among. children-keep setting at child path left own tree is_path parent (subst (NodeSpared setting.tree.now path) new_is spared)) in

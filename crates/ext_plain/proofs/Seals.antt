@@ -13,12 +13,13 @@ use Rattle.ext_model.specs.Plain.{Place, same_place, any_lane, state_by, next_st
 use Rattle.ext_model.proofs.Changes.{here, same_place_is}
 use Rattle.ext_model.proofs.Steps.{others_stay, seals_stay, abandon_undoes_claim}
 use Rattle.ext_plan.specs.Plans.{PlanText}
-use Rattle.ext_plain.specs.ValueStates.{key_limit, ValueState, run_numbers, refusal, reply_to, after_act, why_refused, next_number, keep_value}
+use Rattle.ext_plain.specs.ValueStates.{ValueState, run_numbers, refusal, reply_to, after_act, why_refused, next_number, keep_value}
 use Rattle.ext_plain.specs.ContextEnds.{seal_keys}
 use Rattle.ext_plain.specs.PlainRun.{RunState, container_run, node_end, node_run, test_node_run}
 use Rattle.ext_plain.specs.PlainRunLaws.{HasNoClaims}
 use Rattle.ext_plain.proofs.Ends.{body_end, container_end, test_end}
 use Rattle.ext_plain.proofs.Kept.{IsKept, IsKeptNumbered, container-open, node-kept, seals-kept, test-open}
+use Rattle.ext_plain.proofs.PlacesStay.{container-places, test-places}
 use Rattle.ext_lifecycle.specs.FaultTexts.{NodeOutcome}
 use Rattle.ext_plan.specs.Values.{ValueText}
 use Rattle.ext_plan.specs.StepCalls.{start_of}
@@ -164,20 +165,21 @@ seals-sealed (suc last) at key s no_claims within =
     (cases_lt key last)
 
 -- a node's keys are sealed, whatever its calls left
-end-sealed : (plan : PlanText) (key : ℕ) (at : ℕ) (is_test : Bool) (end : CallsEnd) (results : List NodeOutcome) → HasNoClaims end.state → key < key_limit
+end-sealed : (plan : PlanText) (key : ℕ) (at : ℕ) (is_test : Bool) (end : CallsEnd) (results : List NodeOutcome) → HasNoClaims end.state → key < end.state.places
     → IsSealed ((node_end at is_test end results).state.store.slots (at, key))
-end-sealed plan key at is_test end results no_claims within = seals-sealed key_limit at key end.state no_claims within
+end-sealed plan key at is_test end results no_claims within = seals-sealed end.state.places at key end.state no_claims within
 
 node-by-sealed : (b : Bool) (x y : RunState) (place : Place) → IsSealed (x.state.store.slots place) → IsSealed (y.state.store.slots place) → IsSealed ((if b then x else y).state.store.slots place)
 node-by-sealed true x y place p q = p
 node-by-sealed false x y place p q = q
 
-pub node-sealed : (plan : PlanText) (levels key : ℕ) (path : List ℕ) (run : RunState) → HasNoClaims run.state → key < key_limit
+pub node-sealed : (plan : PlanText) (levels key : ℕ) (path : List ℕ) (run : RunState) → HasNoClaims run.state → key < run.state.places
     → IsSealed ((node_run plan (levels + 1) path run).state.store.slots (start_of path, key))
 unfolding node_run
 node-sealed plan levels key path run no_claims within =
     let at = start_of path in
-    let tested = end-sealed plan key at true (test_end plan at path run) run.results (test-open HasNoClaims free free-numbered plan at path run no_claims) within in
-    let contained = end-sealed plan key at false (container_end plan (node_run plan levels) at path run) (body_end plan (node_run plan levels) at path run).results (container-open HasNoClaims free free-numbered plan (node_run plan levels) (node-free plan levels) at path run no_claims) within in
+    let tested = end-sealed plan key at true (test_end plan at path run) run.results (test-open HasNoClaims free free-numbered plan at path run no_claims) (subst (λ n. key < n) (sym (test-places plan at path run)) within) in
+    let contained = end-sealed plan key at false (container_end plan (node_run plan levels) at path run) (body_end plan (node_run plan levels) at path run).results (container-open HasNoClaims free free-numbered plan (node_run plan levels) (node-free plan levels) at path run no_claims)
+    (subst (λ n. key < n) (sym (container-places plan levels at path run)) within) in
     subst (λ n. IsSealed ((node_run plan n path run).state.store.slots (at, key))) (sym (add-one levels))
     (node-by-sealed (is_some (test_of plan at)) (test_node_run plan at path run) (container_run plan (node_run plan levels) at path run) (at, key) tested contained)

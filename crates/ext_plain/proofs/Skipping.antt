@@ -16,7 +16,7 @@ use Rattle.ext_lifecycle.specs.Modes.{in_run_order}
 use Rattle.ext_plan.specs.Plans.{PlanText}
 use Rattle.ext_plan.specs.PlanCalls.{concurrent_of, test_of}
 use Rattle.ext_plan.specs.ReadPlans.{ids_of_nodes, NodesAreTree, TestsHaveNoChildren}
-use Rattle.ext_plain.specs.ValueStates.{key_limit, Memory}
+use Rattle.ext_plain.specs.ValueStates.{Memory}
 use Rattle.ext_plain.specs.ContextEnds.{seal_keys, faults_of_closes}
 use Rattle.ext_plain.specs.PlainRunLaws.{HasRun}
 use Rattle.ext_plain.specs.Ancestors.{before_node, begins, levels_left, opened, ordered, went_on, IsSkipped, SkipsOn}
@@ -243,8 +243,8 @@ module _ (memory : List Memory) (plan : PlanText) where
         let body : Only (body_end plan (node_run plan levels) at path run).results =
         subst (λ n. Only (body_end plan (node_run plan n) at path run).results) left (only-body at above (went_on memory plan path) refl within step h) in
         either-only (is_some (test_of plan at)) (test_node_run plan at path run) (container_run plan (node_run plan levels) at path run)
-        (only-set at above run.results (outcome_of at true tested (faults_of_closes key_limit at (seal_keys key_limit at tested.state))) walk on h)
-        (only-set at above (body_end plan (node_run plan levels) at path run).results (outcome_of at false contained (faults_of_closes key_limit at (seal_keys key_limit at contained.state))) walk on body)
+        (only-set at above run.results (outcome_of at true tested (faults_of_closes tested.state.places at (seal_keys tested.state.places at tested.state))) walk on h)
+        (only-set at above (body_end plan (node_run plan levels) at path run).results (outcome_of at false contained (faults_of_closes contained.state.places at (seal_keys contained.state.places at contained.state))) walk on body)
 
     only-opening : (child : ℕ) (above : List ℕ) → IsWalk (ids_of_nodes plan.nodes) child above → HasRun child (run_opening memory plan).results → AllOn above
     only-opening child [] is has = tt

@@ -15,7 +15,7 @@ use Rattle.ext_plain.specs.ContextEnds.{seal_keys, faults_of_closes}
 use Rattle.ext_plan.specs.PlanCalls.{test_in, test_of, concurrent_of}
 use Rattle.ext_plain.specs.NodeCalls.{CallsEnd, befores_run}
 use Rattle.ext_plain.specs.PlainRun.{RunState, body_run, container_run, node_run, outcome_of, plain_run_by, run_opening, skipped_from, test_node_run, ArePlain}
-use Rattle.ext_plain.specs.ValueStates.{key_limit, Memory}
+use Rattle.ext_plain.specs.ValueStates.{Memory}
 use Rattle.ext_plain.proofs.Ends.{body_end, container_end, test_end}
 
 -- ---- what holds of the results, and still holds when a node's result is put in its place, holds after each node
@@ -39,12 +39,12 @@ node-by-kept : (plan : PlanText) (P : List NodeOutcome → Type 0) → IsKept pl
     → P (if is_test then test_node_run plan at path run else container_run plan path_run at path run).results
 node-by-kept plan P kept path_run each at true is path run h =
     let end = test_end plan at path run in
-    let closed = faults_of_closes key_limit at (seal_keys key_limit at end.state) in
+    let closed = faults_of_closes end.state.places at (seal_keys end.state.places at end.state) in
     subst (λ b. P (slice_set run.results at (outcome_of at b end closed))) is (kept at end closed run.results h)
 node-by-kept plan P kept path_run each at false is path run h =
     let end = container_end plan path_run at path run in
     let body = body_end plan path_run at path run in
-    let closed = faults_of_closes key_limit at (seal_keys key_limit at end.state) in
+    let closed = faults_of_closes end.state.places at (seal_keys end.state.places at end.state) in
     subst (λ b. P (slice_set body.results at (outcome_of at b end closed))) is
     (kept at end closed body.results (body-kept plan P path_run each (all_successful (befores_run plan false at path run.state).calls) path (record { state = (befores_run plan false at path run.state).state; results = run.results }) h))
 

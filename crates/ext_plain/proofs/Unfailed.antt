@@ -15,7 +15,7 @@ use Rattle.ext_lifecycle.specs.Results.{close_ending}
 use Rattle.ext_plan.specs.Plans.{KeyText, PlanText, StepText}
 use Rattle.ext_plan.specs.PlanCalls.{concurrent_of, registered, steps_of_call, test_of}
 use Rattle.ext_plan.specs.ReadPlans.{ids_of_nodes, NodesAreTree}
-use Rattle.ext_plain.specs.ValueStates.{key_limit, Memory, ValueState, enough, found_later, next_found, with_memory}
+use Rattle.ext_plain.specs.ValueStates.{Memory, ValueState, enough, found_later, next_found, with_memory}
 use Rattle.ext_plain.specs.StepRuns.{StepEnd, and_then, next_step, no_memory, step_by, step_run, steps_run, unless_ended}
 use Rattle.ext_plain.specs.NodeCalls.{CallsEnd, and_call, befores_run, call_run, make, make_all, make_befores, make_if_successful, no_calls, test_run}
 use Rattle.ext_plain.specs.ContextEnds.{seal_keys, faults_of_closes}
@@ -153,7 +153,7 @@ module _ (plan : PlanText) (path : List ℕ) where
 
 end-forgets : (at : ℕ) (is_test : Bool) (end : CallsEnd) (results : List NodeOutcome) → run_forgotten (node_end at is_test end results) ≡ node_end at is_test (forgotten end) results
 end-forgets at is_test end results =
-    ap (λ s. record { state = s; results = slice_set results at (outcome_of at is_test end (faults_of_closes key_limit at s)) }) (seal_keys-with [] key_limit at end.state)
+    ap (λ s. record { state = s; results = slice_set results at (outcome_of at is_test end (faults_of_closes end.state.places at s)) }) (seal_keys-with [] end.state.places at end.state)
 
 abbrev Unfailed : NodeOutcome → Type 0
 Unfailed r = r.status ≢ statuses.Failed
@@ -191,7 +191,7 @@ module _ (plan : PlanText) (tree : NodesAreTree plan) where
   test-node-forgets at above run walk after =
       let path = at ∷ above in
       let end = test_end plan at path run in
-      let closed = faults_of_closes key_limit at (seal_keys key_limit at end.state) in
+      let closed = faults_of_closes end.state.places at (seal_keys end.state.places at end.state) in
       let none = outcome-unfailed at true end closed (set-at Unfailed run.results at (outcome_of at true end closed) (after.each at [] (refl, walk))) in
       end-forgets at true end run.results ∙ ap (λ e. node_end at true e run.results) (test-forgets plan path at run none)
 
@@ -206,7 +206,7 @@ module _ (plan : PlanText) (tree : NodesAreTree plan) where
       let body = body_end plan path_run at path run in
       let before = befores_run plan false at path run.state in
       let opened : RunState = record { state = before.state; results = run.results } in
-      let closed = faults_of_closes key_limit at (seal_keys key_limit at end.state) in
+      let closed = faults_of_closes end.state.places at (seal_keys end.state.places at end.state) in
       let outcome = outcome_of at false end closed in
       let none = outcome-unfailed at false end closed (set-at Unfailed body.results at outcome (after.each at [] (refl, walk))) in
       let closing : CallsEnd = record before { state = body.state } in

@@ -112,25 +112,25 @@ kept-wanted own label at key above text kept values are drawn passed =
 -- the steps of a key that has its number
 
 put-known : (keys : List KeyText) (path : List ℕ) (at : ℕ) (above : List ℕ) (key other : StepKeyText) (up : ℕ) (text : List ℕ) (kept : ValueState) (values : List ValueText) (number : ℕ) → key_of_step keys other ≡ key_of_step keys key
-    → drop up path ≡ at ∷ above → numbering_of kept.keys (key_of_step keys key) ≡ known number → kept.values ≡ values ++ record { text = text; closeable = false } ∷ [] → kept.store.drawn ≡ suc (length values)
+    → drop up path ≡ at ∷ above → numbering_of kept.places kept.keys (key_of_step keys key) ≡ known number → kept.values ≡ values ++ record { text = text; closeable = false } ∷ [] → kept.store.drawn ≡ suc (length values)
     → (let end = put_kept (codes "put") (label_of keys key) (start_of (drop up path), number) kept in end.verdict ≡ successful → (step_run keys path (keyed words.Want other text up) end.state).verdict ≡ successful)
 put-known keys path at above key other up text kept values number same is knows are drawn = λ passed.
     let own = label_of keys key in
     let label = label_of keys other in
     let after = (put_kept (codes "put") own (start_of (drop up path), number) kept).state in
     let wants : ℕ → ValueState → StepEnd = want_numbered enough (codes "want") label (drop up path) text in
-    ap (λ (e : StepEnd). e.verdict) (ap (number_by enough (codes "want") label (key_of_step keys other) wants after) (ap (numbering_of kept.keys) same ∙ knows))
+    ap (λ (e : StepEnd). e.verdict) (ap (number_by enough (codes "want") label (key_of_step keys other) wants after) (ap (numbering_of kept.places kept.keys) same ∙ knows))
     ∙ subst (λ p. (put_kept (codes "put") own (start_of p, number) kept).verdict ≡ successful
     → want_verdict (codes "want") label text (seen_by kept.values (lookup (under (after_act (Put (start_of p, number) kept.store.drawn) kept).store number) p)) ≡ successful) (sym is) (kept-wanted own label at number above text kept values are drawn) passed
 
 put-named : (keys : List KeyText) (path : List ℕ) (at : ℕ) (above : List ℕ) (key other : StepKeyText) (up : ℕ) (text : List ℕ) (kept : ValueState) (values : List ValueText) (numbering : Numbering) → key_of_step keys other ≡ key_of_step keys key
-    → drop up path ≡ at ∷ above → numbering_of kept.keys (key_of_step keys key) ≡ numbering → kept.values ≡ values ++ record { text = text; closeable = false } ∷ [] → kept.store.drawn ≡ suc (length values)
+    → drop up path ≡ at ∷ above → numbering_of kept.places kept.keys (key_of_step keys key) ≡ numbering → kept.values ≡ values ++ record { text = text; closeable = false } ∷ [] → kept.store.drawn ≡ suc (length values)
     → (let label = label_of keys key in let puts : ℕ → ValueState → StepEnd = λ number. put_in enough (codes "put") label (start_of (drop up path), number) in let end = number_by enough (codes "put") label (key_of_step keys key) puts kept numbering in
     end.verdict ≡ successful → (step_run keys path (keyed words.Want other text up) end.state).verdict ≡ successful)
 put-named keys path at above key other up text kept values (known number) same is has are drawn = put-known keys path at above key other up text kept values number same is has are drawn
 put-named keys path at above key other up text kept values (next number) same is has are drawn =
     let k = key_of_step keys key in
-    put-known keys path at above key other up text (with_number k kept) values number same is (known_then kept.keys k number has) are drawn
+    put-known keys path at above key other up text (with_number k kept) values number same is (known_then kept.places kept.keys k number has) are drawn
 put-named keys path at above key other up text kept values full same is has are drawn = λ passed. absurd cc
 
 put-wanted : (keys : List KeyText) (path : List ℕ) (at : ℕ) (above : List ℕ) (key other : StepKeyText) (up : ℕ) (text : List ℕ) (s : ValueState) (why : Option Reason) → key_of_step keys other ≡ key_of_step keys key
@@ -141,7 +141,7 @@ put-wanted : (keys : List KeyText) (path : List ℕ) (at : ℕ) (above : List �
 put-wanted keys path at above key other up text s None same is room h =
     let value : ValueText = record { text = text; closeable = false } in
     let kept = keep_value value s in
-    put-named keys path at above key other up text kept s.values (numbering_of kept.keys (key_of_step keys key)) same is refl refl (keep-drawn value s room ∙ ap suc (sym h))
+    put-named keys path at above key other up text kept s.values (numbering_of kept.places kept.keys (key_of_step keys key)) same is refl refl (keep-drawn value s room ∙ ap suc (sym h))
 put-wanted keys path at above key other up text s (Some why) same is room h = λ passed. absurd cc
 
 pub put_is_found : (keys : List KeyText) (path : List ℕ) (at : ℕ) (above : List ℕ) (key other : StepKeyText) (up : ℕ) (text : List ℕ) (s : ValueState) → key_of_step keys other ≡ key_of_step keys key → drop up path ≡ at ∷ above → HasValues s

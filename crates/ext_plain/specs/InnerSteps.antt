@@ -38,7 +38,7 @@ use Rattle.ext_plain.specs.ValueStates.{Memory, enough, no_key, no_value, no_num
 -- ---- the store and its values
 
 abbrev pub state_view : ValueStore → ValueState
-state_view s = record { keep_faults = s.keep_faults; store = state_of s.store; keys = s.keys; values = map value_view s.values.items; memory = [] }
+state_view s = record { keep_faults = s.keep_faults; places = s.places; store = state_of s.store; keys = s.keys; values = map value_view s.values.items; memory = [] }
 
 -- The reason for a refusal other than a lack of memory.
 abbrev pub IsReasonOf : PlainFault → Reason → Type 0
@@ -79,18 +79,18 @@ Keeps value old new (Err why) = IsNotKept old new why
 
 -- The key has this number from now on, whether it had it before or got it now.
 abbrev pub HasBeenNumbered : KeyValue → ValueState → ValueState → ℕ → Type 0
-HasBeenNumbered key old new number = ((numbering_of old.keys key ≡ known number) × (new ≡ old)) ⊎ ((numbering_of old.keys key ≡ next number) × (new ≡ with_number key old))
+HasBeenNumbered key old new number = ((numbering_of old.places old.keys key ≡ known number) × (new ≡ old)) ⊎ ((numbering_of old.places old.keys key ≡ next number) × (new ≡ with_number key old))
 
 -- All numbers belong to other keys.
 pub record HasNoNumber (key : KeyValue) (old new : ValueState) (why : Reason) : Type 0 where
-  pub numbering : numbering_of old.keys key ≡ full
+  pub numbering : numbering_of old.places old.keys key ≡ full
   pub reason : why ≡ reasons.DirectoryFull
   pub state : new ≡ old
 
 -- The key would have got a number, but there was no memory.
 pub record WantsNumber (key : KeyValue) (old new : ValueState) (lack : StepLack) : Type 0 where
   pub number : ℕ
-  pub numbering : numbering_of old.keys key ≡ next number
+  pub numbering : numbering_of old.places old.keys key ≡ next number
   pub lacks : lack ≡ step_lacks.Number
   pub state : new ≡ old
 

@@ -18,7 +18,7 @@ use Rattle.ext_plan.specs.Plans.{NodeText, PlanText}
 use Rattle.ext_plan.specs.ReadPlans.{ids_of_nodes}
 use Rattle.ext_plan.specs.StepCalls.{start_of}
 use Rattle.ext_tree.specs.Trees.{children_of}
-use Rattle.ext_plain.specs.ValueStates.{key_limit, Memory, ValueState, value_opening, with_memory}
+use Rattle.ext_plain.specs.ValueStates.{Memory, ValueState, value_opening, with_memory}
 use Rattle.ext_plain.specs.ContextEnds.{seal_keys, faults_of_closes}
 use Rattle.ext_plan.specs.PlanCalls.{concurrent_of, test_of}
 use Rattle.ext_plain.specs.NodeCalls.{CallsEnd, befores_run, test_run, afters_run}
@@ -42,8 +42,8 @@ with_result outcome results = slice_set results outcome.node outcome
 -- closed; and its result is put in its place.
 abbrev pub node_end : ℕ → Bool → CallsEnd → List NodeOutcome → RunState
 node_end at is_test end results =
-    let sealed = seal_keys key_limit at end.state in
-    record { state = sealed; results = with_result (outcome_of at is_test end (faults_of_closes key_limit at sealed)) results }
+    let sealed = seal_keys end.state.places at end.state in
+    record { state = sealed; results = with_result (outcome_of at is_test end (faults_of_closes end.state.places at sealed)) results }
 
 -- ---- the tree
 
@@ -82,7 +82,7 @@ skipped_from at (node ∷ more) = skipped_result at (is_some node.test) ∷ skip
 
 -- The run before its first step, with what its steps find of memory, in the order in which they are made.
 abbrev pub run_opening : List Memory → PlanText → RunState
-run_opening memory plan = record { state = with_memory memory (value_opening plan.keep_faults); results = skipped_from 0 plan.nodes }
+run_opening memory plan = record { state = with_memory memory (value_opening plan.keep_faults plan.key_places); results = skipped_from 0 plan.nodes }
 
 -- The results of the nodes, in the order of the plan. The root is node 0, and no tree is deeper than it has nodes.
 abbrev pub plain_run_by : List Memory → PlanText → List NodeOutcome

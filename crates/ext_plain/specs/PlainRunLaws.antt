@@ -21,7 +21,7 @@ use Rattle.ext_plan.specs.Steps.{step_key}
 use Rattle.ext_plan.specs.StepCalls.{label_of, start_of}
 use Rattle.ext_plan.specs.StepTexts.{met_fault_text, other_fault_text}
 use Rattle.ext_plan.specs.Values.{ValueText}
-use Rattle.ext_plain.specs.ValueStates.{key_limit, Memory, Numbering, known, next, full, numbering_of, ValueState, value_opening, keep_value, with_number}
+use Rattle.ext_plain.specs.ValueStates.{Memory, Numbering, known, next, full, numbering_of, ValueState, value_opening, keep_value, with_number}
 use Rattle.ext_plain.specs.StepRuns.{ended, no_memory, step_by, step_run, steps_run, value_first}
 use Rattle.ext_plan.specs.PlanCalls.{test_of}
 use Rattle.ext_plain.specs.NodeCalls.{befores_run, call_run}
@@ -105,15 +105,15 @@ HasValues s = length s.values ≡ s.store.drawn
 abbrev pub HasNoFaults : ValueState → Type 0
 HasNoFaults s = (place : Place) (number : ℕ) → s.store.slots place ≢ Some (slot.Fault number)
 
--- No key has two numbers, and at most 64 keys have one. No number has two keys, since a key's number is its place in
--- the list.
+-- No key has two numbers, and no more keys have one than there are places. No number has two keys, since a key's
+-- number is its place in the list.
 pub record NumbersKeys (s : ValueState) : Type 0 where
   pub different : AreDifferent s.keys
-  pub few : length s.keys ≤ key_limit
+  pub few : length s.keys ≤ s.places
 
--- All four hold before the first node, whether faults are kept or not.
+-- All four hold before the first node, whether faults are kept or not, and however many places there are.
 abbrev pub OpensClear : Type 0
-OpensClear = (keeps : Bool) → HasNoClaims (value_opening keeps) × HasValues (value_opening keeps) × HasNoFaults (value_opening keeps) × NumbersKeys (value_opening keeps)
+OpensClear = (keeps : Bool) (places : ℕ) → HasNoClaims (value_opening keeps places) × HasValues (value_opening keeps places) × HasNoFaults (value_opening keeps places) × NumbersKeys (value_opening keeps places)
 
 -- If there was no claim before a node, there is none after it.
 abbrev pub MakesNoClaims : Type 0
@@ -122,7 +122,7 @@ MakesNoClaims = (plan : PlanText) (levels : ℕ) (path : List ℕ) (run : RunSta
 -- After a node all places in its context are sealed, even those of numbers that no key has yet.
 abbrev pub SealsContexts : Type 0
 SealsContexts =
-    (plan : PlanText) (levels key : ℕ) (path : List ℕ) (run : RunState) → HasNoClaims run.state → key < key_limit
+    (plan : PlanText) (levels key : ℕ) (path : List ℕ) (run : RunState) → HasNoClaims run.state → key < run.state.places
     → IsSealed ((node_run plan (levels + 1) path run).state.store.slots (start_of path, key))
 
 -- If each number had a value before a node, each has one after it.
@@ -130,6 +130,12 @@ abbrev pub KeepsValues : Type 0
 KeepsValues = (plan : PlanText) (levels : ℕ) (path : List ℕ) (run : RunState) → HasValues run.state → HasValues (node_run plan levels path run).state
 
 -- ---- the numbers of keys
+
+-- The number of places for keys stays through a step, the steps of a call, or a node and all nodes below it.
+pub record KeepsPlaces : Type 0 where
+  pub step : (keys : List KeyText) (found : Memory) (path : List ℕ) (step : StepText) (s : ValueState) → (step_by keys found path step s).state.places ≡ s.places
+  pub steps : (keys : List KeyText) (path : List ℕ) (steps : List StepText) (s : ValueState) → (steps_run keys path steps s).state.places ≡ s.places
+  pub node : (plan : PlanText) (levels : ℕ) (path : List ℕ) (run : RunState) → (node_run plan levels path run).state.places ≡ run.state.places
 
 -- If no key had two numbers, none has after a step, after the steps of a call, or after a node and all nodes below it.
 pub record NumbersOnce : Type 0 where
@@ -148,7 +154,7 @@ KeepsNumbers = (key : KeyValue) (number : ℕ) → KeepsNumber key number
 
 -- Each step that names a key with a number finds this number.
 abbrev pub KnowsNumbers : Type 0
-KnowsNumbers = (keys : List KeyValue) (key : KeyValue) (number : ℕ) → AreDifferent keys → HasNumber keys key number → numbering_of keys key ≡ known number
+KnowsNumbers = (places : ℕ) (keys : List KeyValue) (key : KeyValue) (number : ℕ) → AreDifferent keys → HasNumber keys key number → numbering_of places keys key ≡ known number
 
 -- The value that a step keeps before its key is numbered.
 abbrev pub kept_first : StepText → Option ValueText
@@ -184,10 +190,10 @@ pub record NumbersOnly (names : List KeyValue) (plan : PlanText) : Type 0 where
 abbrev pub NumbersOnlyNamed : Type 0
 NumbersOnlyNamed = (names : List KeyValue) (plan : PlanText) → NamesOnly names plan → NumbersOnly names plan
 
--- If they are at most 64, there is a number for each of them: no step of the plan ends with `directory full`.
+-- If there are places for all of them, each has a number: no step of the plan ends with `directory full`.
 abbrev pub HasRoom : Type 0
 HasRoom =
-    (names keys : List KeyValue) (key : KeyValue) → length names ≤ key_limit → AreDifferent keys → All (Contains names) keys → Contains names key → numbering_of keys key ≢ full
+    (places : ℕ) (names keys : List KeyValue) (key : KeyValue) → length names ≤ places → AreDifferent keys → All (Contains names) keys → Contains names key → numbering_of places keys key ≢ full
 
 -- ---- what was put
 
@@ -231,7 +237,7 @@ named_by full key s = s
 abbrev pub KeepsNoFault : Type 0
 KeepsNoFault =
     (keys : List KeyText) (path : List ℕ) (key : StepKeyText) (up : ℕ) (text : List ℕ) (s : ValueState) → s.keep_faults ≡ false
-    → (let k = key_of_step keys key in (step_run keys path (keyed words.ComputeFail key text up) s).state ≡ named_by (numbering_of s.keys k) k s)
+    → (let k = key_of_step keys key in (step_run keys path (keyed words.ComputeFail key text up) s).state ≡ named_by (numbering_of s.places s.keys k) k s)
 
 -- In a run that keeps no faults, no kept fault stands after a node if none stood before it.
 abbrev pub NeverFaults : Type 0

@@ -115,7 +115,7 @@ number_by found name label key goes_on s full = said_by found (ended (refused na
 
 -- The key's number: its own if it has one, otherwise the next if one is left; otherwise the step is refused.
 abbrev pub numbered_by : Memory → List ℕ → List ℕ → KeyValue → (ℕ → ValueState → StepEnd) → ValueState → StepEnd
-numbered_by found name label key goes_on s = number_by found name label key goes_on s (numbering_of s.keys key)
+numbered_by found name label key goes_on s = number_by found name label key goes_on s (numbering_of s.places s.keys key)
 
 -- ---- `put` and `put!`
 

@@ -16,10 +16,6 @@ use Rattle.ext_plan.specs.Values.{ValueText}
 abbrev pub run_numbers : ℕ
 run_numbers = 65535
 
--- How many keys have numbers at most.
-abbrev pub key_limit : ℕ
-key_limit = 64
-
 -- What a step finds of the memory that it asks for: enough, or none for one of these: a key that is made for it, a
 -- value that it keeps, the number of a new key, a place of the store, or the words of its fault.
 pub data Memory : Type 0 where
@@ -30,12 +26,13 @@ pub data Memory : Type 0 where
   no_place : Memory
   no_words : Memory
 
--- The store of a run: whether it keeps faults; its state; the keys that have a number, in the order in which steps
--- first named them, each key's place being its number; the kept values, from number 1 on, and among them the text of
--- each kept fault, as a value that isn't closeable; and what the next steps find of memory, in the order in which they
--- are made. Steps past the end of that list find enough.
+-- The store of a run: whether it keeps faults; how many keys can have numbers; its state; the keys that have a number,
+-- in the order in which steps first named them, each key's place being its number; the kept values, from number 1 on,
+-- and among them the text of each kept fault, as a value that isn't closeable; and what the next steps find of memory,
+-- in the order in which they are made. Steps past the end of that list find enough.
 pub record ValueState : Type 0 where
   pub keep_faults : Bool
+  pub places : ℕ
   pub store : State Place
   pub keys : List KeyValue
   pub values : List ValueText
@@ -43,9 +40,9 @@ pub record ValueState : Type 0 where
 
 -- ---- an act on the store
 
--- The newly opened store, which keeps faults or not.
-abbrev pub value_opening : Bool → ValueState
-value_opening keeps = record { keep_faults = keeps; store = opening; keys = []; values = []; memory = [] }
+-- The newly opened store, which keeps faults or not, with this many places for keys.
+abbrev pub value_opening : Bool → ℕ → ValueState
+value_opening keeps places = record { keep_faults = keeps; places = places; store = opening; keys = []; values = []; memory = [] }
 
 -- The same store, whose next steps find this of memory.
 abbrev pub with_memory : List Memory → ValueState → ValueState
@@ -105,15 +102,15 @@ value_of values (suc n) = slice_get values n
 
 -- ---- the number of a key
 
--- What a key has that a step names: a number; the next number, which it gets; or none, because all numbers belong to
--- other keys.
+-- What a key has that a step names: a number; the next number, which it gets; or none, because all numbers, as many as
+-- there are places, belong to other keys.
 pub data Numbering : Type 0 where
   known : ℕ → Numbering
   next : ℕ → Numbering
   full : Numbering
 
-abbrev pub numbering_of : List KeyValue → KeyValue → Numbering
-numbering_of keys key = if is_there keys key then known (place_of_key keys key) else if nat_lt (length keys) key_limit then next (length keys) else full
+abbrev pub numbering_of : ℕ → List KeyValue → KeyValue → Numbering
+numbering_of places keys key = if is_there keys key then known (place_of_key keys key) else if nat_lt (length keys) places then next (length keys) else full
 
 -- The key gets the next number.
 abbrev pub with_number : KeyValue → ValueState → ValueState

@@ -18,8 +18,8 @@ impl<'a> ValueStore<'a> {
         &mut self,
         keys: usize,
         at: ContextNo,
-    ) -> Result<FallingNumbers<64>, AllocError>
-        requires { keys ≤ 64 }
+    ) -> Result<FallingNumbers<1024>, AllocError>
+        requires { keys ≤ 1024 }
         ensures state { OnOk result (state_view self.new ≡ seal_keys keys at (state_view self.old)) }
         ensures numbers { IfOk result (λ numbers. numbers ≡ numbers_left keys at (state_view self.new)) }
     {
@@ -41,7 +41,7 @@ impl<'a> ValueStore<'a> {
         at: ContextNo,
         numbers: &[u32],
     ) -> Result<Closed, AllocError>
-        requires { length numbers.now ≤ 64 }
+        requires { length numbers.now ≤ 1024 }
         ensures { IfOk result (λ closes. HasClosed closes (map close_fault (closeables (state_view self.now).values numbers.now))) }
     {
         let mut closes = Closed::new();

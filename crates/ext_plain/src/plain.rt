@@ -4,13 +4,13 @@ ghost use Rattle.ext_lifecycle.specs.FaultTexts.{result_view, results_view};
 ghost use Rattle.ext_lifecycle.specs.Lifecycle.{IsRoomy};
 ghost use Rattle.ext_tree.specs.Trees.{IsTree, children_of};
 ghost use Rattle.ext_plan.specs.Plans.{plan_view};
-ghost use Rattle.ext_plan.specs.ReadPlans.{CallbacksAreFew, NamespacesHaveParts, StepListsAreShort};
+ghost use Rattle.ext_plan.specs.ReadPlans.{CallbacksAreFew, HasKeyPlaces, NamespacesHaveParts, StepListsAreShort};
 ghost use Rattle.ext_plain.specs.PlainRun.{ArePlain};
 
 use crate::callers::NodeCaller;
 use crate::setting::Setting;
 use crate::skipped::skipped;
-use crate::value_store::{KEYS, ValueStore};
+use crate::value_store::ValueStore;
 use ext_lifecycle::{
     Call, Kind, NodeResult, RunListener, Tally, afters_of, befores_of, run_afters, run_befores,
     run_calls,
@@ -46,9 +46,10 @@ pub struct PlainRun {
 /// replaced. The steps that meet it report it, and it is never closed. Otherwise the fault comes
 /// back, and the place is empty.
 ///
-/// A key gets its number when a step first names it, and keeps it to the end of the run. At most 64
-/// keys have one: a step that names another fails with `directory full`. A step that puts has kept
-/// its value before, which drew a number. The end of a node seals all 64 places of its context.
+/// A key gets its number when a step first names it, and keeps it to the end of the run. At most
+/// `key_places` of the plan have one: a step that names another fails with `directory full`. A step
+/// that puts has kept its value before, which drew a number. The end of a node seals all places of
+/// its context.
 ///
 /// Takes memory for the keys, the lists of calls, the store, the values, the texts of faults and
 /// the results. A step that finds none fails with `Fault::Memory`, and the run goes on: the results
@@ -71,6 +72,7 @@ pub fn run_plain<'x, L: RunListener>(
     requires nodes { tree.now ≡ map (λ n. n.id) plan.now.nodes.items }
     requires short { StepListsAreShort (plan_view plan.now) }
     requires called { CallbacksAreFew (plan_view plan.now) }
+    requires places { HasKeyPlaces (plan_view plan.now) }
     ensures results { IfOk result (λ run. ArePlain (plan_view plan.now) (results_view run.results.items) run.lacked) }
     ensures in_tree { IfOk result (λ run. All (λ r. r.node < length tree.now) run.results.items) }
 {
@@ -79,7 +81,7 @@ pub fn run_plain<'x, L: RunListener>(
         alloc,
         listener,
         setting: Setting::of(plan, made.as_slice(), tree),
-        store: ValueStore::new(alloc, plan.keep_faults),
+        store: ValueStore::new(alloc, plan.keep_faults, plan.key_places),
         node: 0,
         lacked: false,
     };
@@ -234,7 +236,8 @@ impl<'a, L: RunListener> PlainRunner<'a, L> {
         ensures end { OnOk result (EndsNode self.old.caller.setting at is_test tally (run_view self.old) (run_view self.new)) }
         ensures setting { OnOk result (self.new.caller.setting ≡ self.old.caller.setting) }
     {
-        let numbers = self.caller.store.seal_keys(KEYS, at)?;
+        let places = self.caller.store.places();
+        let numbers = self.caller.store.seal_keys(places, at)?;
         let listener = self.caller.listener;
         let closes = self
             .caller

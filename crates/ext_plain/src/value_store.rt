@@ -1,5 +1,5 @@
 //! The store of a plain run, with the values of its numbers.
-ghost use Rattle.std.specs.Prelude.{◌≡◌, None, Some, option_map, IfErr, IfOk, OnErr, OnOk};
+ghost use Rattle.std.specs.Prelude.{◌≡◌, ◌≤◌, None, Some, option_map, IfErr, IfOk, OnErr, OnOk};
 ghost use Rattle.ext_model.specs.declared.event.Act.TheVariants as act;
 ghost use Rattle.ext_model.specs.declared.slot.Slot.TheVariants as slot;
 ghost use Rattle.ext_model.specs.State.{lookup};
@@ -19,9 +19,6 @@ use std::alloc::{AllocError, Global};
 /// How many numbers a run's store draws at most.
 const NUMBERS: u32 = 65_535;
 
-/// How many keys have numbers at most, as many as a directory has.
-pub const KEYS: usize = 64;
-
 /// The one lane of a plain run.
 const LANE: LaneNo = 0;
 
@@ -30,6 +27,8 @@ const LANE: LaneNo = 0;
 #[derive(Drop)]
 pub struct ValueStore<'a> {
     keep_faults: bool,
+    /// How many keys can have numbers.
+    places: usize,
     store: PlainStore,
     /// The keys that have a number.
     keys: Directory,
@@ -37,17 +36,21 @@ pub struct ValueStore<'a> {
     /// that is not closeable.
     values: Vec<PlanValue<'a>>,
     ghost limit: { store.numbers ≡ 65535 },
+    ghost few: { places ≤ 1024 },
 }
 
 impl<'a> ValueStore<'a> {
     ghost use Rattle.ext_plain.specs.InnerSteps.{state_view, Declares, Keeps};
 
-    /// Makes an empty store, which keeps the faults of factories or not.
-    pub fn new(alloc: Global, keep_faults: bool) -> ValueStore<'a>
-        ensures { state_view result ≡ value_opening keep_faults }
+    /// Makes an empty store with places for so many keys, which keeps the faults of factories or
+    /// not.
+    pub fn new(alloc: Global, keep_faults: bool, places: usize) -> ValueStore<'a>
+        requires { places ≤ 1024 }
+        ensures { state_view result ≡ value_opening keep_faults places }
     {
         ValueStore {
             keep_faults,
+            places,
             store: PlainStore::new(alloc, NUMBERS),
             keys: Directory::new(alloc),
             values: Vec::new(alloc),
@@ -61,6 +64,14 @@ impl<'a> ValueStore<'a> {
         self.keep_faults
     }
 
+    /// How many keys can have numbers.
+    pub fn places(&self) -> usize
+        ensures places { result ≡ (state_view self.now).places }
+        ensures few { result ≤ 1024 }
+    {
+        self.places
+    }
+
     /// Declares a key: returns its number, the next one if it had none, or why it gets none.
     pub fn declare(&mut self, key: &Key) -> Result<Result<KeyNo, Reason>, StepLack>
         ensures { Declares key.now (state_view self.old) (state_view self.new) result }
@@ -68,13 +79,13 @@ impl<'a> ValueStore<'a> {
         if let Some(number) = self.keys.number_of(key) {
             return Ok(Ok(number));
         }
-        if self.keys.len() >= KEYS {
+        if self.keys.len() >= self.places {
             return Ok(Err(Reason::DirectoryFull));
         }
         let Ok(copy) = key.clone() else {
             return Err(StepLack::Number);
         };
-        match self.keys.declare(copy) {
+        match self.keys.declare(copy, self.places) {
             Ok(number) => Ok(Ok(number)),
             Err(_) => Err(StepLack::Number),
         }

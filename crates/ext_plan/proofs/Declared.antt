@@ -2,7 +2,7 @@
 use Rattle.std.proofs.Common.{◌≡◌, ◌<◌, ◌≤◌, ℕ, Bool, true, false, List, [], ◌∷◌, ◌++◌, length, Result, Ok, Err, IfOk, Contains, refl, sym, ap, ◌∙◌, arith, inl, inr}
 use Rattle.std.specs.Prelude.{OnOk}
 use Rattle.std.specs.Result.{result_unwrap_or}
-use Rattle.std.proofs.lemmas.Bool.{cases_eq}
+use Rattle.std.proofs.lemmas.Bool.{cases_lt}
 use Rattle.ext_tree.specs.declared.fault.TreeFault.{TreeFault}
 use Rattle.ext_tree.specs.declared.fault.TreeFault.TheVariants as fault
 use Rattle.ext_tree.specs.Keys.{KeyValue, HasNumber}
@@ -10,19 +10,19 @@ use Rattle.ext_plan.specs.StoreKeys.{is_there, with_key, place_of_key}
 use Rattle.ext_plan.proofs.KeyLists.{has_place, place_last, not_contained, not_there, with_old, with_new, length_with_new}
 
 -- what `declare` answers, as far as it is needed here
-pub record Answer (old changed : List KeyValue) (key : KeyValue) (r : Result ℕ TreeFault) : Type 0 where
+pub record Answer (old changed : List KeyValue) (key : KeyValue) (most : ℕ) (r : Result ℕ TreeFault) : Type 0 where
   pub again : (number : ℕ) → HasNumber old key number → (r ≡ Ok number) × (changed ≡ old)
   pub added : IfOk r (λ number. (Contains old key → ⊥) → (number ≡ length old) × (changed ≡ old ++ key ∷ []))
-  pub full : (Contains old key → ⊥) → length old ≡ 64 → r ≡ Err fault.TooMany
+  pub full : (Contains old key → ⊥) → most ≤ length old → r ≡ Err fault.TooMany
 
 -- the keys after it, and the key's number
-record Grown (old changed : List KeyValue) (key : KeyValue) (number : ℕ) : Type 0 where
+record Grown (old changed : List KeyValue) (key : KeyValue) (most number : ℕ) : Type 0 where
   pub keys : changed ≡ with_key old key
   pub place : number ≡ place_of_key changed key
-  pub few : length old ≤ 64 → length changed ≤ 64
+  pub few : length old ≤ most → length changed ≤ most
 
-by_there : (old changed : List KeyValue) (key : KeyValue) (number : ℕ) (there : Bool) → is_there old key ≡ there → Answer old changed key (Ok number) → Grown old changed key number
-by_there old changed key number true e answer =
+by_there : (old changed : List KeyValue) (key : KeyValue) (most number : ℕ) (there : Bool) → is_there old key ≡ there → Answer old changed key most (Ok number) → Grown old changed key most number
+by_there old changed key most number true e answer =
     let again = answer.again (place_of_key old key) (has_place old key e) in
     let same : number ≡ place_of_key old key = ap (λ r. result_unwrap_or r 0) again.0 in
     record {
@@ -30,32 +30,32 @@ by_there old changed key number true e answer =
       place = same ∙ ap (λ keys. place_of_key keys key) (sym again.1);
       few = λ small. rw again.1 small;
     }
-by_there old changed key number false e answer =
+by_there old changed key most number false e answer =
     let added = answer.added (not_contained old key e) in
     let longer = ap length (added.1 ∙ sym (with_new old key e)) ∙ length_with_new old key e in
     record {
       keys = added.1 ∙ sym (with_new old key e);
       place = added.0 ∙ sym (place_last old key e) ∙ ap (λ keys. place_of_key keys key) (sym added.1);
-      few = λ small. elim (cases_eq (length old) 64) [
-        | inl all ↦ absurd (refused number (answer.full (not_contained old key e) all))
-        | inr other ↦ omega (arith, small, other, longer)
+      few = λ small. elim (cases_lt (length old) most) [
+        | inl room ↦ omega (arith, room, longer)
+        | inr all ↦ absurd (refused number (answer.full (not_contained old key e) all))
       ];
     }
   where
     refused : (number : ℕ) → let r : Result ℕ TreeFault = Ok number in r ≡ Err fault.TooMany → ⊥
     refused number h = absurd cc
 
-pub declared_keys : (old changed : List KeyValue) (key : KeyValue) (r : Result ℕ TreeFault) → Answer old changed key r → OnOk r (changed ≡ with_key old key)
-declared_keys old changed key (Ok number) answer = (by_there old changed key number _ refl answer).keys
-declared_keys old changed key (Err e) answer = tt
+pub declared_keys : (old changed : List KeyValue) (key : KeyValue) (most : ℕ) (r : Result ℕ TreeFault) → Answer old changed key most r → OnOk r (changed ≡ with_key old key)
+declared_keys old changed key most (Ok number) answer = (by_there old changed key most number _ refl answer).keys
+declared_keys old changed key most (Err e) answer = tt
 
-pub declared_number : (old changed : List KeyValue) (key : KeyValue) (r : Result ℕ TreeFault) → Answer old changed key r → IfOk r (λ number. number ≡ place_of_key changed key)
-declared_number old changed key (Ok number) answer = (by_there old changed key number _ refl answer).place
-declared_number old changed key (Err e) answer = tt
+pub declared_number : (old changed : List KeyValue) (key : KeyValue) (most : ℕ) (r : Result ℕ TreeFault) → Answer old changed key most r → IfOk r (λ number. number ≡ place_of_key changed key)
+declared_number old changed key most (Ok number) answer = (by_there old changed key most number _ refl answer).place
+declared_number old changed key most (Err e) answer = tt
 
-pub declared_few : (old changed : List KeyValue) (key : KeyValue) (r : Result ℕ TreeFault) → length old ≤ 64 → Answer old changed key r → OnOk r (length changed ≤ 64)
-declared_few old changed key (Ok number) small answer = (by_there old changed key number _ refl answer).few small
-declared_few old changed key (Err e) small answer = tt
+pub declared_few : (old changed : List KeyValue) (key : KeyValue) (most : ℕ) (r : Result ℕ TreeFault) → length old ≤ most → Answer old changed key most r → OnOk r (length changed ≤ most)
+declared_few old changed key most (Ok number) small answer = (by_there old changed key most number _ refl answer).few small
+declared_few old changed key most (Err e) small answer = tt
 
-pub one_too_many : (old : List KeyValue) (key : KeyValue) → (Contains old key → ⊥) → length old ≡ 64 → 64 < length (with_key old key)
-one_too_many old key missing all = let longer = length_with_new old key (not_there old key missing) in omega (arith, all, longer)
+pub one_too_many : (old : List KeyValue) (key : KeyValue) (most : ℕ) → (Contains old key → ⊥) → most ≤ length old → most < length (with_key old key)
+one_too_many old key most missing all = let longer = length_with_new old key (not_there old key missing) in omega (arith, all, longer)

@@ -66,6 +66,7 @@ callbacks_of kinds.AfterAll node = node.after_all
 
 pub record PlanText : Type 0 where
   pub keep_faults : Bool
+  pub key_places : ℕ
   pub keys : List KeyText
   pub nodes : List NodeText
 
@@ -132,4 +133,4 @@ abbrev pub nodes_view : List PlanNode → List NodeText
 nodes_view ns = map node_view ns
 
 abbrev pub plan_view : Plan → PlanText
-plan_view p = record { keep_faults = p.keep_faults; keys = keys_view p.keys.items; nodes = nodes_view p.nodes.items }
+plan_view p = record { keep_faults = p.keep_faults; key_places = p.key_places; keys = keys_view p.keys.items; nodes = nodes_view p.nodes.items }

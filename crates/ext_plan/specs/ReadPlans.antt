@@ -1,6 +1,6 @@
 -- What is true of each plan that was read, whatever its text (`IsReadPlan`), and how much of that a run needs
 -- (`IsRunnablePlan`). Both stand at the end.
-use Rattle.std.specs.Prelude.{◌≡◌, ◌≢◌, ◌≤◌, ◌<◌, ◌++◌, ℕ, true, List, [], All, AllPairs, HoldsAt, IfSome, length, map}
+use Rattle.std.specs.Prelude.{◌≡◌, ◌≢◌, ◌≤◌, ◌<◌, ◌++◌, ◌%◌, ℕ, true, List, [], All, AllPairs, HoldsAt, IfSome, length, map}
 use Rattle.ext_lifecycle.specs.declared.call.Kind.{Kind}
 use Rattle.ext_tree.specs.Trees.{children_of, Id, IsTree}
 use Rattle.ext_plan.specs.Plans.{StepKeyText, label, named, StepText, NodeText, PlanText, callbacks_of}
@@ -88,9 +88,15 @@ pub record StepsStayBelowRoot (plan : PlanText) : Type 0 where
 
 -- ---- keys and locks
 
--- At most 64 different keys are declared.
+-- Steps can name 32 to 1,024 different keys, in blocks of 32.
+pub record HasKeyPlaces (plan : PlanText) : Type 0 where
+  pub whole : plan.key_places % 32 ≡ 0
+  pub some : 32 ≤ plan.key_places
+  pub few : plan.key_places ≤ 1024
+
+-- No more different keys are declared than steps can name.
 abbrev pub HasFewKeys : PlanText → Type 0
-HasFewKeys plan = length (different_keys plan.keys) ≤ 64
+HasFewKeys plan = length (different_keys plan.keys) ≤ plan.key_places
 
 -- The locks have at most 63 different names.
 abbrev pub HasFewLocks : PlanText → Type 0
@@ -113,13 +119,14 @@ pub record IsRunnablePlan (plan : PlanText) : Type 0 where
   pub tree : NodesAreTree plan
   pub tests : TestsHaveNoChildren plan
   pub locks : HasFewLocks plan
+  pub places : HasKeyPlaces plan
   pub namespaces : NamespacesHaveParts plan
   pub short : StepListsAreShort plan
   pub few : CallbacksAreFew plan
 
--- What is true of each plan that was read: it can be run; at most 64 different keys are declared; each label is a word
--- of its own; steps name only labels that are declared; no step goes up past the root; and no test has callbacks before
--- or after all.
+-- What is true of each plan that was read: it can be run; there is a place for each key that is declared; each label is
+-- a word of its own; steps name only labels that are declared; no step goes up past the root; and no test has callbacks
+-- before or after all.
 pub record IsReadPlan (plan : PlanText) : Type 0 where
   pub runnable : IsRunnablePlan plan
   pub different : HasFewKeys plan

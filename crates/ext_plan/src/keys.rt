@@ -63,18 +63,19 @@ fn store_keys_of(alloc: Global, keys: &[PlanKey]) -> Result<Vec<Key>, AllocError
     Ok(list)
 }
 
-/// Tests whether the labels of these keys name at most 64 different keys. Each created namespace
-/// has to have a part.
+/// Tests whether the labels of these keys name at most `most` different keys. Each created namespace
+/// has to have a part, and `most` is at most 1,024.
 ///
-/// Takes memory for up to 64 of the keys, and gives it back. Fails with `AllocError` only if that
-/// is refused.
-pub fn keys_are_few(alloc: Global, keys: &[PlanKey]) -> Result<bool, AllocError>
-    requires { All HasParts (keys_view keys.now) }
-    ensures { IfOk result (λ few. few ≡ nat_le (length (different_keys (keys_view keys.now))) 64) }
+/// Takes memory for up to `most` of the keys, and gives it back. Fails with `AllocError` only if
+/// that is refused.
+pub fn keys_are_few(alloc: Global, keys: &[PlanKey], most: usize) -> Result<bool, AllocError>
+    requires parts { All HasParts (keys_view keys.now) }
+    requires most { most ≤ 1024 }
+    ensures { IfOk result (λ few. few ≡ nat_le (length (different_keys (keys_view keys.now))) most) }
 {
     let mut directory = Directory::new(alloc);
     for key in keys {
-        match declare(alloc, &mut directory, key) {
+        match declare(alloc, &mut directory, key, most) {
             Ok(_) => {}
             Err(TreeFault::TooMany) => return Ok(false),
             Err(_) => return Err(AllocError),
@@ -84,16 +85,22 @@ pub fn keys_are_few(alloc: Global, keys: &[PlanKey]) -> Result<bool, AllocError>
 }
 
 /// The number of the key that a label names, which it is given if it has none.
-fn declare(alloc: Global, directory: &mut Directory, key: &PlanKey) -> Result<KeyNo, TreeFault>
+fn declare(
+    alloc: Global,
+    directory: &mut Directory,
+    key: &PlanKey,
+    most: usize,
+) -> Result<KeyNo, TreeFault>
     requires parts { HasParts (key_view key.now) }
-    requires few { length directory.old ≤ 64 }
+    requires most { most ≤ 1024 }
+    requires few { length directory.old ≤ most }
     ensures keys { OnOk result (directory.new ≡ with_key directory.old (named_key (key_view key.now))) }
-    ensures few { OnOk result (length directory.new ≤ 64) }
-    ensures full { result ≡ Err fault.TooMany → 64 < length (with_key directory.old (named_key (key_view key.now))) }
+    ensures few { OnOk result (length directory.new ≤ most) }
+    ensures full { result ≡ Err fault.TooMany → most < length (with_key directory.old (named_key (key_view key.now))) }
     ensures refusal { IfErr result (λ e. (e ≡ fault.TooMany) ⊎ (e ≡ fault.Memory)) }
 {
     let key = key.store_key(alloc)?;
-    directory.declare(key)
+    directory.declare(key, most)
 }
 
 /// Borrows each text, in order.

@@ -12,14 +12,16 @@ use ext_model::ContextNo;
 /// the store.
 pub type LabelNo = usize;
 
-/// What a run does: the declared keys, the nodes with their callbacks and tests, and whether the
-/// store keeps the faults of factories.
+/// What a run does: the declared keys, the nodes with their callbacks and tests, how many keys the
+/// store has places for, and whether it keeps the faults of factories.
 #[derive(Debug, Drop)]
 pub struct Plan {
     /// Whether the store keeps the fault of a factory that fails.
     pub keep_faults: bool,
-    /// The declared keys with their labels, in the order of the plan. At most 64 of them are
-    /// different.
+    /// How many different keys steps can name: 32 to 1,024, a multiple of 32.
+    pub key_places: usize,
+    /// The declared keys with their labels, in the order of the plan. At most `key_places` of them
+    /// are different.
     pub keys: Vec<PlanKey>,
     /// The nodes, in the order of the plan: 1 to 256. The first is the root, and each other one is
     /// a child of one before it.

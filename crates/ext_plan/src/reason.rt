@@ -13,7 +13,7 @@ pub enum Reason {
     Exhausted,
     /// All numbers of the store have been drawn, printed as `numbers full`.
     NumbersFull,
-    /// The store has 64 other keys, printed as `directory full`.
+    /// All places of the store are other keys', printed as `directory full`.
     DirectoryFull,
     /// The value or the key could not be placed, printed as `unplaced`.
     Unplaced,

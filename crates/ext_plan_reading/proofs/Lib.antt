@@ -2,6 +2,7 @@ pub mod CallbackReading
 pub mod ChildDepths
 pub mod FieldNames
 pub mod Gave
+pub mod KeyPlaces
 pub mod KeyReading
 pub mod LabelLists
 pub mod Lists

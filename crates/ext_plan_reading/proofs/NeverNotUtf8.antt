@@ -1,7 +1,7 @@
 -- Reading a text never gives the fault `NotUtf8`: each part has other faults.
-use Rattle.std.proofs.Common.{◌≢◌, ℕ, Bool, true, false, ◌&&◌, not, List, [], ◌∷◌, ◌++◌, length, Option, Some, None, codes, Result, Ok, Err, refl}
+use Rattle.std.proofs.Common.{◌≢◌, ℕ, Bool, true, false, ◌&&◌, not, List, [], ◌∷◌, ◌++◌, length, Option, Some, None, option_and_then, codes, Result, Ok, Err, refl}
 use Rattle.std.specs.Prelude.{nat_lt, nat_le}
-use Rattle.toml.specs.Data.{Data, Members, get_member, as_bool, as_str}
+use Rattle.toml.specs.Data.{Data, Members, get_member, as_bool, as_integer, as_str}
 use Rattle.ext_ids.specs.declared.fault.IdFault.{IdFault}
 use Rattle.ext_ids.specs.Grammar.{Pair}
 use Rattle.ext_ids.specs.Reading.{read_id}
@@ -16,7 +16,7 @@ use Rattle.ext_plan_reading.specs.declared.fault.PlanFault.{PlanFault}
 use Rattle.ext_plan_reading.specs.declared.fault.PlanFault.TheVariants as faults
 use Rattle.ext_plan_reading.specs.declared.fault.Place.TheVariants as places
 use Rattle.ext_plan_reading.specs.Faults.{some_or, check, Gives, ◌>>=◌}
-use Rattle.ext_plan_reading.specs.Fields.{has_only, text_at, texts_in, tables_in, text_or_none, texts_or_none, text_lists_in, text_lists_or_none, tables_or_none, truth_or_false}
+use Rattle.ext_plan_reading.specs.Fields.{has_only, text_at, texts_in, tables_in, text_or_none, texts_or_none, text_lists_in, text_lists_or_none, tables_or_none, truth_or_false, key_places_or_64, places_for_keys}
 use Rattle.ext_plan_reading.specs.CallbackReading.{CallbackTexts, callback_texts_at, callbacks_after, callbacks_at, node_callbacks_at}
 use Rattle.ext_plan_reading.specs.Depths.{least_test_depth}
 use Rattle.ext_plan_reading.specs.ModeReading.{mode_at, mode_of}
@@ -81,6 +81,10 @@ text_other e (Some found) other = then_other (some_or e (as_str found)) _ (or_fa
 truth_other : (e : PlanFault) (found : Option Data) → IsOther {A = ℕ} (Err e) → IsOther (truth_or_false e found)
 truth_other e None other = value false
 truth_other e (Some found) other = or_fault e (as_bool found) (same_other e other)
+
+places_other : (e : PlanFault) (found : Option Data) → IsOther {A = ℕ} (Err e) → IsOther (key_places_or_64 e found)
+places_other e None other = value 64
+places_other e (Some found) other = or_fault e (option_and_then places_for_keys (as_integer found)) other
 
 texts_other : (e : PlanFault) (found : Option Data) → IsOther {A = ℕ} (Err e) → IsOther (texts_or_none e found)
 texts_other e None other = value None
@@ -223,12 +227,13 @@ unfolding plan_of plan_of_tables
 plan_other top =
     then_other (check (faults.UnknownField places.Whole) (has_only top_fields top)) _ (checked _ _ (λ h. absurd cc)) (λ _.
     then_other (truth_or_false (faults.BadField places.Whole) (get_member (codes "keep_faults") top)) _ (truth_other (faults.BadField places.Whole) (get_member (codes "keep_faults") top) (λ h. absurd cc)) (λ keep_faults.
+    then_other (key_places_or_64 (faults.BadField places.Whole) (get_member (codes "keys") top)) _ (places_other (faults.BadField places.Whole) (get_member (codes "keys") top) (λ h. absurd cc)) (λ key_places.
     then_other (tables_or_none (faults.BadField places.Whole) (get_member (codes "key") top)) _ (tables_other (get_member (codes "key") top)) (λ key_tables.
     then_other (tables_or_none (faults.BadField places.Whole) (get_member (codes "node") top)) _ (tables_other (get_member (codes "node") top)) (λ node_tables.
     then_other (keys_after [] key_tables) _ (keys_other [] key_tables) (λ keys.
     then_other (nodes_of_tables (labels_of keys) node_tables) _ (all_nodes_other _ node_tables) (λ nodes.
-    then_other (check faults.TooMany (nat_le (length (different_keys keys)) 64)) _ (checked _ _ (λ h. absurd cc)) (λ _.
-    then_other (check faults.TooMany (nat_le (length (lock_names nodes)) lock_limit)) _ (checked _ _ (λ h. absurd cc)) (λ _. value _))))))))
+    then_other (check faults.TooMany (nat_le (length (different_keys keys)) key_places)) _ (checked _ _ (λ h. absurd cc)) (λ _.
+    then_other (check faults.TooMany (nat_le (length (lock_names nodes)) lock_limit)) _ (checked _ _ (λ h. absurd cc)) (λ _. value _)))))))))
 
 -- what gives the plan of a document doesn't answer `NotUtf8`
 pub never_not_utf8 : (read : Result Plan PlanFault) (top : Members) → Gives plan_view read (plan_of top) → read ≢ Err faults.NotUtf8

@@ -1,8 +1,8 @@
 -- The fields of a TOML table as the kit's `toml` reads it: which there are, and their types.
-use Rattle.std.specs.Prelude.{ℕ, Bool, true, false, ◌&&◌, List, [], ◌∷◌, ◌++◌, Option, Some, None, option_and_then, Result, Ok}
+use Rattle.std.specs.Prelude.{ℕ, ◌+◌, ◌*◌, ◌/◌, nat_le, ℤ, pos, negsuc, Bool, true, false, ◌&&◌, if◌then◌else◌, List, [], ◌∷◌, ◌++◌, Option, Some, None, option_and_then, Result, Ok}
 use Rattle.std.specs.List.{list_any}
 use Rattle.std.specs.Str.{bytes_eq}
-use Rattle.toml.specs.Data.{Data, array, Items, no_items, item, Members, no_members, member, get_member, as_bool, as_str, as_table}
+use Rattle.toml.specs.Data.{Data, array, Items, no_items, item, Members, no_members, member, get_member, as_bool, as_integer, as_str, as_table}
 use Rattle.ext_plan_reading.specs.declared.fault.PlanFault.{PlanFault}
 use Rattle.ext_plan_reading.specs.Faults.{some_or, ◌>>=◌}
 
@@ -69,3 +69,14 @@ text_lists_or_none e (Some value) = some_or e (text_lists_in value) >>= (λ list
 abbrev pub truth_or_false : PlanFault → Option Data → Result Bool PlanFault
 truth_or_false e None = Ok false
 truth_or_false e (Some value) = some_or e (as_bool value)
+
+-- How many places for keys a number of keys needs, in whole blocks of 32, if it is from 1 to 1,024.
+abbrev pub places_for_keys : ℤ → Option ℕ
+places_for_keys (pos keys) = if nat_le 1 keys && nat_le keys 1024 then Some ((keys + 31) / 32 * 32) else None
+places_for_keys (negsuc n) = None
+
+-- The places for the number of keys in an optional field, 64 if it is left out, or this fault if another type or number
+-- is there.
+abbrev pub key_places_or_64 : PlanFault → Option Data → Result ℕ PlanFault
+key_places_or_64 e None = Ok 64
+key_places_or_64 e (Some value) = some_or e (option_and_then places_for_keys (as_integer value))

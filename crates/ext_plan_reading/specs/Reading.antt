@@ -10,30 +10,31 @@ use Rattle.ext_plan_reading.specs.declared.fault.PlanFault.{PlanFault}
 use Rattle.ext_plan_reading.specs.declared.fault.PlanFault.TheVariants as faults
 use Rattle.ext_plan_reading.specs.declared.fault.Place.TheVariants as places
 use Rattle.ext_plan_reading.specs.Faults.{some_or, check, ◌>>=◌}
-use Rattle.ext_plan_reading.specs.Fields.{has_only, tables_or_none, truth_or_false}
+use Rattle.ext_plan_reading.specs.Fields.{has_only, key_places_or_64, tables_or_none, truth_or_false}
 use Rattle.ext_plan_reading.specs.KeyReading.{keys_after}
 use Rattle.ext_plan_reading.specs.NodeReading.{nodes_of_tables}
 
 abbrev pub top_fields : List (List ℕ)
-top_fields = codes "keep_faults" ∷ codes "key" ∷ codes "node" ∷ []
+top_fields = codes "keep_faults" ∷ codes "keys" ∷ codes "key" ∷ codes "node" ∷ []
 
--- The plan with these tables of keys and nodes, whose store keeps faults or not.
-unfoldable pub plan_of_tables : Bool → List Members → List Members → Result PlanText PlanFault
-plan_of_tables keep_faults key_tables node_tables = do
+-- The plan with these tables of keys and nodes, whose store keeps faults or not and has this many places for keys.
+unfoldable pub plan_of_tables : Bool → ℕ → List Members → List Members → Result PlanText PlanFault
+plan_of_tables keep_faults key_places key_tables node_tables = do
   keys ← keys_after [] key_tables
   nodes ← nodes_of_tables (labels_of keys) node_tables
-  _ ← check faults.TooMany (nat_le (length (different_keys keys)) 64)
+  _ ← check faults.TooMany (nat_le (length (different_keys keys)) key_places)
   _ ← check faults.TooMany (nat_le (length (lock_names nodes)) lock_limit)
-  Ok (record { keep_faults = keep_faults; keys = keys; nodes = nodes })
+  Ok (record { keep_faults = keep_faults; key_places = key_places; keys = keys; nodes = nodes })
 
 -- The plan of a document.
 unfoldable pub plan_of : Members → Result PlanText PlanFault
 plan_of top = do
   _ ← check (faults.UnknownField places.Whole) (has_only top_fields top)
   keep_faults ← truth_or_false (faults.BadField places.Whole) (get_member (codes "keep_faults") top)
+  key_places ← key_places_or_64 (faults.BadField places.Whole) (get_member (codes "keys") top)
   key_tables ← tables_or_none (faults.BadField places.Whole) (get_member (codes "key") top)
   node_tables ← tables_or_none (faults.BadField places.Whole) (get_member (codes "node") top)
-  plan_of_tables keep_faults key_tables node_tables
+  plan_of_tables keep_faults key_places key_tables node_tables
 
 -- The plan of a text.
 unfoldable pub plan_of_text : List ℕ → Result PlanText PlanFault

@@ -55,14 +55,14 @@ pub enum PlanFault {
     NotUtf8,
     /// P2: the text is no TOML document.
     NotToml,
-    /// P3: there is a field other than `keep_faults`, `key` and `node` at the top, `label`, `name`
-    /// and `namespace` in a key, or `id`, `test`, `mode`, `isolated`, `locks`, `before_all`,
+    /// P3: there is a field other than `keep_faults`, `keys`, `key` and `node` at the top, `label`,
+    /// `name` and `namespace` in a key, or `id`, `test`, `mode`, `isolated`, `locks`, `before_all`,
     /// `after_all`, `before_each` and `after_each` in a node.
     UnknownField(Place),
     /// P4: `key` or `node` is no array of tables; `label` or `id` is missing or no text; `name` or
     /// `mode` is no text; `namespace`, `test` or `locks` is no array of texts; `keep_faults` or
-    /// `isolated` is neither true nor false; `before_all`, `after_all`, `before_each` or
-    /// `after_each` is no array of arrays of texts.
+    /// `isolated` is neither true nor false; `keys` is no whole number from 1 to 1,024;
+    /// `before_all`, `after_all`, `before_each` or `after_each` is no array of arrays of texts.
     BadField(Place),
     /// P5: a key's label is empty, has a space or is that of a key before it, or its namespace is
     /// an empty array.
@@ -83,8 +83,8 @@ pub enum PlanFault {
     /// P10: a node is a test and has children, or has `before_all` or `after_all`, even as an empty
     /// array.
     BadTest(usize),
-    /// P11: more than 64 different keys are declared, or the locks have more than 63 different
-    /// names.
+    /// P11: more different keys are declared than steps can name, or the locks have more than 63
+    /// different names.
     TooMany,
     /// P12: memory was refused.
     Memory,

@@ -1,11 +1,11 @@
 //! The fields of a TOML table.
-ghost use Rattle.std.specs.Prelude.{◌≡◌, [], false, not, is_some, map, option_map, IfSome};
+ghost use Rattle.std.specs.Prelude.{◌≡◌, ◌≤◌, [], false, not, is_some, map, option_map, IfOk, IfSome};
 ghost use Rattle.std.specs.Str.{bytes_eq};
 ghost use Rattle.std.specs.List.{list_any};
 ghost use Rattle.toml.specs.View.{view, table_view, items_view};
 ghost use Rattle.toml.specs.Data.{get_member};
 ghost use Rattle.ext_plan_reading.specs.Faults.{Gives};
-ghost use Rattle.ext_plan_reading.specs.Fields.{has_only, text_at, texts_in, tables_in, texts_after, tables_after, text_or_none, texts_or_none, text_lists_in, text_lists_after, text_lists_or_none, tables_or_none, truth_or_false};
+ghost use Rattle.ext_plan_reading.specs.Fields.{has_only, text_at, texts_in, tables_in, texts_after, tables_after, text_or_none, texts_or_none, text_lists_in, text_lists_after, text_lists_or_none, tables_or_none, truth_or_false, key_places_or_64, places_for_keys};
 ghost use Rattle.ext_plan_reading.specs.InnerSketches.{GivesAll, lists_view};
 
 use crate::fault::PlanFault;
@@ -13,7 +13,7 @@ use std::alloc::Global;
 use toml::{Table, Value};
 
 /// The names of the top fields.
-pub(crate) const TOP_FIELDS: [&str; 3] = ["keep_faults", "key", "node"];
+pub(crate) const TOP_FIELDS: [&str; 4] = ["keep_faults", "keys", "key", "node"];
 
 /// Tests whether each field of a table has one of the names.
 pub(crate) fn has_only(names: &[&str], table: &Table) -> bool
@@ -83,6 +83,32 @@ pub(crate) fn truth_at(table: &Table, name: &str, fault: PlanFault) -> Result<bo
             None => Err(fault),
             Some(truth) => Ok(truth),
         },
+    }
+}
+
+/// The places for the number of keys under a name, 64 if the name is left out; the fault if another
+/// number or type is there.
+pub(crate) fn key_places_at(table: &Table, name: &str, fault: PlanFault) -> Result<usize, PlanFault>
+    ensures places { Gives (λ places. places) result (key_places_or_64 fault (get_member name.now (table_view table.now))) }
+    ensures few { IfOk result (λ places. places ≤ 1024) }
+{
+    match field(table, name) {
+        None => Ok(64),
+        Some(value) => match value.as_integer() {
+            None => Err(fault),
+            Some(keys) => places_for_keys(keys).ok_or(fault),
+        },
+    }
+}
+
+/// The places for so many keys, in whole blocks of 32, if they are from 1 to 1,024.
+fn places_for_keys(keys: i64) -> Option<usize>
+    ensures places { result ≡ places_for_keys keys }
+    ensures few { IfSome result (λ places. places ≤ 1024) }
+{
+    match usize::try_from(keys) {
+        Ok(keys) if 1 <= keys && keys <= 1024 => Some((keys + 31) / 32 * 32),
+        _ => None,
     }
 }
 

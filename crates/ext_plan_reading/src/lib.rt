@@ -23,7 +23,7 @@ mod steps;
 pub use explaining::{explain, explain_id};
 pub use ext_plan::{LabelNo, Plan, PlanKey, PlanLock, PlanNode, Step, StepKey};
 pub use fault::{Place, PlanFault};
-pub(crate) use fields::{TOP_FIELDS, has_only, tables_at, truth_at};
+pub(crate) use fields::{TOP_FIELDS, has_only, key_places_at, tables_at, truth_at};
 pub(crate) use keys::{Keys, keys_of};
 pub(crate) use labels::Labels;
 pub(crate) use locks::locks_are_few;

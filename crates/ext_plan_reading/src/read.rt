@@ -1,5 +1,5 @@
 //! Reading a plan from its text.
-ghost use Rattle.std.specs.Prelude.{◌≡◌, ◌≢◌, Err, map, IfOk};
+ghost use Rattle.std.specs.Prelude.{◌≡◌, ◌≢◌, ◌≤◌, Err, map, IfOk};
 ghost use Rattle.toml.specs.View.{table_view};
 ghost use Rattle.ext_plan.specs.Plans.{plan_view};
 ghost use Rattle.ext_plan.specs.ReadPlans.{IsReadPlan};
@@ -7,8 +7,8 @@ ghost use Rattle.ext_plan_reading.specs.Faults.{Gives};
 ghost use Rattle.ext_plan_reading.specs.Reading.{plan_of, plan_of_tables, plan_of_text};
 
 use crate::{
-    Place, PlanFault, TOP_FIELDS, has_only, keys_of, locks_are_few, nodes_of_tables, tables_at,
-    truth_at,
+    Place, PlanFault, TOP_FIELDS, has_only, key_places_at, keys_of, locks_are_few, nodes_of_tables,
+    tables_at, truth_at,
 };
 use ext_plan::{Plan, keys_are_few};
 use std::alloc::Global;
@@ -17,10 +17,12 @@ use toml::Table;
 /// Reads the plan in the text of a TOML document.
 ///
 /// The plan has the keys, nodes, callbacks and steps of the text, in its order. The document may
-/// have `keep_faults`, true or by default false, and two arrays of tables, `key` and `node`.
+/// have `keep_faults`, true or by default false, and two arrays of tables, `key` and `node`. It may
+/// have `keys`, the number of different keys that steps can name, 1 to 1,024 and by default 64,
+/// rounded up to a multiple of 32.
 ///
 /// Each `key` has a `label`. It may have a `name`, which replaces the label, and a `namespace`, an
-/// array of texts with at least one. At most 64 keys are different.
+/// array of texts with at least one. No more keys are different than steps can name.
 ///
 /// Each `node` has an `id` and, if it is a test, `test`, an array of steps. It may have `mode`,
 /// which is `concurrent` or by default `same_thread`; `isolated`, true or by default false;
@@ -74,29 +76,33 @@ fn plan_of(alloc: Global, top: &Table) -> Result<Plan, PlanFault>
         return Err(PlanFault::UnknownField(Place::Whole));
     }
     let keep_faults = truth_at(top, "keep_faults", PlanFault::BadField(Place::Whole))?;
+    let key_places = key_places_at(top, "keys", PlanFault::BadField(Place::Whole))?;
     let key_tables = tables_at(alloc, top, "key", PlanFault::BadField(Place::Whole))?;
     let node_tables = tables_at(alloc, top, "node", PlanFault::BadField(Place::Whole))?;
     plan_of_tables(
         alloc,
         keep_faults,
+        key_places,
         key_tables.as_slice(),
         node_tables.as_slice(),
     )
 }
 
-/// The plan with the keys and nodes in these tables.
+/// The plan with the keys and nodes in these tables, with places for at most 1,024 keys.
 #[tactic(auto, unfolding(crate::specs::Reading::plan_of_tables))]
 fn plan_of_tables(
     alloc: Global,
     keep_faults: bool,
+    key_places: usize,
     key_tables: &[&Table],
     node_tables: &[&Table],
 ) -> Result<Plan, PlanFault>
-    ensures { Gives plan_view result (plan_of_tables keep_faults (map (λ t. table_view t.now) key_tables.now) (map (λ t. table_view t.now) node_tables.now)) }
+    requires { key_places ≤ 1024 }
+    ensures { Gives plan_view result (plan_of_tables keep_faults key_places (map (λ t. table_view t.now) key_tables.now) (map (λ t. table_view t.now) node_tables.now)) }
 {
     let keys = keys_of(alloc, key_tables)?;
     let nodes = nodes_of_tables(alloc, &keys.labels, node_tables)?;
-    if !keys_are_few(alloc, keys.keys.as_slice())? {
+    if !keys_are_few(alloc, keys.keys.as_slice(), key_places)? {
         return Err(PlanFault::TooMany);
     }
     if !locks_are_few(alloc, nodes.as_slice())? {
@@ -104,6 +110,7 @@ fn plan_of_tables(
     }
     Ok(Plan {
         keep_faults,
+        key_places,
         keys: keys.keys,
         nodes,
     })

@@ -1,11 +1,11 @@
 -- What is told of the groups of a plan's touches are the plan's races.
-use Rattle.std.proofs.Common.{◌≡◌, ℕ, zero, suc, ◌<◌, true, List, [], ◌∷◌, length, Contains, refl, sym, subst, arith, inl, inr}
+use Rattle.std.proofs.Common.{◌≡◌, ℕ, zero, suc, ◌+◌, ◌*◌, ◌<◌, true, List, [], ◌∷◌, length, Contains, refl, sym, ap, ◌∙◌, subst, arith, inl, inr}
 use Rattle.std.specs.Prelude.{◌==◌, ◌&&◌, not, if◌then◌else◌}
 use Rattle.std.proofs.lemmas.Bool.{cases_Bool}
 use Rattle.ext_plan.specs.Plans.{PlanText}
 use Rattle.ext_races.specs.declared.race.Race.{Race}
 use Rattle.ext_races.specs.Clashes.{agree, clashes, closes_differ, may_fail}
-use Rattle.ext_races.specs.InnerGroups.{IsGrouped, close_group, group_at, place_group}
+use Rattle.ext_races.specs.InnerGroups.{IsGrouped, close_group, close_group_of, group_at, place_group}
 use Rattle.ext_races.specs.Beside.{nodes_beside}
 use Rattle.ext_races.specs.InnerTold.{groups_told, race}
 use Rattle.ext_races.specs.Races.{AreRaces, IsRace, race_of}
@@ -29,7 +29,7 @@ at_place (g ∷ groups) group h = elim (contains_cases g group groups h) [
   | inr later ↦ let rest = at_place groups group later in (suc rest.0, rest.1)
 ]
 
-module _ (plan : PlanText) (most : ℕ) (groups : List (List TouchText)) (are : IsGrouped (touches_made plan) groups) where
+module _ (plan : PlanText) (most : ℕ) (groups : List (List TouchText)) (keys : ℕ) (are : IsGrouped keys (touches_made plan) groups) where
   found : (group : List TouchText) (t u : TouchText) → Contains groups group → Contains group t → Contains group u → race plan t u ≡ true → IsRace plan (race_of t u)
   found group t u in_groups t_in u_in clash =
       let at = at_place groups group in_groups in
@@ -56,13 +56,13 @@ module _ (plan : PlanText) (most : ℕ) (groups : List (List TouchText)) (are : 
       elim (cases_Bool (t.key == u.key)) [
         | inl one_key ↦
             let key = equal t.key u.key one_key in
-            let same : place_group u ≡ place_group t = omega (arith, context, key) in
-            (place_group t, are.places t t_made, subst (λ k. Contains (group_at groups k) u) same (are.places u u_made))
+            let same : place_group keys u ≡ place_group keys t = sym (ap (λ c. c * (keys + 1) + t.key) context ∙ ap (λ k. u.context * (keys + 1) + k) key) in
+            (place_group keys t, are.places t t_made, subst (λ k. Contains (group_at groups k) u) same (are.places u u_made))
         | inr two_keys ↦
             let differ : closes_differ t u ≡ true = rw two_keys at parts.1 in
             let fails = both (may_fail t) (may_fail u) (both (may_fail t && may_fail u) _ differ).0 in
-            let same : close_group u ≡ close_group t = omega (arith, context) in
-            (close_group t, are.closes t t_made fails.0, subst (λ k. Contains (group_at groups k) u) same (are.closes u u_made fails.1))
+            let same : close_group keys u ≡ close_group keys t = sym (ap (close_group_of keys) context) in
+            (close_group keys t, are.closes t t_made fails.0, subst (λ k. Contains (group_at groups k) u) same (are.closes u u_made fails.1))
       ]
 
   all : length (groups_told plan most groups) < most → (r : Race) → IsRace plan r → Contains (groups_told plan most groups) r

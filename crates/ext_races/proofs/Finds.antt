@@ -17,7 +17,7 @@ use Rattle.ext_races.specs.InnerGroups.{IsGrouped}
 use Rattle.ext_races.specs.InnerNaming.{keys_of, keys_told}
 use Rattle.ext_races.specs.InnerTold.{groups_told}
 use Rattle.ext_races.specs.MadeSteps.{MadeText, made_view, steps_made}
-use Rattle.ext_races.specs.Races.{AreRaces, key_limit, keys_of_names, number_limit}
+use Rattle.ext_races.specs.Races.{AreRaces, keys_of_names, number_limit}
 use Rattle.ext_races.specs.Touches.{TouchText, keys_named, numbers_drawn, touches_of}
 use Rattle.ext_races.proofs.Exact.{are_races}
 use Rattle.ext_races.proofs.Within.{nodes_within}
@@ -31,9 +31,9 @@ module _ (plan : PlanText) (made : List MadeText) (steps : made ≡ steps_made p
   drawn_is drawn is = is ∙ ap (count_by (λ m. draws plan.keep_faults m.step)) steps
 
   pub finds : (most : ℕ) (declared : List KeyText) (directory : List KeyValue) (names : List (Bor StepKey)) (drawn : ℕ) (ids : List Id) (groups : List (List TouchText)) (told : List Race)
-      → declared ≡ plan.keys → ids ≡ ids_of_nodes plan.nodes → directory ≡ keys_told declared made → length directory ≤ 64 → keys_of declared names ≡ directory
-      → drawn ≡ count_by (λ m. draws plan.keep_faults m.step) made → drawn ≤ 65535 → IsGrouped (flat_map (touches_of ids declared directory) made) groups → told ≡ groups_told plan most groups
-      → (length (keys_named plan) ≤ key_limit) × (numbers_drawn plan ≤ number_limit) × AreRaces plan most told × (keys_of_names plan names ≡ keys_named plan)
+      → declared ≡ plan.keys → ids ≡ ids_of_nodes plan.nodes → directory ≡ keys_told declared made → length directory ≤ plan.key_places → keys_of declared names ≡ directory
+      → drawn ≡ count_by (λ m. draws plan.keep_faults m.step) made → drawn ≤ 65535 → IsGrouped (length directory) (flat_map (touches_of ids declared directory) made) groups → told ≡ groups_told plan most groups
+      → (length (keys_named plan) ≤ plan.key_places) × (numbers_drawn plan ≤ number_limit) × AreRaces plan most told × (keys_of_names plan names ≡ keys_named plan)
   finds most declared directory names drawn ids groups told keys nodes is few words count fits grouped tells =
       let named = named_is declared directory keys is in
       let long = ap length named in
@@ -42,7 +42,7 @@ module _ (plan : PlanText) (made : List MadeText) (steps : made ≡ steps_made p
       ∙ ap (λ k. flat_map (touches_of (ids_of_nodes plan.nodes) plan.keys k) made) named ∙ ap (flat_map (touches_of (ids_of_nodes plan.nodes) plan.keys (keys_named plan))) steps in (
         omega (arith, long, few),
         omega (arith, draws_in, fits),
-        subst (AreRaces plan most) (sym tells) (are_races plan most groups (subst (λ touches. IsGrouped touches groups) same grouped)),
+        subst (AreRaces plan most) (sym tells) (are_races plan most groups (length directory) (subst (λ touches. IsGrouped (length directory) touches groups) same grouped)),
         ap (λ d. keys_of d names) (sym keys) ∙ words ∙ named,
       )
 

@@ -91,28 +91,28 @@ stood_is groups number v items t less is same there =
 
 -- ---- one touch in its groups
 
-pub added_place : (before after : List (List TouchText)) (t : TouchText) → IsPushed before (place_group t) t after → (may_fail t ≡ true → ⊥) → IsAdded (t ∷ []) before after
-added_place before after t p safe = record {
+pub added_place : (keys : ℕ) (before after : List (List TouchText)) (t : TouchText) → IsPushed before (place_group keys t) t after → (may_fail t ≡ true → ⊥) → IsAdded keys (t ∷ []) before after
+added_place keys before after t p safe = record {
   count = p.count;
   kept = p.kept;
   only = λ k u h. elim (p.only k u h) [ inl old ↦ inl old | inr is ↦ inr (subst (λ x. Contains (t ∷ []) x) (sym is) (contains_first t [])) ];
-  places = λ u h. one u h (λ x. Contains (group_at after (place_group x)) x) p.here;
-  closes = λ u h. one u h (λ x. may_fail x ≡ true → Contains (group_at after (close_group x)) x) (λ fails. absurd (safe fails));
+  places = λ u h. one u h (λ x. Contains (group_at after (place_group keys x)) x) p.here;
+  closes = λ u h. one u h (λ x. may_fail x ≡ true → Contains (group_at after (close_group keys x)) x) (λ fails. absurd (safe fails));
 }
   where
     one : (u : TouchText) → Contains (t ∷ []) u → (P : TouchText → Type 0) → P t → P u
     one u h P here = elim (contains_cases t u [] h) [ inl is ↦ subst P is here | inr no_more ↦ contains_nothing u no_more ]
 
-pub added_both : (before between after : List (List TouchText)) (t : TouchText) → IsPushed before (place_group t) t between → IsPushed between (close_group t) t after → IsAdded (t ∷ []) before after
-added_both before between after t p q = record {
+pub added_both : (keys : ℕ) (before between after : List (List TouchText)) (t : TouchText) → IsPushed before (place_group keys t) t between → IsPushed between (close_group keys t) t after → IsAdded keys (t ∷ []) before after
+added_both keys before between after t p q = record {
   count = q.count ∙ p.count;
   kept = λ k u h. q.kept k u (p.kept k u h);
   only = λ k u h. elim (q.only k u h) [
     | inl old ↦ elim (p.only k u old) [ inl older ↦ inl older | inr is ↦ inr (subst (λ x. Contains (t ∷ []) x) (sym is) (contains_first t [])) ]
     | inr is ↦ inr (subst (λ x. Contains (t ∷ []) x) (sym is) (contains_first t []))
   ];
-  places = λ u h. one u h (λ x. Contains (group_at after (place_group x)) x) (q.kept (place_group t) t p.here);
-  closes = λ u h. one u h (λ x. may_fail x ≡ true → Contains (group_at after (close_group x)) x) (λ fails. q.here);
+  places = λ u h. one u h (λ x. Contains (group_at after (place_group keys x)) x) (q.kept (place_group keys t) t p.here);
+  closes = λ u h. one u h (λ x. may_fail x ≡ true → Contains (group_at after (close_group keys x)) x) (λ fails. q.here);
 }
   where
     one : (u : TouchText) → Contains (t ∷ []) u → (P : TouchText → Type 0) → P t → P u
@@ -120,23 +120,23 @@ added_both before between after t p q = record {
 
 -- ---- many
 
-pub added_none : (groups : List (List TouchText)) → IsAdded [] groups groups
-added_none groups = record { count = refl; kept = λ k t h. h; only = λ k t h. inl h; places = λ t h. contains_nothing t h; closes = λ t h. contains_nothing t h }
+pub added_none : (keys : ℕ) (groups : List (List TouchText)) → IsAdded keys [] groups groups
+added_none keys groups = record { count = refl; kept = λ k t h. h; only = λ k t h. inl h; places = λ t h. contains_nothing t h; closes = λ t h. contains_nothing t h }
 
-pub added_more : (first second : List TouchText) (before between after : List (List TouchText)) → IsAdded first before between → IsAdded second between after → IsAdded (first ++ second) before after
-added_more first second before between after p q = record {
+pub added_more : (keys : ℕ) (first second : List TouchText) (before between after : List (List TouchText)) → IsAdded keys first before between → IsAdded keys second between after → IsAdded keys (first ++ second) before after
+added_more keys first second before between after p q = record {
   count = q.count ∙ p.count;
   kept = λ k t h. q.kept k t (p.kept k t h);
   only = λ k t h. elim (q.only k t h) [
     | inl old ↦ elim (p.only k t old) [ inl older ↦ inl older | inr new ↦ inr (Contains-append_left first second t new) ]
     | inr new ↦ inr (Contains-append_right first second t new)
   ];
-  places = λ t h. elim (Contains-append_cases first second t h) [ inl old ↦ q.kept (place_group t) t (p.places t old) | inr new ↦ q.places t new ];
-  closes = λ t h fails. elim (Contains-append_cases first second t h) [ inl old ↦ q.kept (close_group t) t (p.closes t old fails) | inr new ↦ q.closes t new fails ];
+  places = λ t h. elim (Contains-append_cases first second t h) [ inl old ↦ q.kept (place_group keys t) t (p.places t old) | inr new ↦ q.places t new ];
+  closes = λ t h fails. elim (Contains-append_cases first second t h) [ inl old ↦ q.kept (close_group keys t) t (p.closes t old fails) | inr new ↦ q.closes t new fails ];
 }
 
-pub grouped : (touches : List TouchText) (before after : List (List TouchText)) → AreEmpty before → IsAdded touches before after → IsGrouped touches after
-grouped touches before after empty p = record {
+pub grouped : (keys : ℕ) (touches : List TouchText) (before after : List (List TouchText)) → AreEmpty before → IsAdded keys touches before after → IsGrouped keys touches after
+grouped keys touches before after empty p = record {
   only = λ k t h. elim (p.only k t h) [ inl old ↦ absurd (empty k t old) | inr new ↦ new ];
   places = p.places;
   closes = p.closes;

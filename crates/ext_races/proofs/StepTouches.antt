@@ -1,5 +1,6 @@
 -- What a step touches, by the act that it is.
 use Rattle.std.proofs.Common.{◌≡◌, ℕ, ◌*◌, ◌<◌, Bool, true, false, List, [], ◌∷◌, Option, Some, None, IfSome, drop, take, map, length, get_or, ◌+◌, ◌++◌, refl, ap, sym, subst, ◌∙◌, arith, All}
+use Rattle.std.proofs.Math.Nat.{mul-le-mul_right}
 use Rattle.std.proofs.lemmas.List.Elements.{All-drop, All-take, All-weaker}
 use Rattle.ext_tree.specs.Keys.{KeyValue}
 use Rattle.ext_tree.specs.Traits.{key_eq}
@@ -25,9 +26,9 @@ pub key_there : (declared : List KeyText) (keys : List KeyValue) (made : MadeTex
     → is_there keys (key_of_step declared act.key) ≡ true
 key_there declared keys made act is there = subst (λ a. IfSome (key_of_act declared a) (λ key. is_there keys key ≡ true)) is there
 
-pub has_groups : (count nodes up : ℕ) (path along : List ℕ) → count ≡ nodes * 65 → All (λ c. c < nodes) path → along ≡ drop up path → All (HasGroups count) along
-has_groups count nodes up path along long within is =
-    subst (All (HasGroups count)) (sym is) (All-drop (HasGroups count) up path (All-weaker (λ c. c < nodes) (HasGroups count) (λ c less. omega (arith, less, long)) path within))
+pub has_groups : (keys count nodes up : ℕ) (path along : List ℕ) → count ≡ nodes * (keys + 1) → All (λ c. c < nodes) path → along ≡ drop up path → All (HasGroups keys count) along
+has_groups keys count nodes up path along long within is =
+    subst (All (HasGroups keys count)) (sym is) (All-drop (HasGroups keys count) up path (All-weaker (λ c. c < nodes) (HasGroups keys count) (λ c less. let more = mul-le-mul_right (keys + 1) less in omega (arith, more, long)) path within))
 
 -- ---- what is true of all contexts of a path is true of those that an act reaches
 

@@ -15,15 +15,15 @@ groups_view groups = map group_view groups
 abbrev pub group_at : List (List TouchText) → ℕ → List TouchText
 group_at groups number = slice_index_or groups number []
 
--- A context has 65 groups: one for each key, and the last for closes.
-abbrev pub place_group : TouchText → ℕ
-place_group t = t.context * 65 + t.key
+-- A context has a group for each of this many keys, and the last for closes.
+abbrev pub place_group : ℕ → TouchText → ℕ
+place_group keys t = t.context * (keys + 1) + t.key
 
-abbrev pub close_group_of : ℕ → ℕ
-close_group_of context = context * 65 + 64
+abbrev pub close_group_of : ℕ → ℕ → ℕ
+close_group_of keys context = context * (keys + 1) + keys
 
-abbrev pub close_group : TouchText → ℕ
-close_group t = close_group_of t.context
+abbrev pub close_group : ℕ → TouchText → ℕ
+close_group keys t = close_group_of keys t.context
 
 -- This touch is added to the group with this number.
 pub record IsPushed (before : List (List TouchText)) (number : ℕ) (touch : TouchText) (after : List (List TouchText)) : Type 0 where
@@ -33,23 +33,23 @@ pub record IsPushed (before : List (List TouchText)) (number : ℕ) (touch : Tou
   pub only : (k : ℕ) (t : TouchText) → Contains (group_at after k) t → Contains (group_at before k) t ⊎ (t ≡ touch)
 
 -- Each of these touches is added to the groups to which it belongs, and nothing else is added.
-pub record IsAdded (touches : List TouchText) (before after : List (List TouchText)) : Type 0 where
+pub record IsAdded (keys : ℕ) (touches : List TouchText) (before after : List (List TouchText)) : Type 0 where
   pub count : length after ≡ length before
   pub kept : (k : ℕ) (t : TouchText) → Contains (group_at before k) t → Contains (group_at after k) t
   pub only : (k : ℕ) (t : TouchText) → Contains (group_at after k) t → Contains (group_at before k) t ⊎ Contains touches t
-  pub places : (t : TouchText) → Contains touches t → Contains (group_at after (place_group t)) t
-  pub closes : (t : TouchText) → Contains touches t → may_fail t ≡ true → Contains (group_at after (close_group t)) t
+  pub places : (t : TouchText) → Contains touches t → Contains (group_at after (place_group keys t)) t
+  pub closes : (t : TouchText) → Contains touches t → may_fail t ≡ true → Contains (group_at after (close_group keys t)) t
 
 -- The groups have these touches and nothing else.
-pub record IsGrouped (touches : List TouchText) (groups : List (List TouchText)) : Type 0 where
+pub record IsGrouped (keys : ℕ) (touches : List TouchText) (groups : List (List TouchText)) : Type 0 where
   pub only : (k : ℕ) (t : TouchText) → Contains (group_at groups k) t → Contains touches t
-  pub places : (t : TouchText) → Contains touches t → Contains (group_at groups (place_group t)) t
-  pub closes : (t : TouchText) → Contains touches t → may_fail t ≡ true → Contains (group_at groups (close_group t)) t
+  pub places : (t : TouchText) → Contains touches t → Contains (group_at groups (place_group keys t)) t
+  pub closes : (t : TouchText) → Contains touches t → may_fail t ≡ true → Contains (group_at groups (close_group keys t)) t
 
 -- No group has a touch.
 abbrev pub AreEmpty : List (List TouchText) → Type 0
 AreEmpty groups = (k : ℕ) (t : TouchText) → Contains (group_at groups k) t → ⊥
 
 -- The groups of the context are among the first `count`.
-abbrev pub HasGroups : ℕ → ℕ → Type 0
-HasGroups count context = close_group_of context < count
+abbrev pub HasGroups : ℕ → ℕ → ℕ → Type 0
+HasGroups keys count context = close_group_of keys context < count

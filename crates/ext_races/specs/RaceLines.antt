@@ -5,9 +5,10 @@
 -- with the step of the node that comes first in the plan, that of the other, and the context of the place. A step is
 -- shown by its first word, the word by which the plan's steps first name its key, and the id of its node. A line
 -- `and more` follows if there are more, and a line `no races` stands alone if there is none. A limit that the plan
--- exceeds has a line of its own. Texts are bytes; the format is not from JUnit.
+-- exceeds has a line of its own, which tells it in decimal. Texts are bytes; the format is not from JUnit.
 use Rattle.std.specs.Prelude.{ℕ, codes, List, [], ◌∷◌, ◌++◌, length, nat_lt, take, Option, Some, None, if◌then◌else◌}
 use Rattle.std.specs.Borrow.{Bor}
+use Rattle.std.specs.Fmt.{decimal}
 use Rattle.std.specs.List.{flat_map, slice_get}
 use Rattle.ext_ids.specs.Grammar.{id_text}
 use Rattle.ext_plan.specs.Plans.{NodeText, PlanText, step_key_view}
@@ -53,6 +54,6 @@ module _ (plan : PlanText) where
 
   -- What is written, by what was found.
   abbrev pub found_text : Found → List ℕ
-  found_text found.TooManyKeys = codes "the steps name more than 64 keys\n"
+  found_text found.TooManyKeys = codes "the steps name more than " ++ decimal plan.key_places ++ codes " keys\n"
   found_text found.TooManyNumbers = codes "the steps may draw more than 65535 numbers\n"
   found_text (found.Races races names) = race_lines names.items races.items

@@ -40,10 +40,7 @@ pub record AreRaces (plan : PlanText) (most : ℕ) (races : List Race) : Type 0 
   pub few : length races ≤ most
   pub all : length races < most → (race : Race) → IsRace plan race → Contains races race
 
--- How many keys and numbers a run has.
-abbrev pub key_limit : ℕ
-key_limit = 64
-
+-- How many numbers a run has.
 abbrev pub number_limit : ℕ
 number_limit = 65535
 
@@ -53,7 +50,7 @@ keys_of_names plan names = map (λ k. key_of_step plan.keys (step_key_view k.now
 
 -- Too many keys are reported before too many numbers, and either before the races.
 abbrev pub IsFound : PlanText → ℕ → Found → Type 0
-IsFound plan most found.TooManyKeys = key_limit < length (keys_named plan)
-IsFound plan most found.TooManyNumbers = (length (keys_named plan) ≤ key_limit) × (number_limit < numbers_drawn plan)
+IsFound plan most found.TooManyKeys = plan.key_places < length (keys_named plan)
+IsFound plan most found.TooManyNumbers = (length (keys_named plan) ≤ plan.key_places) × (number_limit < numbers_drawn plan)
 IsFound plan most (found.Races races names) =
-    (length (keys_named plan) ≤ key_limit) × (numbers_drawn plan ≤ number_limit) × AreRaces plan most races.items × (keys_of_names plan names.items ≡ keys_named plan)
+    (length (keys_named plan) ≤ plan.key_places) × (numbers_drawn plan ≤ number_limit) × AreRaces plan most races.items × (keys_of_names plan names.items ≡ keys_named plan)

@@ -23,12 +23,14 @@ const NUMBERS: usize = 65_535;
 /// races are listed there are no others: with `most` of at least 1, an empty list means that the
 /// plan has no race.
 ///
-/// `TooManyKeys` reports that the steps name more than 64 keys, and otherwise `TooManyNumbers` that
-/// they may draw more than 65,535 numbers. Such a plan has no one report, whatever its nodes touch.
+/// `TooManyKeys` reports that the steps name more keys than `Plan::key_places`, and otherwise
+/// `TooManyNumbers` that they may draw more than 65,535 numbers. Such a plan has no one report,
+/// whatever its nodes touch.
 ///
-/// Takes memory for the steps that the plan may make, 32 bytes each, and for what they touch; fails
-/// with `AllocError` only if that is refused. The time grows with the number of steps and, at
-/// places that two nodes may change, with the number of pairs of touches.
+/// Takes memory for the steps that the plan may make, 32 bytes each, for what they touch, and for a
+/// list for each key that they name in each context; fails with `AllocError` only if that is
+/// refused. The time grows with the number of steps and, at places that two nodes may change, with
+/// the number of pairs of touches.
 pub fn races<'p>(alloc: Global, plan: &'p Plan, most: usize) -> Result<Found<'p>, AllocError>
     requires { IsRunnablePlan (plan_view plan.now) }
     ensures { IfOk result (IsFound (plan_view plan.now) most) }
@@ -37,7 +39,7 @@ pub fn races<'p>(alloc: Global, plan: &'p Plan, most: usize) -> Result<Found<'p>
     let made = steps_made(alloc, plan, &tree)?;
     let declared = plan.store_keys(alloc)?;
     let keys = StepKeys::of(plan.keys.as_slice(), declared.as_slice());
-    let (directory, names) = match keys_named(alloc, &keys, made.as_slice()) {
+    let (directory, names) = match keys_named(alloc, &keys, made.as_slice(), plan.key_places) {
         Ok(named) => named,
         Err(TreeFault::TooMany) => return Ok(Found::TooManyKeys),
         Err(_) => return Err(AllocError),

@@ -10,8 +10,8 @@ pub enum Found<'p> {
         races: Vec<Race>,
         names: Vec<&'p StepKey>,
     },
-    /// The steps name more than 64 different keys: which of them get a place depends on the
-    /// schedule.
+    /// The steps name more different keys than a run has places for (`Plan::key_places`): which of
+    /// them get a place depends on the schedule.
     TooManyKeys,
     /// The steps may draw more than 65,535 numbers: which of them get one depends on the schedule.
     TooManyNumbers,

@@ -1,5 +1,5 @@
 //! Touches in groups: one for each place, and one for each context's values whose closes may fail.
-ghost use Rattle.std.specs.Prelude.{◌≡◌, ◌*◌, ◌<◌, ◌≤◌, [], ◌∷◌, true, All, IfOk, IfSome, OnOk, length, map, vec_len, drop, take, reverse};
+ghost use Rattle.std.specs.Prelude.{◌≡◌, ◌+◌, ◌*◌, ◌<◌, [], ◌∷◌, true, All, IfOk, IfSome, OnOk, length, map, vec_len, drop, take, reverse};
 ghost use Rattle.std.specs.List.{flat_map, list_any};
 ghost use Rattle.ext_plan.specs.StepCalls.{keys_in};
 ghost use Rattle.ext_plan.specs.Plans.{step_key_view};
@@ -21,16 +21,11 @@ use ext_plan::{KeyedStep, StepKey, StepKeys};
 use ext_tree::{Directory, Tree};
 use std::alloc::{AllocError, Global};
 
-/// How many groups a context has: one for each of 64 keys, and one for closes.
-const GROUPS: usize = 65;
-
-/// The index of the group for closes.
-const CLOSES: usize = 64;
-
 /// How many of a group's last touches are compared with a new one.
 const COMPARED: usize = 16;
 
-/// Groups the touches of these steps. Takes memory for them.
+/// Groups the touches of these steps. Each context has a group for each key of the directory and
+/// one for closes. Takes memory for the groups and the touches.
 pub(crate) fn groups_of<'p>(
     alloc: Global,
     keys: &StepKeys<'_>,
@@ -39,11 +34,10 @@ pub(crate) fn groups_of<'p>(
     made: &[MadeStep<'p>],
 ) -> Result<Vec<Vec<Touch<'p>>>, AllocError>
     requires keys { directory.now ≡ keys_told (keys_in keys.now) (map made_view made.now) }
-    requires few { length directory.now ≤ 64 }
     requires nodes { All (λ m. m.node < length tree.now) made.now }
-    ensures { IfOk result (λ v. IsGrouped (flat_map (touches_of tree.now (keys_in keys.now) directory.now) (map made_view made.now)) (groups_view v.items)) }
+    ensures { IfOk result (λ v. IsGrouped (length directory.now) (flat_map (touches_of tree.now (keys_in keys.now) directory.now) (map made_view made.now)) (groups_view v.items)) }
 {
-    let mut groups = no_groups(alloc, tree.len() * GROUPS)?;
+    let mut groups = no_groups(alloc, tree.len() * (directory.len() + 1))?;
     for step in made {
         add_step(alloc, keys, directory, tree, step, &mut groups)?;
     }
@@ -71,10 +65,9 @@ fn add_step<'p>(
     groups: &mut Vec<Vec<Touch<'p>>>,
 ) -> Result<(), AllocError>
     requires key { IfSome (key_of_made (keys_in keys.now) (made_view step.now)) (λ key. is_there directory.now key ≡ true) }
-    requires few { length directory.now ≤ 64 }
     requires node { step.now.node < length tree.now }
-    requires count { vec_len groups.old ≡ length tree.now * 65 }
-    ensures { OnOk result (IsAdded (touches_of tree.now (keys_in keys.now) directory.now (made_view step.now)) (groups_view groups.old.items) (groups_view groups.new.items)) }
+    requires count { vec_len groups.old ≡ length tree.now * (length directory.now + 1) }
+    ensures { OnOk result (IsAdded (length directory.now) (touches_of tree.now (keys_in keys.now) directory.now (made_view step.now)) (groups_view groups.old.items) (groups_view groups.new.items)) }
 {
     let Some(act) = act_of(step.step) else {
         return Ok(());
@@ -82,7 +75,7 @@ fn add_step<'p>(
     let key = key_number(alloc, keys, directory, act.key)?;
     let seen = reach(alloc, keys, &act, step.before, path_in(tree, step.node))?;
     let path = ancestor(seen, act.up);
-    add_act(groups, step.node, key, &act, path)?;
+    add_act(groups, directory.len(), step.node, key, &act, path)?;
     Ok(())
 }
 
@@ -93,10 +86,9 @@ fn key_number(
     directory: &Directory,
     key: &StepKey,
 ) -> Result<KeyNo, AllocError>
-    requires key { is_there directory.now (key_of_step (keys_in keys.now) (step_key_view key.now)) ≡ true }
-    requires few { length directory.now ≤ 64 }
+    requires { is_there directory.now (key_of_step (keys_in keys.now) (step_key_view key.now)) ≡ true }
     ensures number { IfOk result (λ n. n ≡ place_of_key directory.now (key_of_step (keys_in keys.now) (step_key_view key.now))) }
-    ensures few { IfOk result (λ n. n < 64) }
+    ensures few { IfOk result (λ n. n < length directory.now) }
 {
     let called = store_key(alloc, keys, key)?;
     Ok(directory.number_of(&called).unwrap_or(0))
@@ -112,24 +104,26 @@ fn ancestor(path: &[ContextNo], up: usize) -> &[ContextNo]
     }
 }
 
-/// Adds what an act touches on this path, which begins with the context that it acts on.
+/// Adds what an act touches on this path, which begins with the context that it acts on. The act's
+/// key is one of `keys` keys.
 fn add_act<'p>(
     groups: &mut Vec<Vec<Touch<'p>>>,
+    keys: usize,
     node: ContextNo,
     key: KeyNo,
     act: &KeyedStep<'p>,
     path: &[ContextNo],
 ) -> Result<(), AllocError>
-    requires key { key < 64 }
-    requires path { All (HasGroups (vec_len groups.old)) path.now }
-    ensures { OnOk result (IsAdded (touches_along node key (act_view act.now) path.now) (groups_view groups.old.items) (groups_view groups.new.items)) }
+    requires key { key < keys }
+    requires path { All (HasGroups keys (vec_len groups.old)) path.now }
+    ensures { OnOk result (IsAdded keys (touches_along node key (act_view act.now) path.now) (groups_view groups.old.items) (groups_view groups.new.items)) }
 {
     match path.split_first() {
         None => Ok(()),
         Some((context, above)) => {
             let touch = touch_of(node, key, act, act.word.changes(), *context);
-            add(groups, touch)?;
-            add_above(groups, node, key, act, above)?;
+            add(groups, keys, touch)?;
+            add_above(groups, keys, node, key, act, above)?;
             Ok(())
         }
     }
@@ -138,35 +132,40 @@ fn add_act<'p>(
 /// Adds what an act touches above the context that it acts on.
 fn add_above<'p>(
     groups: &mut Vec<Vec<Touch<'p>>>,
+    keys: usize,
     node: ContextNo,
     key: KeyNo,
     act: &KeyedStep<'p>,
     above: &[ContextNo],
 ) -> Result<(), AllocError>
-    requires key { key < 64 }
-    requires path { All (HasGroups (vec_len groups.old)) above.now }
-    ensures { OnOk result (IsAdded (touches_above node key (act_view act.now) above.now) (groups_view groups.old.items) (groups_view groups.new.items)) }
+    requires key { key < keys }
+    requires path { All (HasGroups keys (vec_len groups.old)) above.now }
+    ensures { OnOk result (IsAdded keys (touches_above node key (act_view act.now) above.now) (groups_view groups.old.items) (groups_view groups.new.items)) }
 {
     if !act.word.looks_along() {
         return Ok(());
     }
     for context in above {
         let touch = touch_of(node, key, act, false, *context);
-        add(groups, touch)?;
+        add(groups, keys, touch)?;
     }
     Ok(())
 }
 
-/// Adds a touch to its groups.
-fn add<'p>(groups: &mut Vec<Vec<Touch<'p>>>, touch: Touch<'p>) -> Result<(), AllocError>
-    requires key { touch.key < 64 }
-    requires context { HasGroups (vec_len groups.old) touch.context }
-    ensures { OnOk result (IsAdded (touch_view touch.entry ∷ []) (groups_view groups.old.items) (groups_view groups.new.items)) }
+/// Adds a touch to its groups, of which each context has one for each of `keys` keys and one more.
+fn add<'p>(
+    groups: &mut Vec<Vec<Touch<'p>>>,
+    keys: usize,
+    touch: Touch<'p>,
+) -> Result<(), AllocError>
+    requires key { touch.key < keys }
+    requires context { HasGroups keys (vec_len groups.old) touch.context }
+    ensures { OnOk result (IsAdded keys (touch_view touch.entry ∷ []) (groups_view groups.old.items) (groups_view groups.new.items)) }
 {
-    let first = touch.context * GROUPS;
+    let first = touch.context * (keys + 1);
     push_in(groups, first + touch.key, touch)?;
     if touch.may_fail() {
-        push_in(groups, first + CLOSES, touch)?;
+        push_in(groups, first + keys, touch)?;
     }
     Ok(())
 }

@@ -1,14 +1,15 @@
 //! Races of a plan: nodes that may run beside one another with steps that interfere.
 //!
-//! `races` lists them. In `specs/`, `MadeSteps` defines which steps a plan may make, `Touches` what
-//! they touch, `Beside` which nodes may run beside one another, `Clashes` which touches clash, and
-//! `Races` what is reported.
+//! `races` lists them, and `count_keys` counts the keys that the steps name. In `specs/`,
+//! `MadeSteps` defines which steps a plan may make, `Touches` what they touch, `Beside` which nodes
+//! may run beside one another, `Clashes` which touches clash, and `Races` what is reported.
 //!
 //! JUnit has no such checker.
 #![tactic(auto)]
 
 mod act;
 mod beside;
+mod counting;
 mod finding;
 mod found;
 mod groups;
@@ -20,6 +21,7 @@ mod telling;
 mod text;
 mod touch;
 
+pub use counting::count_keys;
 pub use finding::races;
 pub use found::Found;
 pub use race::{Race, Side};

@@ -19,45 +19,49 @@ use std::alloc::{AllocError, Global};
 /// The different keys that the steps name, in the order in which they are first named, and the word
 /// that first names each. Takes memory for them.
 ///
-/// Refused as `TooMany` if there are more than 64, and as `Memory`.
+/// Refused as `TooMany` if there are more than `most`, which is at most 1,024, and as `Memory`.
 pub(crate) fn keys_named<'p>(
     alloc: Global,
     keys: &StepKeys<'_>,
     made: &[MadeStep<'p>],
+    most: usize,
 ) -> Result<(Directory, Vec<&'p StepKey>), TreeFault>
+    requires most { most ≤ 1024 }
     ensures keys { IfOk result (λ named. named.0 ≡ keys_told (keys_in keys.now) (map made_view made.now)) }
     ensures names { IfOk result (λ named. keys_of (keys_in keys.now) named.1.items ≡ named.0) }
-    ensures few { IfOk result (λ named. length named.0 ≤ 64) }
-    ensures full { result ≡ Err fault.TooMany → 64 < length (keys_told (keys_in keys.now) (map made_view made.now)) }
+    ensures few { IfOk result (λ named. length named.0 ≤ most) }
+    ensures full { result ≡ Err fault.TooMany → most < length (keys_told (keys_in keys.now) (map made_view made.now)) }
 {
     let mut directory = Directory::new(alloc);
     let mut names = Vec::new(alloc);
     for step in made {
-        name(alloc, keys, step, &mut directory, &mut names)?;
+        name(alloc, keys, step, &mut directory, &mut names, most)?;
     }
     Ok((directory, names))
 }
 
-/// Numbers the key that the step names, unless it has a number.
+/// Numbers the key that the step names, unless it has a number: one of at most `most` keys.
 fn name<'p>(
     alloc: Global,
     keys: &StepKeys<'_>,
     step: &MadeStep<'p>,
     directory: &mut Directory,
     names: &mut Vec<&'p StepKey>,
+    most: usize,
 ) -> Result<(), TreeFault>
+    requires most { most ≤ 1024 }
     requires names { keys_of (keys_in keys.now) names.old.items ≡ directory.old }
-    requires few { length directory.old ≤ 64 }
+    requires few { length directory.old ≤ most }
     ensures keys { OnOk result (directory.new ≡ with_key_of directory.old (key_of_made (keys_in keys.now) (made_view step.now))) }
     ensures names { OnOk result (keys_of (keys_in keys.now) names.new.items ≡ directory.new) }
-    ensures few { OnOk result (length directory.new ≤ 64) }
-    ensures full { result ≡ Err fault.TooMany → 64 < length (with_key_of directory.old (key_of_made (keys_in keys.now) (made_view step.now))) }
+    ensures few { OnOk result (length directory.new ≤ most) }
+    ensures full { result ≡ Err fault.TooMany → most < length (with_key_of directory.old (key_of_made (keys_in keys.now) (made_view step.now))) }
 {
     let Some(act) = act_of(step.step) else {
         return Ok(());
     };
     let key = store_key(alloc, keys, act.key)?;
-    if declare(directory, key)? {
+    if declare(directory, key, most)? {
         names.push(act.key)?;
     }
     Ok(())
@@ -75,16 +79,17 @@ pub(crate) fn store_key(
     called.key().clone()
 }
 
-/// Numbers the key, and tells whether it had no number before.
-fn declare(directory: &mut Directory, key: Key) -> Result<bool, TreeFault>
-    requires { length directory.old ≤ 64 }
+/// Numbers the key, one of at most `most`, and tells whether it had no number before.
+fn declare(directory: &mut Directory, key: Key, most: usize) -> Result<bool, TreeFault>
+    requires most { most ≤ 1024 }
+    requires few { length directory.old ≤ most }
     ensures keys { OnOk result (directory.new ≡ with_key directory.old key) }
     ensures added { IfOk result (λ is_new. directory.new ≡ (if is_new then directory.old ++ key ∷ [] else directory.old)) }
-    ensures few { OnOk result (length directory.new ≤ 64) }
-    ensures full { result ≡ Err fault.TooMany → 64 < length (with_key directory.old key) }
+    ensures few { OnOk result (length directory.new ≤ most) }
+    ensures full { result ≡ Err fault.TooMany → most < length (with_key directory.old key) }
 {
     let before = directory.len();
-    match directory.declare(key) {
+    match directory.declare(key, most) {
         Ok(_) => Ok(directory.len() != before),
         Err(fault) => Err(fault),
     }

@@ -1,5 +1,6 @@
 //! The text of a plan's races.
-ghost use Rattle.std.specs.Prelude.{◌≡◌, ◌++◌, string_bytes, take, IfOk, OnOk};
+ghost use Rattle.std.specs.Prelude.{◌≡◌, ◌++◌, codes, string_bytes, take, IfOk, OnOk};
+ghost use Rattle.std.specs.Fmt.{decimal};
 ghost use Rattle.std.specs.List.{flat_map, slice_get};
 ghost use Rattle.ext_plan.specs.Plans.{plan_view, step_key_view};
 ghost use Rattle.ext_plan.specs.StepCalls.{label_of};
@@ -24,13 +25,20 @@ pub fn races_text(alloc: Global, plan: &Plan, found: &Found<'_>) -> Result<Strin
 {
     let mut text = String::new(alloc);
     match found {
-        Found::TooManyKeys => text.push_str("the steps name more than 64 keys\n")?,
+        Found::TooManyKeys => push_places(&mut text, plan)?,
         Found::TooManyNumbers => text.push_str("the steps may draw more than 65535 numbers\n")?,
         Found::Races { races, names } => {
             push_races(&mut text, plan, races.as_slice(), names.as_slice())?;
         }
     }
     Ok(text)
+}
+
+/// Adds the line that tells how many keys a run has places for.
+fn push_places(text: &mut String, plan: &Plan) -> Result<(), AllocError>
+    ensures { OnOk result (string_bytes text.new ≡ string_bytes text.old ++ codes "the steps name more than " ++ decimal (plan_view plan.now).key_places ++ codes " keys\n") }
+{
+    write!(text, "the steps name more than {} keys\n", plan.key_places)
 }
 
 fn push_races(

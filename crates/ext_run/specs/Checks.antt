@@ -1,10 +1,11 @@
--- What is written of a plan that is read but not run: how many nodes it has, how many of them are tests, and how many
--- `[[key]]` tables. Numbers are decimal.
-use Rattle.std.specs.Prelude.{◌≡◌, ℕ, Bool, true, false, not, ◌==◌, codes, List, ◌++◌, length, is_some, Result, Ok, Err}
+-- What is written of a plan that is read but not run: how many nodes it has, how many of them are tests, and for how many
+-- of the different keys that its steps name there are places. Numbers are decimal.
+use Rattle.std.specs.Prelude.{◌≡◌, ℕ, Bool, true, false, not, ◌==◌, nat_le, codes, List, ◌++◌, length, is_some, if◌then◌else◌, Result, Ok, Err}
 use Rattle.ext_races.specs.declared.found.Found.{Found}
 use Rattle.ext_races.specs.declared.found.Found.TheVariants as found
 use Rattle.ext_races.specs.RaceLines.{found_text}
 use Rattle.ext_races.specs.Races.{IsFound}
+use Rattle.ext_races.specs.Touches.{keys_named}
 use Rattle.std.specs.Fmt.{decimal}
 use Rattle.std.specs.List.{count_by}
 use Rattle.ext_plan_reading.specs.Plans.{NodeText, PlanText}
@@ -16,10 +17,14 @@ use Rattle.ext_run.specs.Reports.{RefusedAs}
 abbrev pub test_count : List NodeText → ℕ
 test_count nodes = count_by (λ node. is_some node.test) nodes
 
--- For instance `ok, 7 nodes, 3 tests, 2 keys` and a line feed.
+-- No more keys are counted than a plan can have places for.
+abbrev pub key_count_text : ℕ → List ℕ
+key_count_text count = if nat_le count 1024 then decimal count else codes "more than 1024"
+
+-- For instance `ok, 7 nodes, 3 tests, 2 of 64 keys` and a line feed.
 unfoldable pub counts_line : PlanText → List ℕ
 counts_line plan =
-    codes "ok, " ++ decimal (length plan.nodes) ++ codes " nodes, " ++ decimal (test_count plan.nodes) ++ codes " tests, " ++ decimal (length plan.keys) ++ codes " keys\n"
+    codes "ok, " ++ decimal (length plan.nodes) ++ codes " nodes, " ++ decimal (test_count plan.nodes) ++ codes " tests, " ++ key_count_text (length (keys_named plan)) ++ codes " of " ++ decimal plan.key_places ++ codes " keys\n"
 
 -- The line of the plan that was read. A refused plan has none.
 abbrev pub IsCountsOf : Result PlanText RunFault → List ℕ → Type 0

@@ -12,16 +12,17 @@ use crate::input::read_input;
 use crate::options::Summary;
 use crate::runs::write_whole;
 use ext_plan_reading::{Plan, PlanFault, PlanNode, read_plan};
-use ext_races::{Found, races, races_text};
+use ext_races::{Found, count_keys, races, races_text};
 use std::alloc::{AllocError, Global};
 use std::io::{Read, Write};
 
 /// How many races are looked for: one more than the text lists.
 const RACES: usize = 21;
 
-/// Reads a plan and writes how many nodes, tests and `[[key]]` tables it has, without running it.
-/// The line is `ok, 7 nodes, 3 tests, 2 keys`. Two labels of one key are two of its `[[key]]`
-/// tables.
+/// Reads a plan and writes how many nodes and tests it has, and how many different keys its steps
+/// name of those that there are places for, without running it. The line is `ok, 7 nodes, 3 tests,
+/// 2 of 64 keys`. If the steps name more keys than there are places, some of them fail with
+/// `directory full` in a run. More than 1,024 keys are not counted.
 ///
 /// It reads like `run`, and is refused like a plain run of the plan: as `Read`, `TooLong`, `Plan`
 /// or `Memory`, with nothing written, or as `Write`.
@@ -50,8 +51,8 @@ pub fn check<I: Read, W: Write>(
 
 /// Reads a plan and writes its races, without running it. Each of the first 20 races has a line,
 /// and `and more` follows if there are others. `no races` stands alone if there are none, and so
-/// does a line that names the limit if the steps name more than 64 keys or may draw more than
-/// 65,535 numbers (`ext_races::races_text`). In the summary, `failed` tells whether there is a race
+/// does a line that names the limit if the steps name more keys than there are places, or may draw
+/// more than 65,535 numbers (`ext_races::races_text`). In the summary, `failed` tells whether there is a race
 /// or a limit is exceeded.
 ///
 /// It reads like `run`, and is refused like `check`.
@@ -136,12 +137,54 @@ fn line_of(alloc: Global, input: &[u8]) -> Result<String, RunFault>
 
 #[tactic(auto, unfolding(crate::specs::Checks::counts_line))]
 fn counts_line(alloc: Global, plan: &Plan) -> Result<String, AllocError>
+    requires { IsRunnablePlan (plan_view plan.now) }
     ensures { IfOk result (λ line. string_bytes line ≡ counts_line (plan_view plan.now)) }
 {
     let nodes = plan.nodes.len();
     let tests = test_count(plan.nodes.as_slice());
-    let keys = plan.keys.len();
-    format!(in alloc; "ok, {nodes} nodes, {tests} tests, {keys} keys\n")
+    let places = plan.key_places;
+    match count_keys(alloc, plan)? {
+        Some(keys) => {
+            format!(in alloc; "ok, {nodes} nodes, {tests} tests, {keys} of {places} keys\n")
+        }
+        None => format!(in alloc;
+            "ok, {nodes} nodes, {tests} tests, more than 1024 of {places} keys\n"
+        ),
+    }
+}
+
+/// Explains why steps fail with `directory full`, in a line without its line feed: the steps of the
+/// plan in these bytes name more different keys than there are places. The line says how many, and
+/// which field of the plan raises the limit. There is none if the steps name no more, or if the
+/// bytes are no plan.
+///
+/// Takes memory for the plan, its keys and the line; fails with `AllocError` only if that is
+/// refused.
+pub fn explain_keys(alloc: Global, input: &[u8]) -> Result<Option<String>, AllocError> {
+    let Ok(text) = std::str::from_utf8(input) else {
+        return Ok(None);
+    };
+    match read_plan(alloc, text) {
+        Ok(plan) => keys_explained(alloc, &plan),
+        Err(PlanFault::Memory) => Err(AllocError),
+        Err(_) => Ok(None),
+    }
+}
+
+/// What `explain_keys` says of this plan.
+fn keys_explained(alloc: Global, plan: &Plan) -> Result<Option<String>, AllocError>
+    requires { IsRunnablePlan (plan_view plan.now) }
+{
+    let places = plan.key_places;
+    match count_keys(alloc, plan)? {
+        Some(keys) if keys <= places => Ok(None),
+        Some(keys) => Ok(Some(format!(in alloc;
+            "the plan: its steps name {keys} different keys, and there are places for {places}. Write keys = {keys} at the top of the plan"
+        )?)),
+        None => Ok(Some(format!(in alloc;
+            "the plan: its steps name more than 1024 different keys, for which no plan has places"
+        )?)),
+    }
 }
 
 /// Counts the nodes that are tests.

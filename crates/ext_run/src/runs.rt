@@ -36,10 +36,10 @@ struct Output {
 /// which has one report if memory suffices. Otherwise it runs on `lanes` lanes (1 to 16), each on
 /// at most one thread, over a store for several threads (`ext_parallel::parallel_results`). In
 /// either run a step for which memory is refused fails with `no memory`, and a step that names a
-/// key after 64 others with `directory full`. `Summary::lacked` tells whether there was a step of a
-/// plain run for which memory was refused, or whether a step of a run on several lanes may have
-/// lacked anything. If there was none, the report of a plain run is that of the only plain run that
-/// the plan has.
+/// key after `key_places` others of the plan with `directory full`. `Summary::lacked` tells whether
+/// there was a step of a plain run for which memory was refused, or whether a step of a run on
+/// several lanes may have lacked anything. If there was none, the report of a plain run is that of
+/// the only plain run that the plan has.
 ///
 /// If the nodes of a plan do not interfere, a run on several lanes that lacks nothing reports of
 /// each node what the plain run does. Only the counts of computed and found values may differ, if

@@ -9,10 +9,7 @@ use indexmap::IndexSet;
 use std::alloc::Global;
 use std::marker::Model;
 
-/// The greatest number of declared keys.
-const MAX_KEYS: usize = 64;
-
-/// The declared keys, at most 64, in the order of their numbers, which begin at 0.
+/// The declared keys, at most 1,024, in the order of their numbers, which begin at 0.
 ///
 /// A directory has one owner: `declare` borrows it mutably. If several threads number keys, use
 /// `KeyPlaces`.
@@ -29,7 +26,7 @@ impl Model for Directory {
 
     ghost view = { λ d. d.keys.keys };
 
-    ghost invariant = { λ d. (length d.keys.keys ≤ 64) × AreDifferent d.keys.keys };
+    ghost invariant = { λ d. (length d.keys.keys ≤ 1024) × AreDifferent d.keys.keys };
 }
 
 impl Directory {
@@ -42,18 +39,19 @@ impl Directory {
         }
     }
 
-    /// Declares the key and answers its number, 0 to 63: the one that it had before, else the next
-    /// one. May take memory, for a new key only.
+    /// Declares the key, one of at most `most`, and answers its number: the one that it had before,
+    /// else the next one. `most` is at most 1,024. May take memory, for a new key only.
     ///
-    /// Refused, in this order, as `TooMany` if 64 other keys are declared, and as `Memory`. A
+    /// Refused, in this order, as `TooMany` if `most` other keys are declared, and as `Memory`. A
     /// refused call drops the key and changes nothing.
-    pub fn declare(&mut self, key: Key) -> Result<KeyNo, TreeFault>
+    pub fn declare(&mut self, key: Key, most: usize) -> Result<KeyNo, TreeFault>
+        requires most { most ≤ 1024 }
         ensures number { IfOk result (HasNumber self.new key) }
         ensures again { (number : ℕ) → HasNumber self.old key number → (result ≡ Ok number) × (self.new ≡ self.old) }
         ensures added { IfOk result (λ number. ¬ (Contains self.old key) →
             (number ≡ length self.old) × (self.new ≡ self.old ++ key ∷ [])) }
-        ensures full { (result ≡ Err fault.TooMany) ↔ (¬ (Contains self.old key) × (length self.old ≡ 64)) }
-        ensures memory { result ≡ Err fault.Memory → ¬ (Contains self.old key) × (length self.old < 64) }
+        ensures full { (result ≡ Err fault.TooMany) ↔ (¬ (Contains self.old key) × (most ≤ length self.old)) }
+        ensures memory { result ≡ Err fault.Memory → ¬ (Contains self.old key) × (length self.old < most) }
         ensures refusal { IfErr result (λ e. (e ≡ fault.TooMany) ⊎ (e ≡ fault.Memory)) }
         ensures unchanged { OnErr result (self.new ≡ self.old) }
     {
@@ -61,14 +59,14 @@ impl Directory {
             return Ok(number);
         }
         let number = self.keys.len();
-        if number == MAX_KEYS {
+        if number >= most {
             return Err(TreeFault::TooMany);
         }
         self.keys.insert(key)?;
         Ok(number)
     }
 
-    /// The number of the key, 0 to 63, or `None` if it was not declared.
+    /// The number of the key, or `None` if it was not declared.
     pub fn number_of(&self, key: &Key) -> Option<KeyNo>
         ensures number { IfSome result (HasNumber self.now key.now) }
         ensures found { (number : ℕ) → HasNumber self.now key.now number → result ≡ Some number }
@@ -85,10 +83,10 @@ impl Directory {
         &self.keys.as_slice()[number]
     }
 
-    /// How many keys were declared: 0 to 64.
+    /// How many keys were declared: 0 to 1,024.
     pub fn len(&self) -> usize
         ensures count { result ≡ length self.now }
-        ensures small { result ≤ 64 }
+        ensures small { result ≤ 1024 }
         ensures different { AreDifferent self.now }
     {
         self.keys.len()

@@ -8,8 +8,8 @@ use crate::failing::run_plan;
 use crate::progress::run_told;
 use crate::telling::tell;
 use ext_run::{
-    NoListener, Options, RequestFault, RunFault, Summary, check, check_races, draw, explain,
-    read_input,
+    NoListener, Options, PlanFault, RequestFault, RunFault, Summary, check, check_races, draw,
+    explain, explain_keys, read_input,
 };
 use std::fs;
 use std::io::{Input, Write};
@@ -67,14 +67,30 @@ where
     R: Threads + Wait + Sync + Clock + AllocGlobal + Eprint,
     W: Write,
 {
+    let runs = matches!(task, Task::Run { .. });
     let outcome = told(rt, outcome_of_task(rt, input, writer, task));
-    if explained
-        && let Err(RequestFault::Run(RunFault::Plan(fault))) = outcome
-        && let Ok(line) = explain(rt.alloc(), input, fault)
-    {
-        let _ = eprintln!(rt; "{}", line.as_str());
+    if explained {
+        match outcome {
+            Err(RequestFault::Run(RunFault::Plan(fault))) => explain_fault(rt, input, fault),
+            Ok(summary) if runs && summary.failed => explain_full_keys(rt, input),
+            _ => {}
+        }
     }
     outcome
+}
+
+/// Prints what a fault of the plan in these bytes means.
+fn explain_fault(rt: &(impl AllocGlobal + Eprint), input: &[u8], fault: PlanFault) {
+    if let Ok(line) = explain(rt.alloc(), input, fault) {
+        let _ = eprintln!(rt; "{}", line.as_str());
+    }
+}
+
+/// Prints why keys of the plan in these bytes have no place, if there are any.
+fn explain_full_keys(rt: &(impl AllocGlobal + Eprint), input: &[u8]) {
+    if let Ok(Some(line)) = explain_keys(rt.alloc(), input) {
+        let _ = eprintln!(rt; "{}", line.as_str());
+    }
 }
 
 /// The outcome, whose fault is printed on standard error.

@@ -213,6 +213,8 @@ fn notes_know_what_was_placed_or_shown(rt: HostRuntime) -> Result<(), Fail> {
     let empty = found_by_both(&values, &mut own, &mut other, 1);
     let outside = found_by_both(&values, &mut own, &mut other, 3);
     same(&rt, (empty, outside), (None, None), "no value");
+    let further = placed_and_found(&values, &mut own, 1, Box::new(rt.alloc(), 9)?);
+    same(&rt, (further, own.knows(2)), (Ok(9), true), "both");
     Ok(())
 }
 

@@ -1,5 +1,5 @@
 //! A value of a lane that a run has not in hand.
-ghost use Rattle.std.specs.Prelude.{◌≡◌, ◌<◌, length};
+ghost use Rattle.std.specs.Prelude.{◌≡◌, ◌<◌, All, length};
 ghost use Rattle.ext_store.specs.Stores.{IsLaneOf, closers_below};
 ghost use Rattle.ext_engine.specs.TreeRun.{IsUsable};
 
@@ -127,11 +127,23 @@ fn put(rt: &impl Abort, store: &Store<Page>, lane: &mut Lane<Page>, context: Con
     assert!(rt; matches!(stood, Ok(None)), "nothing stood there");
 }
 
-/// Runs the nodes. Gives why that is refused.
+/// Has the first of the lanes name the key.
+fn name_by_first(store: &Store<Page>, lanes: &mut [Lane<Page>], key: &Key)
+    requires some { 0 < length lanes.old }
+    requires lanes { All (IsLaneOf store.now.id) lanes.old }
+    ensures lanes { All (IsLaneOf store.now.id) lanes.new }
+    ensures count { length lanes.new ≡ length lanes.old }
+{
+    let _number = store.number(&mut lanes[0], key);
+}
+
+/// Runs the nodes, and asserts that each lane is told the key that the first one named before.
+/// Gives why the run is refused.
 fn refused<R: Threads + Wait + Sync + Abort>(
     rt: &R,
     alloc: Global,
     opened: Opened<Page>,
+    key: &Key,
 ) -> EngineFault
     requires usable { IsUsable opened.store opened.locks (record { first = opened.lanes.items; second = opened.lock_lanes.items }) }
     requires closers { opened.closers.items ≡ closers_below opened.store.id.cells (length opened.store.tree) }
@@ -143,19 +155,23 @@ fn refused<R: Threads + Wait + Sync + Abort>(
         locks,
         mut lock_lanes,
     } = opened;
+    let all_lanes = lanes.as_mut_slice();
+    name_by_first(&store, all_lanes, key);
     let suite = QuietSuite { tree: store.tree() };
     leaf_laws(&suite, &store, &locks);
-    match run_tree(
+    let ran = run_tree(
         rt,
         alloc,
         &suite,
         &store,
         &locks,
-        lanes.as_mut_slice(),
+        all_lanes,
         lock_lanes.as_mut_slice(),
         closers,
         &OpenGate,
-    ) {
+    );
+    assert!(rt; all_lanes.iter().all(|lane| lane.knows_key(0)), "the key");
+    match ran {
         Ok(_) => panic!(rt; "not refused"),
         Err(why) => why,
     }
@@ -176,8 +192,10 @@ fn value_is_unknown<R: Threads + Wait + Sync + Abort>(rt: &R, alloc: Global, con
         lock_lane: _lock_lane,
     } = apart;
     assert!(rt; context < opened.store.tree().len());
+    let first = opened.closers.as_slice().first().map(|it| it.context());
+    same(rt, first, Some(0), "the first closer");
     put(rt, &opened.store, &mut lane, context, &key);
-    let why = refused(rt, alloc, opened);
+    let why = refused(rt, alloc, opened, &key);
     same(rt, why, EngineFault::Unjoined(context, 1), "the refusal");
 }
 
@@ -187,7 +205,7 @@ fn value_of_another_lane_in_the_root(rt: HostRuntime) {
     value_is_unknown(&rt, rt.alloc(), 0);
 }
 
-/// Tests `run_tree`.
+/// Tests `run_tree` and `open_run`.
 #[test]
 fn value_of_another_lane_in_a_container(rt: HostRuntime) {
     value_is_unknown(&rt, rt.alloc(), 1);

@@ -40,14 +40,14 @@ fn namespaces_differ_by_order(rt: HostRuntime) -> Result<(), Fail> {
     Ok(())
 }
 
-/// What declaring the global key of this name answers.
+/// What declaring the global key of this name answers, as one of 64.
 fn declared(
     alloc: Global,
     directory: &mut Directory,
     name: &str,
 ) -> Result<Result<usize, TreeFault>, Fail> {
     let key = Key::new(alloc, Namespace::global(), name)?;
-    Ok(directory.declare(key))
+    Ok(directory.declare(key, 64))
 }
 
 /// Asserts that declaring the global keys of these names, in order, answers this.
@@ -100,6 +100,42 @@ fn declares_two(rt: &impl Abort, alloc: Global, directory: &mut Directory) -> Re
 fn keys_are_declared_once(rt: HostRuntime) -> Result<(), Fail> {
     let mut directory = Directory::new(rt.alloc());
     declares_two(&rt, rt.alloc(), &mut directory)
+}
+
+/// What declaring the global key of this name answers, as one of three.
+fn declared_of_three(
+    alloc: Global,
+    directory: &mut Directory,
+    name: &str,
+) -> Result<Result<usize, TreeFault>, Fail> {
+    let key = Key::new(alloc, Namespace::global(), name)?;
+    Ok(directory.declare(key, 3))
+}
+
+/// Names, and what declaring them in order answers in a directory that takes three keys.
+const OF_THREE: [(&str, Result<usize, TreeFault>); 6] = [
+    ("a", Ok(0)),
+    ("b", Ok(1)),
+    ("c", Ok(2)),
+    ("d", Err(TreeFault::TooMany)),
+    ("a", Ok(0)),
+    ("c", Ok(2)),
+];
+
+/// Declares three keys, and then one more.
+fn declares_three(rt: &impl Abort, alloc: Global, directory: &mut Directory) -> Result<(), Fail> {
+    for (name, wanted) in &OF_THREE {
+        let answer = declared_of_three(alloc, directory, name)?;
+        same(rt, answer, *wanted, name);
+    }
+    Ok(())
+}
+
+/// Tests `Directory::declare`.
+#[test]
+fn keys_are_as_many_as_allowed(rt: HostRuntime) -> Result<(), Fail> {
+    let mut directory = Directory::new(rt.alloc());
+    declares_three(&rt, rt.alloc(), &mut directory)
 }
 
 /// Asserts that the keys `key0` to `key63` have the numbers 0 to 63.

@@ -28,9 +28,13 @@ const FAULTS: [&str; 3] = ["t", "u", "close bad"];
 const THREE_FAULTS_REPORT: &str =
     "[engine:x] successful closed 0\n[engine:x]/[method:m()] failed closed 1: t (+2)\ntests 1 successful 0 aborted 0 failed 1 skipped 0\ncomputed 0 found 0 closed 1 close faults 1\n";
 
-/// Two tests that fail and may run at once, but for the lock that both name.
+/// Two tests that fail and may run at once, but for a lock: the first one writes by it, and both read by it, since their engine names it.
 const ONE_LOCK: &str =
-    "[[node]]\nid = \"[engine:x]\"\n\n[[node]]\nid = \"[engine:x]/[method:m()]\"\nmode = \"concurrent\"\nlocks = [\"READ_WRITE db\"]\ntest = [\"fail f\"]\n\n[[node]]\nid = \"[engine:x]/[method:n()]\"\nmode = \"concurrent\"\nlocks = [\"READ_WRITE db\"]\ntest = [\"fail f\"]\n";
+    "[[node]]\nid = \"[engine:x]\"\nlocks = [\"READ db\"]\n\n[[node]]\nid = \"[engine:x]/[method:m()]\"\nmode = \"concurrent\"\nlocks = [\"READ_WRITE db\"]\ntest = [\"fail f\"]\n\n[[node]]\nid = \"[engine:x]/[method:n()]\"\nmode = \"concurrent\"\ntest = [\"fail f\"]\n";
+
+/// The same, but that the first one is isolated.
+const ONE_ISOLATED: &str =
+    "[[node]]\nid = \"[engine:x]\"\n\n[[node]]\nid = \"[engine:x]/[method:m()]\"\nmode = \"concurrent\"\nisolated = true\ntest = [\"fail f\"]\n\n[[node]]\nid = \"[engine:x]/[method:n()]\"\nmode = \"concurrent\"\ntest = [\"fail f\"]\n";
 
 /// On two lanes, over the store for several threads.
 const TWO_LANES: Options = Options {
@@ -214,11 +218,13 @@ fn listener_is_told_all_faults_of_a_test(rt: HostRuntime) -> Result<(), Fail> {
     hears_three_faults(&rt, rt.alloc(), FOUR_LANES)
 }
 
-/// Holds the first of two tests up, while it has its lock, until the other one has started, and counts the starts on either lane.
+/// Holds the first of two tests up, while it has its locks, until the other one has started and for a while more, and counts the starts on
+/// either lane. It counts what is missed: the start of the other one, or that no more than one is held up at a time.
 #[derive(Drop)]
 struct HoldsUp<'a, C> {
     clock: &'a C,
     starts: Counts,
+    held: AtomicU64,
     missed: AtomicU64,
 }
 
@@ -226,6 +232,10 @@ impl<C> HoldsUp<'_, C> {
     /// Whether both lanes have started a test, and the first one the root before.
     fn have_both_started(&self) -> bool {
         self.starts.of(0) == Some(2) && self.starts.of(1) == Some(1)
+    }
+
+    fn miss(&self) {
+        self.missed.fetch_add(1, Ordering::SeqCst);
     }
 }
 
@@ -235,28 +245,44 @@ impl<C: Clock> RunListener for HoldsUp<'_, C> {
     }
 
     fn faulted(&self, _node: usize, _fault: &Fault) {
+        if self.held.swap(1, Ordering::SeqCst) == 1 {
+            self.miss();
+        }
         for _ in 0..LOOKS {
             if self.have_both_started() {
+                sleep(self.clock, Duration::from_millis(100));
+                self.held.store(0, Ordering::SeqCst);
                 return;
             }
             sleep(self.clock, Duration::from_millis(1));
         }
-        self.missed.fetch_add(1, Ordering::SeqCst);
+        self.miss();
     }
 
     fn ended(&self, _node: usize, _nodes: usize) {}
 }
 
-/// Tests `run_with_listener`.
-#[test]
-fn listener_is_told_of_a_test_that_waits_for_a_lock(rt: HostRuntime) -> Result<(), Fail> {
+/// Asserts that two tests of a plan have both started before the first of them ends, and that they are not held up at once.
+fn one_waits<R: Threads + Wait + Sync + Abort + Clock>(
+    rt: &R,
+    alloc: Global,
+    plan: &str,
+) -> Result<(), Fail> {
     let listener = HoldsUp {
-        clock: &rt,
+        clock: rt,
         starts: Counts::new(),
+        held: AtomicU64::new(0),
         missed: AtomicU64::new(0),
     };
-    failing_report(&rt, rt.alloc(), ONE_LOCK, TWO_LANES, &listener)?;
+    failing_report(rt, alloc, plan, TWO_LANES, &listener)?;
     let missed = listener.missed.load(Ordering::SeqCst);
-    same(&rt, missed, 0, "who saw no other start");
+    same(rt, missed, 0, "what is missed");
     Ok(())
+}
+
+/// Tests `run_with_listener` and `run_tree`.
+#[test]
+fn listener_is_told_of_a_test_that_waits_for_a_lock(rt: HostRuntime) -> Result<(), Fail> {
+    one_waits(&rt, rt.alloc(), ONE_LOCK)?;
+    one_waits(&rt, rt.alloc(), ONE_ISOLATED)
 }

@@ -32,7 +32,10 @@ fn go<R: Abort>(rt: &R, store: &mut PlainStore, call: Call) {
         Call::Puts(at, number, answer) => same(rt, store.put(at, 0, number), answer, "put"),
         Call::Gets(answer) => same(rt, store.get(&[2, 1, 0], 0), answer, "get"),
         Call::Claims(at, answer) => same(rt, store.claim(at, 0, 3), answer, "claim"),
-        Call::Holds(at, answer) => same(rt, store.is_claimed_by(at, 0, 3), answer, "holds"),
+        Call::Holds(at, answer) => {
+            same(rt, store.is_claimed_by(at, 0, 3), answer, "holds");
+            same(rt, store.is_claimed_by(at, 0, 4), false, "another lane");
+        }
         Call::Fills(at, number) => {
             assert!(rt; store.is_claimed_by(at, 0, 3));
             same(rt, store.fill(at, 0, 3, number), Ok(()), "fill");

@@ -222,6 +222,67 @@ fn declared_keys_are_64_at_most(rt: HostRuntime) -> Result<(), Fail> {
     Ok(())
 }
 
+/// Beginnings of a plan with numbers of declared keys, and what is told of such a plan.
+const DECLARED_BELOW: [(&str, usize, &str); 5] = [
+    ("", 65, "plan: P11"),
+    ("keys = 65\n", 65, "65 keys"),
+    ("keys = 65\n", 96, "96 keys"),
+    ("keys = 65\n", 97, "plan: P11"),
+    ("keys = 32\n", 33, "plan: P11"),
+];
+
+/// A plan that begins so, and declares so many keys.
+fn plan_below(alloc: Global, head: &str, count: usize) -> Result<String, AllocError> {
+    let keys = plan_of_keys(alloc, count, "", "")?;
+    format!(in alloc; "{head}{}", keys.as_str())
+}
+
+/// Tests `keys_are_few` and `read_plan`.
+#[test]
+fn declared_keys_have_a_place_each(rt: HostRuntime) -> Result<(), Fail> {
+    for (head, count, wanted) in &DECLARED_BELOW {
+        let text = plan_below(rt.alloc(), head, *count)?;
+        let told = keys_told(rt.alloc(), text.as_str())?;
+        same(&rt, told.as_str(), *wanted, text.as_str());
+    }
+    Ok(())
+}
+
+/// Beginnings of a plan, and what is told of how many keys its steps can name.
+const PLACES: [(&str, &str); 12] = [
+    ("", "64 places"),
+    ("keys = 1\n", "32 places"),
+    ("keys = 32\n", "32 places"),
+    ("keys = 33\n", "64 places"),
+    ("keys = 1024\n", "1024 places"),
+    ("keys = 0\n", "plan: P4"),
+    ("keys = 1025\n", "plan: P4"),
+    ("keys = -1\n", "plan: P4"),
+    ("keys = 9223372036854775807\n", "plan: P4"),
+    ("keys = \"64\"\n", "plan: P4"),
+    ("keys = 64.0\n", "plan: P4"),
+    ("keys = [64]\n", "plan: P4"),
+];
+
+/// How many keys the steps of a plan that begins so can name, behind that the word `places`; or the line of its fault.
+fn places_told(alloc: Global, head: &str) -> Result<String, AllocError> {
+    let text = format!(in alloc; "{head}{CHAIN}")?;
+    match read_plan(alloc, text.as_str()) {
+        Ok(plan) => format!(in alloc; "{} places", plan.key_places),
+        Err(fault) => fault.to_string(alloc),
+    }
+}
+
+/// Tests `read_plan`.
+#[test]
+fn reads_how_many_keys_there_are(rt: HostRuntime) -> Result<(), Fail> {
+    for (head, wanted) in &PLACES {
+        let told = places_told(rt.alloc(), head)?;
+        same(&rt, told.as_str(), *wanted, head);
+    }
+    Ok(())
+}
+
 /// Whether faults are kept by a plan that begins so.
 fn keeps_faults(alloc: Global, head: &str) -> Result<bool, Fail> {
     let text = format!(in alloc; "{head}{CHAIN}")?;

@@ -113,6 +113,18 @@ fn chain_put_and_want(rt: HostRuntime) -> Result<(), Fail> {
     reports(&rt, rt.alloc(), plan.as_str(), false, CHAIN_PASSED)
 }
 
+/// An engine of whose two faults the second one is not reported.
+const TWO_FAULTS: &str =
+    "[[node]]\nid = \"[engine:x]\"\nbefore_all = [[\"fail f\"]]\nafter_all = [[\"fail g\"]]\n";
+
+/// Tests `may_have_lacked`.
+#[test]
+fn container_may_have_lacked(rt: HostRuntime) -> Result<(), Fail> {
+    let (summary, _) = report(&rt, rt.alloc(), TWO_FAULTS, FOUR_LANES)?;
+    same(&rt, summary.lacked, true, "whether a step may have lacked");
+    Ok(())
+}
+
 /// Asserts that the plan has no report, but this line on standard error, and that nothing is written.
 fn refuses<R: Threads + Wait + Sync + Abort>(
     rt: &R,

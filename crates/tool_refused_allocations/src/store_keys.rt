@@ -8,13 +8,19 @@ use ext_model::{Fault, Look};
 use ext_store::{Compute, KeepFault, Kept, Lane, Refusal, Store};
 use ext_tree::Key;
 use std::alloc::Global;
-use test_store::{Letter, Opened, key, open_chain, plain};
+use test_store::{Letter, key, open_chain, plain};
 
-/// The keys that are numbered, and a key for each call that names one; `None` where there is no memory.
+/// The keys that are numbered, a spare one, and those of the other calls.
 #[derive(Drop)]
 struct Keys {
     numbered: [Key; 3],
     spare: Key,
+    called: CallKeys,
+}
+
+/// A key for each other call that names one.
+#[derive(Drop)]
+struct CallKeys {
     looked_up: Key,
     put: Key,
     removed: Key,
@@ -22,10 +28,19 @@ struct Keys {
 }
 
 impl Keys {
+    /// `None` where there is no memory.
     fn new(alloc: Global) -> Option<Keys> {
         Some(Keys {
-            numbered: [key(alloc, "a")?, key(alloc, "b")?, key(alloc, "c")?],
+            numbered: three_keys(alloc, "a", "b", "c")?,
             spare: key(alloc, "spare")?,
+            called: CallKeys::new(alloc)?,
+        })
+    }
+}
+
+impl CallKeys {
+    fn new(alloc: Global) -> Option<CallKeys> {
+        Some(CallKeys {
             looked_up: key(alloc, "looked up")?,
             put: key(alloc, "put")?,
             removed: key(alloc, "removed")?,
@@ -34,35 +49,56 @@ impl Keys {
     }
 }
 
+/// The keys of these names, in turn; `None` where there is no memory.
+fn three_keys(alloc: Global, a: &str, b: &str, c: &str) -> Option<[Key; 3]> {
+    Some([key(alloc, a)?, key(alloc, b)?, key(alloc, c)?])
+}
+
 /// Opens the store of a chain, and names keys by each call.
 pub(crate) fn names_keys(alloc: Global) -> Outcome {
-    match (open_chain(alloc, 8), Keys::new(alloc)) {
-        (Some(opened), Some(keys)) => makes_calls(opened, &keys),
-        _ => Outcome::NoMemory,
+    let Some(mut opened) = open_chain(alloc, 8) else {
+        return Outcome::NoMemory;
+    };
+    names_in(alloc, &opened.store, &mut opened.first, &mut opened.second)
+}
+
+/// Makes the keys, and names them by each call.
+fn names_in(
+    alloc: Global,
+    store: &Store<Letter>,
+    first: &mut Lane<Letter>,
+    second: &mut Lane<Letter>,
+) -> Outcome
+    requires first { IsLaneOf store.now.id first.old }
+    requires second { IsLaneOf store.now.id second.old }
+    requires contexts { 2 < length store.now.tree }
+{
+    match Keys::new(alloc) {
+        Some(keys) => makes_calls(store, first, second, &keys),
+        None => Outcome::NoMemory,
     }
 }
 
 /// Names keys by each call of one lane, and calls by known keys then, by both lanes.
-fn makes_calls(opened: Opened<Letter>, keys: &Keys) -> Outcome
-    requires first { IsLaneOf opened.store.id opened.first }
-    requires second { IsLaneOf opened.store.id opened.second }
-    requires contexts { 2 < length opened.store.tree }
+fn makes_calls(
+    store: &Store<Letter>,
+    first: &mut Lane<Letter>,
+    second: &mut Lane<Letter>,
+    keys: &Keys,
+) -> Outcome
+    requires first { IsLaneOf store.now.id first.old }
+    requires second { IsLaneOf store.now.id second.old }
+    requires contexts { 2 < length store.now.tree }
 {
-    let Opened {
-        store,
-        mut first,
-        mut second,
-        closers: _,
-    } = opened;
     let [a, ..] = &keys.numbered;
-    let named = numbers(&store, &mut first, keys)
-        .and(looks_up(&store, &mut first, &keys.looked_up))
-        .and(removes(&store, &mut first, &keys.removed))
-        .and(puts(&store, &mut first, &keys.put, a))
-        .and(computes(&store, &mut first, &keys.computed));
+    let named = numbers(store, first, keys)
+        .and(looks_up(store, first, &keys.called.looked_up))
+        .and(removes(store, first, &keys.called.removed))
+        .and(puts(store, first, &keys.called.put, a))
+        .and(computes(store, first, &keys.called.computed));
     named
-        .and(calls_known(&store, &mut first, a))
-        .and(calls_known(&store, &mut second, a))
+        .and(calls_known(store, first, a))
+        .and(calls_known(store, second, a))
 }
 
 /// Numbers three keys, one after the other.

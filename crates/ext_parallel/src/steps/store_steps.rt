@@ -45,7 +45,7 @@ impl<'b> StoreSteps<'b> {
     ///
     /// Steps make the store's waiting calls, so that none is refused because of a running factory
     /// or of other lanes. A refused call fails its step with `NAME KEY: REASON`. A key that no lane
-    /// has named before gets its number then. If the store has 64 other keys, the step fails with
+    /// has named before gets its number then. If all places are other keys', the step fails with
     /// `NAME KEY: directory full` and has no effect, except that a `put` has kept its value. Takes
     /// memory for keys, values and the texts of steps; a step for which it is refused fails with
     /// `Fault::Memory`. It may wait.

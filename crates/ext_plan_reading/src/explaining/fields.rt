@@ -3,7 +3,8 @@ use crate::explaining::near::nearest;
 use crate::explaining::words::{quoted, said};
 use crate::fault::{Place, PlanFault};
 use crate::fields::{
-    TOP_FIELDS, first_other, tables_at, text_at, text_if_given, text_lists_at, texts_at, truth_at,
+    TOP_FIELDS, first_other, key_places_at, tables_at, text_at, text_if_given, text_lists_at,
+    texts_at, truth_at,
 };
 use crate::keys::{KEY_FIELDS, has_parts, is_word};
 use crate::nodes::NODE_FIELDS;
@@ -16,14 +17,16 @@ enum FieldType {
     Text,
     TextIfGiven,
     TruthIfGiven,
+    KeysIfGiven,
     TextsIfGiven,
     TextListsIfGiven,
     TablesIfGiven,
 }
 
 /// The top fields, in reading order.
-const TOP_TYPES: [(&str, FieldType); 3] = [
+const TOP_TYPES: [(&str, FieldType); 4] = [
     ("keep_faults", FieldType::TruthIfGiven),
+    ("keys", FieldType::KeysIfGiven),
     ("key", FieldType::TablesIfGiven),
     ("node", FieldType::TablesIfGiven),
 ];
@@ -145,7 +148,7 @@ fn first_bad(
     Ok(None)
 }
 
-/// Says that a field has not this type, and how an array of tables is written where one is meant.
+/// Says that a field has not this type, and how a table of an array is written where one is meant.
 fn no_type(
     alloc: Global,
     table: &Table,
@@ -158,6 +161,11 @@ fn no_type(
     {
         return Ok(Some(format!(in alloc; "its field {name:?}{wrong}: write [[{name}]]")?));
     }
+    if let FieldType::KeysIfGiven = kind
+        && (is_table(table, name) || is_array(table, name))
+    {
+        return Ok(Some(format!(in alloc; "its field {name:?}{wrong}: did you mean [[key]]?")?));
+    }
     quoted(alloc, "its field ", name, wrong)
 }
 
@@ -169,6 +177,14 @@ fn is_table(table: &Table, name: &str) -> bool {
     }
 }
 
+/// Tests whether there is an array under a name, be it of tables.
+fn is_array(table: &Table, name: &str) -> bool {
+    match table.get(name) {
+        None => false,
+        Some(value) => value.as_array().is_some(),
+    }
+}
+
 /// Tests whether a field has its type, by the functions that read it.
 fn is_right(alloc: Global, table: &Table, name: &str, kind: FieldType) -> Result<bool, PlanFault> {
     let fault = PlanFault::BadField(Place::Whole);
@@ -176,6 +192,7 @@ fn is_right(alloc: Global, table: &Table, name: &str, kind: FieldType) -> Result
         FieldType::Text => Ok(text_at(table, name).is_some()),
         FieldType::TextIfGiven => was_read(text_if_given(table, name, fault)),
         FieldType::TruthIfGiven => was_read(truth_at(table, name, fault)),
+        FieldType::KeysIfGiven => was_read(key_places_at(table, name, fault)),
         FieldType::TextsIfGiven => was_read(texts_at(alloc, table, name, fault)),
         FieldType::TextListsIfGiven => was_read(text_lists_at(alloc, table, name, fault)),
         FieldType::TablesIfGiven => was_read(tables_at(alloc, table, name, fault)),
@@ -196,6 +213,7 @@ fn what_is_wrong(kind: FieldType) -> &'static str {
         FieldType::Text => " is missing, or no text",
         FieldType::TextIfGiven => " is no text",
         FieldType::TruthIfGiven => " is neither true nor false",
+        FieldType::KeysIfGiven => " is no whole number from 1 to 1024",
         FieldType::TextsIfGiven => " is no array of texts",
         FieldType::TextListsIfGiven => " is no array of arrays of texts",
         FieldType::TablesIfGiven => " is no array of tables",

@@ -1,5 +1,5 @@
 //! Explanations of faults in nodes, apart from their steps, and of trees and limits.
-ghost use Rattle.std.specs.Prelude.{All, IfOk};
+ghost use Rattle.std.specs.Prelude.{◌≤◌, All, IfOk};
 ghost use Rattle.ext_plan.specs.Plans.{key_view, keys_view};
 ghost use Rattle.ext_plan.specs.StoreKeys.{HasParts};
 
@@ -7,7 +7,7 @@ use crate::explaining::fields::table_of;
 use crate::explaining::ids::words_of_id;
 use crate::explaining::words::{quoted, said};
 use crate::fault::{Place, PlanFault};
-use crate::fields::{tables_at, text_at};
+use crate::fields::{key_places_at, tables_at, text_at};
 use crate::keys::{Keys, keys_of};
 use crate::locks::lock_at;
 use crate::modes::mode_at;
@@ -232,26 +232,36 @@ fn is_lock(alloc: Global, node: usize, text: &str) -> Result<bool, PlanFault> {
 
 /// Names what there is too much of.
 pub(crate) fn too_many(alloc: Global, top: &Table) -> Result<Option<String>, PlanFault> {
+    let most = key_places_at(top, "keys", PlanFault::BadField(Place::Whole))?;
     let keys = keys_in(alloc, top)?;
-    let first = first_too_many(alloc, keys.keys.as_slice())?;
+    let first = first_too_many(alloc, keys.keys.as_slice(), most)?;
     match first {
-        Some(key) => too_many_keys(alloc, key),
+        Some(key) => too_many_keys(alloc, key, most),
         None => said(alloc, "its locks have more than 63 different names"),
     }
 }
 
-fn too_many_keys(alloc: Global, key: usize) -> Result<Option<String>, PlanFault> {
-    Ok(Some(format!(in alloc; "it declares more than 64 different keys: key {key} is the 65th")?))
+/// Names the first key that has no place, and how a plan gets further ones, if there are any.
+fn too_many_keys(alloc: Global, key: usize, most: usize) -> Result<Option<String>, PlanFault> {
+    let hint = if most < 1024 {
+        ". Write keys = N at the top of the plan, with N up to 1024"
+    } else {
+        ""
+    };
+    Ok(Some(format!(in alloc;
+        "it declares more than {most} different keys: key {key} is one too many{hint}"
+    )?))
 }
 
-/// The index of the first key that is preceded by 64 other ones.
-fn first_too_many(alloc: Global, keys: &[PlanKey]) -> Result<Option<usize>, PlanFault>
-    requires { All HasParts (keys_view keys.now) }
+/// The index of the first key that is preceded by `most` other ones.
+fn first_too_many(alloc: Global, keys: &[PlanKey], most: usize) -> Result<Option<usize>, PlanFault>
+    requires parts { All HasParts (keys_view keys.now) }
+    requires most { most ≤ 1024 }
 {
     let mut directory = Directory::new(alloc);
     let mut place: usize = 0;
     for key in keys {
-        match declare(alloc, &mut directory, key) {
+        match declare(alloc, &mut directory, key, most) {
             Ok(()) => place = place.saturating_add(1),
             Err(TreeFault::TooMany) => return Ok(Some(place)),
             Err(_) => return Err(PlanFault::Memory),
@@ -260,10 +270,16 @@ fn first_too_many(alloc: Global, keys: &[PlanKey]) -> Result<Option<usize>, Plan
     Ok(None)
 }
 
-fn declare(alloc: Global, directory: &mut Directory, key: &PlanKey) -> Result<(), TreeFault>
-    requires { HasParts (key_view key.now) }
+fn declare(
+    alloc: Global,
+    directory: &mut Directory,
+    key: &PlanKey,
+    most: usize,
+) -> Result<(), TreeFault>
+    requires parts { HasParts (key_view key.now) }
+    requires most { most ≤ 1024 }
 {
     let key = key.store_key(alloc)?;
-    directory.declare(key)?;
+    directory.declare(key, most)?;
     Ok(())
 }

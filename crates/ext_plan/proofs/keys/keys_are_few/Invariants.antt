@@ -6,5 +6,5 @@ use Rattle.ext_plan.proofs.keys.keys_are_few.Given as goal
 abbrev pub invariant-loop-key : goal.invariant-loop-key
 invariant-loop-key l = record {
   rest : different_keys (keys_view l.keys) ≡ keys_with l.directory (keys_view (drop l.key-index l.keys));
-  few : length l.directory ≤ 64;
+  few : length l.directory ≤ l.most;
 }

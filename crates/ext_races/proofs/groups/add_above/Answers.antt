@@ -13,5 +13,5 @@ loop-context-preserved c =
     let i = c.loop-context.context-index in
     let first = groups_view c.args.groups.now.items in
     let after = groups_view c.add.new.groups.items in
-    let all = added_more (map f (take i above)) (touch_view c.touch_of-touch.result ∷ []) first (groups_view c.loop-context.groups.items) after c.loop-context.invariant c.in_ok-add.ensures in
-    subst (λ touches. IsAdded touches first after) (ap (λ t. map f (take i above) ++ t ∷ []) c.touch_of-touch.ensures ∙ sym (map-take_at f above i 0 (omega arith))) all
+    let all = added_more c.args.keys (map f (take i above)) (touch_view c.touch_of-touch.result ∷ []) first (groups_view c.loop-context.groups.items) after c.loop-context.invariant c.in_ok-add.ensures in
+    subst (λ touches. IsAdded c.args.keys touches first after) (ap (λ t. map f (take i above) ++ t ∷ []) c.touch_of-touch.ensures ∙ sym (map-take_at f above i 0 (omega arith))) all

@@ -9,7 +9,7 @@ use Rattle.ext_races.proofs.groups.add_act.Goals as goal
 pub add_above-requires-clause-path : goal.add_above-requires-clause-path
 add_above-requires-clause-path c = λ k d less.
     let along = c.in-Some.ensures.cases.0 in
-    let here = (subst (All (HasGroups (vec_len c.args.groups.now))) along c.requires.path) (suc k) d (omega (arith, less)) in
+    let here = (subst (All (HasGroups c.args.keys (vec_len c.args.groups.now))) along c.requires.path) (suc k) d (omega (arith, less)) in
     let count = c.in_ok-add-in-Some.ensures.count in
     let old = length-map c.args.groups.now.items group_view in
     let new = length-map c.add.new.groups.items group_view in
@@ -23,6 +23,6 @@ returns-in_ok-add_above-in-Some c =
     let first = groups_view c.args.groups.now.items in
     let after = groups_view c.add_above.new.groups.items in
     let above = touches_above c.args.node c.args.key act c.in-Some.above.now in
-    let all = added_more (touch_view c.touch_of-touch.result ∷ []) above first (groups_view c.add.new.groups.items) after c.in_ok-add-in-Some.ensures c.in_ok-add_above-in-Some.ensures in
+    let all = added_more c.args.keys (touch_view c.touch_of-touch.result ∷ []) above first (groups_view c.add.new.groups.items) after c.in_ok-add-in-Some.ensures c.in_ok-add_above-in-Some.ensures in
     let touch = c.touch_of-touch.ensures ∙ ap (λ b. touch_of c.args.node c.args.key act b c.in-Some.context.now) c.changes.ensures in
-    subst (λ touches. IsAdded touches first after) (ap (λ t. t ∷ above) touch ∙ ap (touches_along c.args.node c.args.key act) (sym c.in-Some.ensures.cases.0)) all
+    subst (λ touches. IsAdded c.args.keys touches first after) (ap (λ t. t ∷ above) touch ∙ ap (touches_along c.args.node c.args.key act) (sym c.in-Some.ensures.cases.0)) all

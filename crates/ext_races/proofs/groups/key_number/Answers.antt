@@ -12,8 +12,7 @@ returns c =
     let directory = c.args.directory.now in
     let key = key_of_step (keys_in c.args.keys.now) (step_key_view c.args.key.now) in
     let place = place_of_key directory key in
-    let found = c.number_of.ensures.found place (subst (λ k. HasNumber directory k place) (sym c.in_ok-called.ensures) (has_place directory key c.requires.key)) in
+    let found = c.number_of.ensures.found place (subst (λ k. HasNumber directory k place) (sym c.in_ok-called.ensures) (has_place directory key c.requires)) in
     let number : c.unwrap_or.result ≡ place = c.unwrap_or.ensures ∙ ap (λ r. unwrap_or r 0) found in
-    let within = place_within directory key c.requires.key in
-    let few = c.requires.few in
-    record { number = number; few = omega (arith, number, within, few) }
+    let within = place_within directory key c.requires in
+    record { number = number; few = omega (arith, number, within) }

@@ -11,9 +11,9 @@ pub returns-in-Ok : goal.returns-in-Ok
 returns-in-Ok c =
     let old = c.args.directory.now in
     let new = c.declare.new.self in
-    let answer : Answer old new c.args.key c.declare.result = record { again = c.declare.ensures.again; added = c.declare.ensures.added; full = λ missing all. c.declare.ensures.full.1 (missing, all) } in
-    let keys : new ≡ with_key old c.args.key = subst (λ r. OnOk r (new ≡ with_key old c.args.key)) c.in-Ok.is (declared_keys old new c.args.key c.declare.result answer) in
-    let few : length new ≤ 64 = subst (λ r. OnOk r (length new ≤ 64)) c.in-Ok.is (declared_few old new c.args.key c.declare.result c.requires answer) in
+    let answer : Answer old new c.args.key c.args.most c.declare.result = record { again = c.declare.ensures.again; added = c.declare.ensures.added; full = λ missing all. c.declare.ensures.full.1 (missing, all) } in
+    let keys : new ≡ with_key old c.args.key = subst (λ r. OnOk r (new ≡ with_key old c.args.key)) c.in-Ok.is (declared_keys old new c.args.key c.args.most c.declare.result answer) in
+    let few : length new ≤ c.args.most = subst (λ r. OnOk r (length new ≤ c.args.most)) c.in-Ok.is (declared_few old new c.args.key c.args.most c.declare.result c.requires.few answer) in
     let says : not (c.len.result == c.len-before.result) ≡ not (length new == length old) = rw (c.len.ensures.count, c.len-before.ensures.count) refl in
     record { keys = keys; added = added old new c.args.key _ keys says; few = few; full = λ h. absurd cc }
 
@@ -22,5 +22,5 @@ returns-in-Err c = record {
   keys = tt;
   added = tt;
   few = tt;
-  full = λ h. let full = c.declare.ensures.full.0 (c.in-Err.is ∙ ap Err (let e : c.in-Err.fault ≡ TooMany = cc in e)) in one_too_many c.args.directory.now c.args.key full.0 full.1;
+  full = λ h. let full = c.declare.ensures.full.0 (c.in-Err.is ∙ ap Err (let e : c.in-Err.fault ≡ TooMany = cc in e)) in one_too_many c.args.directory.now c.args.key c.args.most full.0 full.1;
 }

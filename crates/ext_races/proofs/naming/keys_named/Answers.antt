@@ -23,5 +23,5 @@ returns-in_err-name-clause-full c =
     let long = ap length all in
     let kept = length_kept declared one rest in
     let is : c.in_err-name.field-0.0 ≡ TooMany = cc in
-    let full : 64 < length one = c.in_err-name.ensures.full (ap Err is) in
+    let full : c.args.most < length one = c.in_err-name.ensures.full (ap Err is) in
     omega (arith, long, kept, full))

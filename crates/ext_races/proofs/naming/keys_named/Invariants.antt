@@ -9,5 +9,5 @@ abbrev pub invariant-loop-step : goal.invariant-loop-step
 invariant-loop-step l = record {
   rest : keys_told (keys_in l.keys) (map made_view l.made) ≡ keys_of_steps (keys_in l.keys) l.directory (map made_view (drop l.step-index l.made));
   names : keys_of (keys_in l.keys) l.names.items ≡ l.directory;
-  few : length l.directory ≤ 64;
+  few : length l.directory ≤ l.most;
 }

@@ -6,36 +6,40 @@ use Rattle.ext_plain.proofs.Numberings.{found_is, is_full, is_next}
 use Rattle.ext_plain.proofs.value_store.ValueStore.declare.Goals as goal
 
 pub returns-in-Some : goal.returns-in-Some
-returns-in-Some c = inl (found_is c.args.self.now.keys c.args.key.now c.in-Some.number c.number_of.result c.in-Some.is c.in-Some.ensures.number c.number_of.ensures.found, refl)
+returns-in-Some c = inl (found_is (state_view c.args.self.now).places c.args.self.now.keys c.args.key.now c.in-Some.number c.number_of.result c.in-Some.is c.in-Some.ensures.number c.number_of.ensures.found, refl)
 
-pub returns-then-len-ge-KEYS : goal.returns-then-len-ge-KEYS
-returns-then-len-ge-KEYS c =
+pub returns-then-len-self : goal.returns-then-len-self
+returns-then-len-self c =
+    let places = (state_view c.args.self.now).places in
     let keys = c.args.self.now.keys in
-    let all : 64 ≤ length keys = omega (arith, c.len.ensures.count, c.if-len-ge-KEYS.true) in
-    record { numbering = is_full keys c.args.key.now (c.number_of.ensures.absent.0 c.in_default.is) (le-ltb (length keys) 64 all); reason = refl; state = refl }
+    let all : places ≤ length keys = omega (arith, c.len.ensures.count, c.if-len-self.true) in
+    record { numbering = is_full places keys c.args.key.now (c.number_of.ensures.absent.0 c.in_default.is) (le-ltb (length keys) places all); reason = refl; state = refl }
 
 pub returns-in_default-clone : goal.returns-in_default-clone
 returns-in_default-clone c =
+    let places = (state_view c.args.self.now).places in
     let keys = c.args.self.now.keys in
-    let room : length keys < 64 = omega (arith, c.len.ensures.count, c.if-len-ge-KEYS.false) in
-    record { number = length keys; numbering = is_next keys c.args.key.now (c.number_of.ensures.absent.0 c.in_default.is) (lt-ltb (length keys) 64 room); lacks = refl; state = refl }
+    let room : length keys < places = omega (arith, c.len.ensures.count, c.if-len-self.false) in
+    record { number = length keys; numbering = is_next places keys c.args.key.now (c.number_of.ensures.absent.0 c.in_default.is) (lt-ltb (length keys) places room); lacks = refl; state = refl }
 
 pub returns-in-Ok-declare : goal.returns-in-Ok-declare
 returns-in-Ok-declare c =
+    let places = (state_view c.args.self.now).places in
     let keys = c.args.self.now.keys in
     let key = c.args.key.now in
     let absent = c.number_of.ensures.absent.0 c.in_default.is in
-    let room : length keys < 64 = omega (arith, c.len.ensures.count, c.if-len-ge-KEYS.false) in
+    let room : length keys < places = omega (arith, c.len.ensures.count, c.if-len-self.false) in
     let added = subst (λ k. (Contains keys k → ⊥) → (c.in-Ok-declare.number ≡ length keys) × (c.declare.new.self ≡ keys ++ k ∷ [])) c.in-Ok.ensures.cases c.in-Ok-declare.ensures.added absent in
-    inr (is_next keys key absent (lt-ltb (length keys) 64 room) ∙ ap next (sym added.0), ap (λ ks. record (state_view c.args.self.now) { keys = ks }) added.1)
+    inr (is_next places keys key absent (lt-ltb (length keys) places room) ∙ ap next (sym added.0), ap (λ ks. record (state_view c.args.self.now) { keys = ks }) added.1)
 
 pub returns-in-Err : goal.returns-in-Err
 returns-in-Err c =
+    let places = (state_view c.args.self.now).places in
     let keys = c.args.self.now.keys in
-    let room : length keys < 64 = omega (arith, c.len.ensures.count, c.if-len-ge-KEYS.false) in
+    let room : length keys < places = omega (arith, c.len.ensures.count, c.if-len-self.false) in
     record {
       number = length keys;
-      numbering = is_next keys c.args.key.now (c.number_of.ensures.absent.0 c.in_default.is) (lt-ltb (length keys) 64 room);
+      numbering = is_next places keys c.args.key.now (c.number_of.ensures.absent.0 c.in_default.is) (lt-ltb (length keys) places room);
       lacks = refl;
       state = ap (λ ks. record (state_view c.args.self.now) { keys = ks }) c.in-Err.ensures.unchanged;
     }

@@ -13,7 +13,7 @@ grown c = c.in_ok-insert.ensures.keys ∙ inserted key_eq keys_Decides key_eq_eq
 
 pub invariant_of-self-2 : goal.invariant_of-self-2
 invariant_of-self-2 c =
-    let few : length c.self.inside.keys.keys + 1 ≤ 64 = omega (arith, c.self.invariant.0, c.len-number.ensures.len, c.if-number-eq-MAX_KEYS.false) in
+    let few : length c.self.inside.keys.keys + 1 ≤ 1024 = omega (arith, c.requires, c.len-number.ensures.len, c.if-number-most.false) in
     rw (grown c) (omega (arith, few, length_push c.self.inside.keys.keys c.args.key), different_with c.self.inside.keys.keys c.args.key c.self.invariant.1 (missing c))
 
 pub returns-clause-number : goal.returns-clause-number

@@ -1,0 +1,54 @@
+"""Makes a folder with an engine by scripts/new-engine, and runs the engine and its tests there, unproved: it prints what its template has to print, and its status
+is 0.
+
+The folder has the crates that the engine needs and no others, without their wrong bodies. One that is there and not empty, and what is no name of a crate, are refused
+by one line, and nothing is made. Whether it is proved is not tried here: `rt ci` in such a folder does that.
+"""
+import pathlib
+import re
+import subprocess
+import tempfile
+
+TOP = pathlib.Path(__file__).resolve().parent.parent.parent
+NAME = "my_engine"
+REPORT = TOP / "scripts" / "parts" / "engine_template" / "stdout"
+PASSED = re.compile(r"test result: ok\. [1-9]\d* passed; 0 failed")
+WRONG_NAMES = ["My_engine", "my-engine", "2nd", "ext_store", "regex"]
+
+
+def run(*words, cwd=None):
+    return subprocess.run(words, cwd=cwd, capture_output=True, text=True, stdin=subprocess.DEVNULL)
+
+
+def is_refused(folder, name):
+    """Whether no such engine is made, and one line says why."""
+    before = list(folder.iterdir()) if folder.exists() else None
+    ran = run(TOP / "scripts" / "new-engine", folder, name)
+    after = list(folder.iterdir()) if folder.exists() else None
+    return ran.returncode == 1 and re.fullmatch("new-engine: .*\n", ran.stderr) and before == after
+
+
+def main(_program, _words):
+    with tempfile.TemporaryDirectory(prefix="new-engine-") as name:
+        folder = pathlib.Path(name) / "engine"
+        refused = all(is_refused(folder, it) for it in WRONG_NAMES)
+        made = run(TOP / "scripts" / "new-engine", folder, NAME)
+        refused = refused and is_refused(folder, NAME)
+        crate = folder / "crates" / NAME
+        ran, tested = [run("rt", "try", *it, cwd=crate) if crate.is_dir() else made for it in ([], ["--test"])]
+        listed = [it.split(":")[0] for it in (folder / "crates.txt").read_text(encoding="utf-8").splitlines()] if crate.is_dir() else []
+        checks = {
+            "it is made": made.returncode == 0,
+            "its crates are those of its crates.txt": sorted(listed) == sorted(it.name for it in folder.glob("crates/*")),
+            "none of them has wrong bodies": not list(folder.glob("crates/*/must-fail*")),
+            "it prints its report": ran.stdout == REPORT.read_text(encoding="utf-8").replace("new_engine", NAME),
+            "its exit status is 0": ran.returncode == 0,
+            "its tests pass": tested.returncode == 0 and PASSED.search(tested.stdout + tested.stderr),
+            "another folder or name is refused": refused,
+        }
+    for what, holds in checks.items():
+        print(f"new engine: {what}: {'yes' if holds else 'NO'}")
+    if not all(checks.values()):
+        print(made.stderr + ran.stderr + tested.stdout + tested.stderr)
+    failed = sum(not it for it in checks.values())
+    return len(checks) - failed, failed
