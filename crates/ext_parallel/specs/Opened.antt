@@ -26,8 +26,8 @@ run_numbers = 65535
 abbrev pub run_tries : ℕ
 run_tries = 64
 
--- A store of the plan's contexts with `lanes` lanes, the plan's places for keys, a place for the value of each number and, if
--- faults are kept, one for the fault of each.
+-- A store of the plan's contexts with `lanes` lanes, the plan's places for keys, a place for the value of each number
+-- and, if faults are kept, one for the fault of each.
 pub record IsStoreOf (plan : PlanText) (lanes : ℕ) (store : StoreView) : Type 0 where
   pub tree : store.tree ≡ ids_of_nodes plan.nodes
   pub limits : store.id.cells.limits ≡ record { cells = length plan.nodes * plan.key_places; lanes = lanes; numbers = run_numbers; keep_faults = plan.keep_faults }

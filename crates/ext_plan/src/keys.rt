@@ -63,8 +63,8 @@ fn store_keys_of(alloc: Global, keys: &[PlanKey]) -> Result<Vec<Key>, AllocError
     Ok(list)
 }
 
-/// Tests whether the labels of these keys name at most `most` different keys. Each created namespace
-/// has to have a part, and `most` is at most 1,024.
+/// Tests whether the labels of these keys name at most `most` different keys. Each created
+/// namespace has to have a part, and `most` is at most 1,024.
 ///
 /// Takes memory for up to `most` of the keys, and gives it back. Fails with `AllocError` only if
 /// that is refused.

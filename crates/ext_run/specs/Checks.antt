@@ -1,5 +1,5 @@
--- What is written of a plan that is read but not run: how many nodes it has, how many of them are tests, and for how many
--- of the different keys that its steps name there are places. Numbers are decimal.
+-- What is written of a plan that is read but not run: how many nodes it has, how many of them are tests, how many
+-- different keys its steps name, and for how many keys there are places. Numbers are decimal.
 use Rattle.std.specs.Prelude.{◌≡◌, ℕ, Bool, true, false, not, ◌==◌, nat_le, codes, List, ◌++◌, length, is_some, if◌then◌else◌, Result, Ok, Err}
 use Rattle.ext_races.specs.declared.found.Found.{Found}
 use Rattle.ext_races.specs.declared.found.Found.TheVariants as found

@@ -21,7 +21,7 @@ const RACES: usize = 21;
 
 /// Reads a plan and writes how many nodes and tests it has, and how many different keys its steps
 /// name of those that there are places for, without running it. The line is `ok, 7 nodes, 3 tests,
-/// 2 of 64 keys`. If the steps name more keys than there are places, some of them fail with
+/// 2 of 64 keys`. If the steps name more keys than there are places, some of them may fail with
 /// `directory full` in a run. More than 1,024 keys are not counted.
 ///
 /// It reads like `run`, and is refused like a plain run of the plan: as `Read`, `TooLong`, `Plan`
@@ -52,8 +52,8 @@ pub fn check<I: Read, W: Write>(
 /// Reads a plan and writes its races, without running it. Each of the first 20 races has a line,
 /// and `and more` follows if there are others. `no races` stands alone if there are none, and so
 /// does a line that names the limit if the steps name more keys than there are places, or may draw
-/// more than 65,535 numbers (`ext_races::races_text`). In the summary, `failed` tells whether there is a race
-/// or a limit is exceeded.
+/// more than 65,535 numbers (`ext_races::races_text`). In the summary, `failed` tells whether there
+/// is a race or a limit is exceeded.
 ///
 /// It reads like `run`, and is refused like `check`.
 ///
@@ -153,10 +153,10 @@ fn counts_line(alloc: Global, plan: &Plan) -> Result<String, AllocError>
     }
 }
 
-/// Explains why steps fail with `directory full`, in a line without its line feed: the steps of the
-/// plan in these bytes name more different keys than there are places. The line says how many, and
-/// which field of the plan raises the limit. There is none if the steps name no more, or if the
-/// bytes are no plan.
+/// Explains why steps may fail with `directory full`, in a line without its line feed: the steps of
+/// the plan in these bytes name more different keys than there are places. The line says how many,
+/// and which field of the plan raises the limit. There is none if the steps name no more, or if the
+/// bytes are no plan. No contract covers the line.
 ///
 /// Takes memory for the plan, its keys and the line; fails with `AllocError` only if that is
 /// refused.

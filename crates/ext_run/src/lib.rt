@@ -6,10 +6,11 @@
 //! answers to its input.
 //!
 //! `check` reads a plan without running it, and `draw` draws it. `Failures` keeps the faults that a
-//! run reports, and `failures_text` repeats them. `read_input`, `explain` and `explain_keys` serve callers
-//! that explain why a plan was refused, or a key had no place. `read_id` writes the lines of an id, and `status_of` is the exit
-//! status of a program for any of these requests. This crate also exports the names of
-//! `ext_plan_reading`, `ext_plain`, `ext_lifecycle` and `ext_report` that its callers need.
+//! run reports, and `failures_text` repeats them. `read_input`, `explain` and `explain_keys` serve
+//! callers that explain why a plan was refused, or a key had no place. `read_id` writes the lines
+//! of an id, and `status_of` is the exit status of a program for any of these requests. This crate
+//! also exports the names of `ext_plan_reading`, `ext_plain`, `ext_lifecycle` and `ext_report` that
+//! its callers need.
 //!
 //! JUnit has no plans.
 #![tactic(auto)]

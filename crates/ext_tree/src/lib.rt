@@ -2,10 +2,10 @@
 //!
 //! Contracts see a `Tree` as the list of its contexts' ids, and a `Key` as its namespace and name.
 //!
-//! Two types give each of up to 1,024 keys a number. A `Directory` has one owner, which declares one
-//! key after another; contracts see the list of its keys. `KeyPlaces` are shared by several lanes,
-//! each of which may number a key at any time, without a lock; contracts see the list of the names
-//! of the places. `KeyNotes` are what one lane knows of each place.
+//! Two types give each of up to 1,024 keys a number. A `Directory` has one owner, which declares
+//! one key after another; contracts see the list of its keys. `KeyPlaces` are shared by several
+//! lanes, each of which may number a key at any time, without a lock; contracts see the list of the
+//! names of the places. `KeyNotes` are what one lane knows of each place.
 #![tactic(auto)]
 
 mod building;

@@ -28,7 +28,8 @@ const FAULTS: [&str; 3] = ["t", "u", "close bad"];
 const THREE_FAULTS_REPORT: &str =
     "[engine:x] successful closed 0\n[engine:x]/[method:m()] failed closed 1: t (+2)\ntests 1 successful 0 aborted 0 failed 1 skipped 0\ncomputed 0 found 0 closed 1 close faults 1\n";
 
-/// Two tests that fail and may run at once, but for a lock: the first one writes by it, and both read by it, since their engine names it.
+/// Two tests that fail and may run at once, but for a lock: the first one names it to write, and
+/// their engine, so both of them, to read.
 const ONE_LOCK: &str =
     "[[node]]\nid = \"[engine:x]\"\nlocks = [\"READ db\"]\n\n[[node]]\nid = \"[engine:x]/[method:m()]\"\nmode = \"concurrent\"\nlocks = [\"READ_WRITE db\"]\ntest = [\"fail f\"]\n\n[[node]]\nid = \"[engine:x]/[method:n()]\"\nmode = \"concurrent\"\ntest = [\"fail f\"]\n";
 
@@ -262,7 +263,8 @@ impl<C: Clock> RunListener for HoldsUp<'_, C> {
     fn ended(&self, _node: usize, _nodes: usize) {}
 }
 
-/// Asserts that two tests of a plan have both started before the first of them ends, and that they are not held up at once.
+/// Asserts that two tests of a plan have both started before the first of them ends, and that they
+/// are not held up at once.
 fn one_waits<R: Threads + Wait + Sync + Abort + Clock>(
     rt: &R,
     alloc: Global,

@@ -264,7 +264,8 @@ const PLACES: [(&str, &str); 12] = [
     ("keys = [64]\n", "plan: P4"),
 ];
 
-/// How many keys the steps of a plan that begins so can name, behind that the word `places`; or the line of its fault.
+/// For how many keys a plan that begins so has places, with the word `places`, or the line of its
+/// fault.
 fn places_told(alloc: Global, head: &str) -> Result<String, AllocError> {
     let text = format!(in alloc; "{head}{CHAIN}")?;
     match read_plan(alloc, text.as_str()) {
