@@ -4,8 +4,8 @@
 # The options of a command, or of the program where there is none.
 _extrun_options() {
     case $1 in
-        run) echo --lanes --store --report --tree --progress --failures --explain --help ;;
-        check) echo --tree --races --explain --help ;;
+        run) echo --lanes --store --report --tree --progress --failures --large --explain --help ;;
+        check) echo --tree --races --large --explain --help ;;
         id) echo --explain --help ;;
         help) ;;
         *) echo --help --version ;;

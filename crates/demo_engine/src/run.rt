@@ -65,11 +65,8 @@ fn open(alloc: Global) -> anyhow::Result<Opened<Shared>>
     ensures lock { IfOk result (λ o. IsPermutation (codes "account" ∷ []) o.locks.names) }
 {
     let limits = Limits {
-        lanes: 4,
-        tries: 64,
-        keys: 64,
-        numbers: 100,
         keep_faults: true,
+        ..Limits::new(4)
     };
     let mut texts = Vec::new(alloc);
     for (id, _) in &NODES {

@@ -93,7 +93,7 @@ memory_or_not (tree.Twice at) = inr (λ m. cc)
 memory_or_not tree.TooMany = inr (λ m. cc)
 memory_or_not tree.Memory = inl refl
 
-pub no_tree : (bytes lengths : List ℕ) (ids : List Id) (e : TreeFault) (said : Code) → AreTexts bytes lengths → AllZip IsIdText (texts_in bytes lengths) ids → (e ≢ tree.Memory → HasFault ids e)
+pub no_tree : (bytes lengths : List ℕ) (ids : List Id) (e : TreeFault) (said : Code) → AreTexts bytes lengths → AllZip IsIdText (texts_in bytes lengths) ids → (e ≢ tree.Memory → HasFault 256 ids e)
     → said ≡ tree_code e → NamesNoTree bytes lengths said ⊎ (AreTexts bytes lengths × (said ≡ code.NoMemory))
 no_tree bytes lengths ids e said well spell fault is =
     elim (memory_or_not e) as (λ _. NamesNoTree bytes lengths said ⊎ (AreTexts bytes lengths × (said ≡ code.NoMemory)))

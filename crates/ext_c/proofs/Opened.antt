@@ -7,6 +7,7 @@ use Rattle.std.proofs.lemmas.Slice.Zip.{AllZip-long}
 use Rattle.std.proofs.Common.{add-one}
 use Rattle.std.proofs.lemmas.List.{length_push}
 use Rattle.ext_cells.specs.Lanes.{CellsId, fresh_lanes}
+use Rattle.ext_model.specs.declared.size.Size.TheVariants.{Usual}
 use Rattle.ext_store.specs.Stores.{AreStoreLimits, CloserView, StoreLane, StoreView, fresh_store_lane}
 use Rattle.ext_c.specs.declared.code.Code.{Code}
 use Rattle.ext_c.specs.declared.code.Code.TheVariants as code
@@ -120,7 +121,7 @@ left_none seats left slots i so_far none lt same =
 
 -- ---- what an opening says that is refused
 
-pub open_no_tree : (bytes lengths : List ℕ) (tries numbers : ℕ) (keeps : Bool) (slots : List ExtSlot) (said : Code) → AreEmpty slots → AreStoreLimits 64 (length slots) tries numbers
+pub open_no_tree : (bytes lengths : List ℕ) (tries numbers : ℕ) (keeps : Bool) (slots : List ExtSlot) (said : Code) → AreEmpty slots → AreStoreLimits Usual 64 (length slots) tries numbers
     → NamesNoTree bytes lengths said ⊎ (AreTexts bytes lengths × (said ≡ code.NoMemory)) → OpenSays bytes lengths tries numbers keeps slots slots said
 open_no_tree bytes lengths tries numbers keeps slots said empty limits (inl none) = OpenSays.no_tree empty limits none refl
 open_no_tree bytes lengths tries numbers keeps slots said empty limits (inr memory) = OpenSays.no_memory empty limits memory.0 refl memory.1

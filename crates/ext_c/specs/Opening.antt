@@ -3,7 +3,8 @@ use Rattle.std.specs.Prelude.{ℕ, ◌≡◌, ◌≢◌, ◌*◌, ◌++◌, All,
 use Rattle.std.specs.Global.{Box}
 use Rattle.std.specs.List.{AllZip}
 use Rattle.ext_ids.specs.Grammar.{IsIdText}
-use Rattle.ext_tree.specs.Trees.{Id, IsTree}
+use Rattle.ext_model.specs.declared.size.Size.TheVariants.{Usual}
+use Rattle.ext_tree.specs.Trees.{Id, IsTreeWithin}
 use Rattle.ext_cells.specs.Lanes.{fresh_lanes}
 use Rattle.ext_store.specs.Opening.{fault_count}
 use Rattle.ext_store.specs.Stores.{AreStoreLimits, CloserView, StoreLane, StoreView, closers_below, fresh_store_lane}
@@ -19,9 +20,9 @@ use Rattle.ext_c.specs.Texts.{AreTexts, NamesNoTree, texts_in}
 abbrev pub AreEmpty : List ExtSlot → Type 0
 AreEmpty slots = All (λ (s : ExtSlot). s.state ≡ 0) slots
 
--- The store has these ids and limits, and 64 keys.
+-- The store is of usual size and has these ids and limits, and 64 keys.
 pub record IsStoreOf (ids : List Id) (lanes tries numbers : ℕ) (keeps : Bool) (store : StoreView) : Type 0 where
-  pub within : AreStoreLimits 64 lanes tries numbers
+  pub within : AreStoreLimits Usual 64 lanes tries numbers
   pub tree : store.tree ≡ ids
   pub limits : store.id.cells.limits ≡ record { cells = length ids * 64; lanes = lanes; numbers = numbers; keep_faults = keeps }
   pub tries_are : store.tries ≡ tries
@@ -94,11 +95,11 @@ pub record AreOpened (ids : List Id) (lanes tries numbers : ℕ) (keeps : Bool) 
 -- store with these ids and limits, and the slots have its lanes.
 pub data OpenSays (bytes lengths : List ℕ) (tries numbers : ℕ) (keeps : Bool) (before after : List ExtSlot) (said : Code) : Type 0 where
   not_empty : ¬ AreEmpty before → after ≡ before → said ≡ code.NotEmpty → OpenSays bytes lengths tries numbers keeps before after said
-  bad_limit : AreEmpty before → ¬ AreStoreLimits 64 (length before) tries numbers → after ≡ before → said ≡ code.BadLimit → OpenSays bytes lengths tries numbers keeps before after said
-  no_tree : AreEmpty before → AreStoreLimits 64 (length before) tries numbers → NamesNoTree bytes lengths said → after ≡ before → OpenSays bytes lengths tries numbers keeps before after said
-  no_memory : AreEmpty before → AreStoreLimits 64 (length before) tries numbers → AreTexts bytes lengths → after ≡ before → said ≡ code.NoMemory
+  bad_limit : AreEmpty before → ¬ AreStoreLimits Usual 64 (length before) tries numbers → after ≡ before → said ≡ code.BadLimit → OpenSays bytes lengths tries numbers keeps before after said
+  no_tree : AreEmpty before → AreStoreLimits Usual 64 (length before) tries numbers → NamesNoTree bytes lengths said → after ≡ before → OpenSays bytes lengths tries numbers keeps before after said
+  no_memory : AreEmpty before → AreStoreLimits Usual 64 (length before) tries numbers → AreTexts bytes lengths → after ≡ before → said ≡ code.NoMemory
       → OpenSays bytes lengths tries numbers keeps before after said
-  opened : AreEmpty before → AreTexts bytes lengths → (ids : List Id) → AllZip IsIdText (texts_in bytes lengths) ids → IsTree ids
+  opened : AreEmpty before → AreTexts bytes lengths → (ids : List Id) → AllZip IsIdText (texts_in bytes lengths) ids → IsTreeWithin 256 ids
       → (store : StoreView) → IsStoreOf ids (length before) tries numbers keeps store → HaveLanes store (lanes_below store (length before)) after
       → said ≡ code.Done → OpenSays bytes lengths tries numbers keeps before after said
 

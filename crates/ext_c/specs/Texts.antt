@@ -70,5 +70,5 @@ pub record IsNoId (texts : List (List ℕ)) : Type 0 where
 pub data NamesNoTree (bytes lengths : List ℕ) (said : Code) : Type 0 where
   unread : IsTextFault bytes lengths said → NamesNoTree bytes lengths said
   no_id : AreTexts bytes lengths → IsNoId (texts_in bytes lengths) → said ≡ code.BadId → NamesNoTree bytes lengths said
-  no_tree : AreTexts bytes lengths → (ids : List Id) (why : TreeFault) → AllZip IsIdText (texts_in bytes lengths) ids → HasFault ids why → said ≡ tree_code why
+  no_tree : AreTexts bytes lengths → (ids : List Id) (why : TreeFault) → AllZip IsIdText (texts_in bytes lengths) ids → HasFault 256 ids why → said ≡ tree_code why
       → NamesNoTree bytes lengths said

@@ -13,6 +13,7 @@ use crate::names::tree_of;
 use crate::opening::{are_limits, open_seats};
 use crate::slot::ExtSlot;
 use crate::value::ExtValue;
+use ext_model::Size;
 use ext_store::Limits;
 use std::alloc::Global;
 
@@ -60,6 +61,7 @@ fn open(
         keys: 64,
         numbers,
         keep_faults,
+        size: Size::Usual,
     };
     if !are_limits(limits) {
         return Code::BadLimit;

@@ -3,7 +3,7 @@ ghost use Rattle.std.specs.Prelude.{◌≡◌, ◌⊎◌, IfErr, IfOk};
 ghost use Rattle.std.specs.List.{AllZip};
 ghost use Rattle.ext_ids.specs.Grammar.{IsIdText};
 ghost use Rattle.ext_tree.specs.Keys as keys;
-ghost use Rattle.ext_tree.specs.Trees.{IsTree};
+ghost use Rattle.ext_tree.specs.Trees.{IsTreeWithin};
 ghost use Rattle.ext_c.specs.declared.code.Code.TheVariants as code;
 ghost use Rattle.ext_c.specs.Texts.{AreTexts, IsNamed, IsNoId, NamesNoKey, NamesNoTree, namespace_named, texts_in};
 
@@ -17,7 +17,7 @@ use std::alloc::Global;
 pub(crate) fn tree_of(alloc: Global, bytes: &[u8], lengths: &[u32]) -> Result<Tree, Code>
     ensures texts { IfOk result (λ _. AreTexts bytes.now lengths.now) }
     ensures ids { IfOk result (λ tree. AllZip IsIdText (texts_in bytes.now lengths.now) tree) }
-    ensures tree { IfOk result IsTree }
+    ensures tree { IfOk result (IsTreeWithin 256) }
     ensures refused { IfErr result (λ said. NamesNoTree bytes.now lengths.now said ⊎ (AreTexts bytes.now lengths.now × (said ≡ code.NoMemory))) }
 {
     let texts = read_texts(alloc, bytes, lengths)?;

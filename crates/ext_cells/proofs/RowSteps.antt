@@ -1,9 +1,10 @@
 -- Steps on the words of rows, as marks lay them out.
-use Rattle.std.proofs.Common.{◌≡◌, ◌≢◌, ℕ, ◌<◌, ◌≤◌, eqb, refl, sym, ap, subst, ◌∙◌, arith, Some, true, false, List, [], ◌∷◌, ◌++◌, Bool, Contains}
+use Rattle.std.proofs.Common.{◌≡◌, ◌≢◌, inl, inr, ℕ, ◌<◌, ◌≤◌, eqb, refl, sym, ap, subst, ◌∙◌, arith, Some, true, false, List, [], ◌∷◌, ◌++◌, Bool, Contains}
 use mathlib.Core.Option.{some, none}
 use prog.Atomic.{either}
 use Rattle.atomic_table.specs.Table.{Me, step, Allows}
-use Rattle.std.proofs.lemmas.Bool.Decides.{Decides-ltb}
+use Rattle.std.proofs.lemmas.Bool.Decides.{Decides-ltb, eqb_tells}
+use Rattle.std.specs.Int.{bit_at}
 use Rattle.ext_history.specs.Histories.{seen}
 use Rattle.ext_history.proofs.Lists.{contains_here}
 use Rattle.ext_model.specs.declared.event.Act.{Act}
@@ -57,6 +58,13 @@ stands_ended row cell isnt is = (λ i. standing_by (isnt i) (is i) cell)
 
 pub stands_open : (row cell : ℕ) → has_mark row cell ≡ false → is_ended row ≡ false → standing_in row cell ≡ Open
 stands_open row cell isnt not = (λ i. standing_by (isnt i) (not i) cell)
+
+-- a cell that is neither open nor marked has ended
+pub ended_left : (row cell : ℕ) → has_mark row cell ≡ false → (standing_in row cell ≡ Open → ⊥) → is_ended row ≡ true
+ended_left row cell isnt closed = elim (eqb_tells (bit_at row 0) 1) [
+  | inl t ↦ t.0
+  | inr t ↦ absurd (closed (stands_open row cell isnt t.0))
+]
 
 row_says : (known cells place row aim cell : ℕ) → known ≡ cells → place ≡ row_place cells cell → aim ≡ cell → (marks known).tells place row aim ≡ Some (standing_in row cell)
 row_says known cells place row aim cell same here is = (λ i. (marks (same i)).tells (here i) row (is i)) ∙ row_tells cells row cell

@@ -14,7 +14,7 @@ use Rattle.ext_cells.specs.declared.standing.Standing.{Standing}
 use Rattle.ext_cells.specs.WordChanges.{version_in, IsEmptyWord}
 use Rattle.ext_cells.specs.CellCalls.{standing_of}
 use Rattle.ext_cells.specs.InnerSteps.{Finds}
-use Rattle.ext_rows.specs.Marks.{mark_of}
+use Rattle.ext_rows.specs.Marks.{bits_of}
 
 -- Each word is its cell's at the front with which it was read.
 abbrev pub EachRead : List ℕ → List ℕ → List History → Type 0
@@ -38,7 +38,7 @@ pub record ReadPass (limits : Limits) (before after : LaneView) (cells words : L
 -- So stand the marks of a column, behind so many cells and their count.
 pub record IsColumn (cells : ℕ) (column : Column) : Type 0 where
   pub marks : column.marks ≡ cells + 1 + column.place / 32
-  pub mark : column.mark ≡ mark_of column.place
+  pub bits : column.bits ≡ bits_of column.place
 
 -- ---- what is kept of the words
 

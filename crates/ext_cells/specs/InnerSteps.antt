@@ -27,7 +27,7 @@ pub record IsTable (words of_table : ℕ) (v : View) (cells : ℕ) : Type 0 wher
   pub words_are : words ≡ (marks cells).width
   pub limits_are : of_table ≡ cells
   pub known : v.limits.cells ≡ cells
-  pub few : cells ≤ 262144
+  pub few : cells ≤ 67108864
 
 -- the view after steps of which the last left this history, and the others showed none
 pub record IsShown (v after : View) (h : History) : Type 0 where

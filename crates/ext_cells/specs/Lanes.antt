@@ -1,9 +1,11 @@
 -- What contracts see of the cells and of a lane, and how both start. The fronts of a lane are those of `CallActs` in
 -- ext_model: the history as it stood after each of its steps, oldest first.
-use Rattle.std.specs.Prelude.{ℕ, zero, suc, ◌+◌, ◌≤◌, List, [], ◌∷◌}
+use Rattle.std.specs.Prelude.{ℕ, zero, suc, ◌+◌, ◌*◌, ◌≤◌, List, [], ◌∷◌}
 use Rattle.atomic_table.specs.Seated.{TableId}
 use Rattle.ext_model.specs.History.{Limits}
 use Rattle.ext_model.specs.CallActs.{LaneView}
+use Rattle.ext_model.specs.Sizes.{most_contexts, most_numbers}
+use Rattle.ext_model.specs.declared.size.Size.{Size}
 
 -- The identity of the cells: their table, how many cells, lanes and numbers there are, and whether faults are kept.
 pub record CellsId : Type 0 where
@@ -22,12 +24,12 @@ pub record Lane : Type 0 where
 
 -- ---- opening
 
--- The limits of an opening. 262,144 cells are enough for 256 contexts with 1,024 keys each.
-pub record AreLimits (cells lanes tries numbers : ℕ) : Type 0 where
-  pub cells_fit : cells ≤ 262144
+-- The limits of an opening of this size. There are enough cells for all its contexts with 1,024 keys each.
+pub record AreLimits (size : Size) (cells lanes tries numbers : ℕ) : Type 0 where
+  pub cells_fit : cells ≤ most_contexts size * 1024
   pub lanes_fit : (1 ≤ lanes) × (lanes ≤ 16)
   pub tries_fit : (1 ≤ tries) × (tries ≤ 64)
-  pub numbers_fit : (1 ≤ numbers) × (numbers ≤ 65535)
+  pub numbers_fit : (1 ≤ numbers) × (numbers ≤ most_numbers size)
 
 -- The lane with this number before its first step.
 abbrev pub fresh_lane : CellsId → ℕ → Lane

@@ -7,12 +7,14 @@ ghost use Rattle.ext_history.specs.Histories.{seen};
 ghost use Rattle.ext_rows.specs.Standings.{ended_word};
 ghost use Rattle.ext_rows.specs.Views.{limits_of, shown, note, noted};
 ghost use Rattle.ext_rows.specs.Steps.{IsWordAt, IsKnown, FoundBy, MayExchange, Exchanged, EndedBy};
-ghost use Rattle.ext_rows.specs.Marks.{marks, row_place as row_place_of, mark_of as mark_of_cell};
+ghost use Rattle.ext_rows.specs.Marks.{marks, row_place as row_place_of, bits_of as bits_of_cell};
 ghost use Rattle.ext_cells.specs.InnerSteps.{IsTable, IsMarked, Found, Made};
 
 use crate::rule::{Aim, CellTable, End, Exchange, LaneSeat, Lead, Load, Note, Place, Seek};
 use ext_model::{Act, CellNo};
-use ext_rows::{END, ENDED_WORD, has_mark, is_ended, is_marked, mark_of, row_place, with_mark};
+use ext_rows::{
+    END, ENDED_WORD, bits_of, has_mark, is_ended, is_marked, is_open, row_place, with_mark,
+};
 
 /// The words of open cells, of their rows, and the count of numbers. Only this module reaches them,
 /// and each function of it that reads or changes one is a step of a lane's seat, or several: so no
@@ -54,17 +56,17 @@ impl CellSteps {
         ensures table { seat.new.table_id ≡ seat.old.table_id }
         ensures found { Found seat.old.me.0 seat.new.me.0 cell result }
     {
-        self.read_at::<A>(seat, cell, row_place(cells, cell), mark_of(cell))
+        self.read_at::<A>(seat, cell, row_place(cells, cell), bits_of(cell))
     }
 
-    /// The same, where the place of its row's word is at hand, and the bit of its mark there.
+    /// The same, where the place of its row's word is at hand, and the bits there that tell of it.
     #[inline(always)]
     pub(crate) fn read_at<A: Aim>(
         &self,
         seat: &mut LaneSeat,
         cell: CellNo,
         row: usize,
-        mark: u32,
+        bits: u64,
     ) -> u64
         requires table { seat.old.table_id ≡ self.now.table.shared.table_id }
         requires lane { (number : ℕ) × (seat.old.me.0.lane ≡ Some number) }
@@ -72,18 +74,18 @@ impl CellSteps {
         requires aim { A.cell ≡ cell }
         requires cell { cell < seat.old.me.0.limits.cells }
         requires row { row ≡ row_place_of seat.old.me.0.limits.cells cell }
-        requires mark { mark ≡ mark_of_cell cell }
+        requires bits { bits ≡ bits_of_cell cell }
         ensures table { seat.new.table_id ≡ seat.old.table_id }
         ensures found { Found seat.old.me.0 seat.new.me.0 cell result }
     {
         let marks = self.table.shared.load::<Lead<A>>(seat, row);
-        if is_marked(marks, mark) {
+        if is_open(marks, bits) {
+            return 0;
+        }
+        if is_marked(marks, bits) {
             return self.load(seat, cell);
         }
-        if is_ended(marks) {
-            return ENDED_WORD;
-        }
-        0
+        ENDED_WORD
     }
 
     /// Gives the cell its mark, unless its row has ended: then it answers false, and the cell has

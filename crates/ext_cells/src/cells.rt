@@ -7,8 +7,9 @@ ghost use Rattle.ext_model.specs.CellWords.{word_of};
 ghost use Rattle.ext_history.specs.Histories.{seen_by, call_fronts};
 ghost use Rattle.ext_model.specs.CallActs.{Calls, IsHeld, MayStoreNow};
 ghost use Rattle.ext_model.specs.declared.event.Act.TheVariants as act_is;
+ghost use Rattle.ext_model.specs.declared.size.Size.TheVariants.{Usual, Large};
 ghost use Rattle.ext_cells.specs.Lanes.{AreLimits, fresh_lanes};
-ghost use Rattle.ext_rows.specs.Marks.{row_place, mark_of};
+ghost use Rattle.ext_rows.specs.Marks.{row_place, bits_of};
 ghost use Rattle.ext_rows.specs.Steps.{IsWordAt, place_in};
 ghost use Rattle.ext_cells.specs.CellCalls.{Answers, SealAnswers, ComesLast, EndsClaim, EndsBlock, Collects, IsOvertakenOn, before_last_pass, IfWon, change_reply, claim_reply, number_reply, number_acts, put_acts, remove_acts, claim_acts};
 ghost use Rattle.ext_cells.specs.InnerSteps.{stepped, Finds, MayGoOn, IsChangeOf, IsEndOf, Changes};
@@ -21,7 +22,7 @@ use crate::decision::{Decision, decide};
 use crate::opening::{are_limits, give_out, open_words};
 use crate::stood::{Stood, any_number, value_number};
 use crate::{CellLane, CellRefusal, Claim, Claimed, Words};
-use ext_model::{Act, CellNo};
+use ext_model::{Act, CellNo, Size};
 use ext_rows::CellLimits;
 use std::alloc::Global;
 use std::marker::{Brand, Model};
@@ -53,8 +54,8 @@ impl Model for Cells {
     ghost invariant = { λ s.
         (s.table.table.shared.table_id.words ≡ (marks s.limits.cells).width)
         × (s.table.table.shared.key ≡ s.limits)
-        × (s.limits.cells ≤ 262144)
-        × (s.limits.numbers ≤ 65535)
+        × (s.limits.cells ≤ 67108864)
+        × (s.limits.numbers ≤ 1048575)
         × (1 ≤ s.tries)
         × (s.tries ≤ 64) };
 }
@@ -73,19 +74,25 @@ impl Cells {
         tries: u32,
         numbers: u32,
     ) -> Result<(Cells, Vec<CellLane>), CellRefusal>
-        ensures within { IfOk result (λ _. AreLimits cells lanes tries numbers) }
+        ensures within { IfOk result (λ _. AreLimits Usual cells lanes tries numbers) }
         ensures limits { IfOk result (λ r. r.0.id.limits ≡ record { cells = cells; lanes = lanes; numbers = numbers; keep_faults = true }) }
         ensures tries { IfOk result (λ r. r.0.tries ≡ tries) }
         ensures lanes { IfOk result (λ r. r.1.items ≡ fresh_lanes r.0.id 0 lanes) }
-        ensures bad_limit { (result ≡ Err CellRefusal.BadLimit) ↔ (¬ (AreLimits cells lanes tries numbers)) }
-        ensures refusal { IfErr result (λ why. AreLimits cells lanes tries numbers → why ≡ CellRefusal.Memory) }
+        ensures bad_limit { (result ≡ Err CellRefusal.BadLimit) ↔ (¬ (AreLimits Usual cells lanes tries numbers)) }
+        ensures refusal { IfErr result (λ why. AreLimits Usual cells lanes tries numbers → why ≡ CellRefusal.Memory) }
     {
+        if !are_limits(Size::Usual, cells, lanes, tries, numbers) {
+            return Err(CellRefusal::BadLimit);
+        }
         Cells::open_for(alloc, cells, lanes, tries, numbers, true)
     }
 
     /// Opens cells as `open` does, but they keep faults only if `keep_faults` is true. Otherwise no
     /// lane makes a fail, and no cell ever has a fault (`no_faults` of `history_laws` in
     /// ext_model). Takes memory.
+    ///
+    /// Refused as `BadLimit` unless there are at most 67,108,864 cells, 1 to 16 lanes, 1 to 64 tries
+    /// and 1 to 1,048,575 numbers, and then as `Memory`.
     pub fn open_for(
         alloc: Global,
         cells: usize,
@@ -94,14 +101,14 @@ impl Cells {
         numbers: u32,
         keep_faults: bool,
     ) -> Result<(Cells, Vec<CellLane>), CellRefusal>
-        ensures within { IfOk result (λ _. AreLimits cells lanes tries numbers) }
+        ensures within { IfOk result (λ _. AreLimits Large cells lanes tries numbers) }
         ensures limits { IfOk result (λ r. r.0.id.limits ≡ record { cells = cells; lanes = lanes; numbers = numbers; keep_faults = keep_faults }) }
         ensures tries { IfOk result (λ r. r.0.tries ≡ tries) }
         ensures lanes { IfOk result (λ r. r.1.items ≡ fresh_lanes r.0.id 0 lanes) }
-        ensures bad_limit { (result ≡ Err CellRefusal.BadLimit) ↔ (¬ (AreLimits cells lanes tries numbers)) }
-        ensures refusal { IfErr result (λ why. AreLimits cells lanes tries numbers → why ≡ CellRefusal.Memory) }
+        ensures bad_limit { (result ≡ Err CellRefusal.BadLimit) ↔ (¬ (AreLimits Large cells lanes tries numbers)) }
+        ensures refusal { IfErr result (λ why. AreLimits Large cells lanes tries numbers → why ≡ CellRefusal.Memory) }
     {
-        if !are_limits(cells, lanes, tries, numbers) {
+        if !are_limits(Size::Large, cells, lanes, tries, numbers) {
             return Err(CellRefusal::BadLimit);
         }
         let limits = CellLimits {
@@ -122,7 +129,7 @@ impl Cells {
 
     // Recalls the limits on which the calls rely.
     pub(crate) fn recall(&self)
-        ensures cells { self.now.id.limits.cells ≤ 262144 }
+        ensures cells { self.now.id.limits.cells ≤ 67108864 }
         ensures numbers { self.now.id.limits.numbers < 2 ^ 20 }
         ensures tries { 1 ≤ self.now.tries }
     {
@@ -466,24 +473,24 @@ impl Cells {
         self.table.load(&mut lane.seat, place)
     }
 
-    /// Reads the word of a cell, where the place of its row's word is at hand, and the bit of its
-    /// mark there.
+    /// Reads the word of a cell, where the place of its row's word is at hand, and the bits there
+    /// that tell of it.
     #[inline(always)]
     pub(crate) fn read_marked(
         &self,
         lane: &mut CellLane,
         cell: CellNo,
         row: usize,
-        mark: u32,
+        bits: u64,
     ) -> u64
         requires lane { lane.old.cells ≡ self.now.id }
         requires cell { cell < self.now.id.limits.cells }
         requires row { row ≡ row_place self.now.id.limits.cells cell }
-        requires mark { mark ≡ mark_of cell }
+        requires bits { bits ≡ bits_of cell }
         ensures found { (h : History) × Finds lane.old.cells.limits lane.old.view cell result h × (lane.new ≡ stepped lane.old h) }
         ensures state { HasState result }
     {
-        self.table.read_at::<Brand>(&mut lane.seat, cell, row, mark)
+        self.table.read_at::<Brand>(&mut lane.seat, cell, row, bits)
     }
 
     /// Makes an event, which changes the word at its place, if that is still the word that was

@@ -22,8 +22,8 @@ impl Model for Claim {
 pub enum Claimed {
     /// The cell is claimed for the lane.
     Won(Claim),
-    /// The value of this number stands there, from 1 to 65,535.
+    /// The value of this number stands there, from 1 to 1,048,575.
     Standing(u32),
-    /// The fault of this number is kept there, from 1 to 65,535.
+    /// The fault of this number is kept there, from 1 to 1,048,575.
     Fault(u32),
 }

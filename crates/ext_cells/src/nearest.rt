@@ -1,16 +1,16 @@
 //! The look-up of the nearest of some rows that has anything in one column.
-ghost use Rattle.std.specs.Prelude.{ℕ, nat_eq, List, ◌≡◌, ◌≤◌, ◌<◌, ◌+◌, ◌*◌, ◌^◌, [], ◌∷◌, ◌++◌, length, All, IfNone, IfSome, None, OnErr, Some};
+ghost use Rattle.std.specs.Prelude.{ℕ, nat_eq, List, ◌≡◌, ◌≤◌, ◌<◌, ◌+◌, ◌*◌, ◌^◌, [], ◌∷◌, ◌++◌, length, All, IfNone, IfSome, None, OnErr, Some, sum_by};
 ghost use Rattle.std.specs.List.{IsDistinct};
 ghost use Rattle.ext_history.specs.Histories.{call_fronts};
 ghost use Rattle.ext_model.specs.History.{History};
 ghost use Rattle.ext_cells.specs.CellCalls.{cell_at, cells_in, FindsNearest, IsOvertakenOn};
 ghost use Rattle.ext_cells.specs.InnerPasses.{FirstPass, IsColumn, IsReading, ReadPass, Says};
 ghost use Rattle.ext_cells.specs.InnerSteps.{stepped, Finds};
-ghost use Rattle.ext_cells.specs.WordChanges.{HasState, IsEmptyWord};
+ghost use Rattle.ext_cells.specs.WordChanges.{HasState, IsEmptyWord, version_in};
 
 use crate::cell_word::{is_empty, version, what_stands};
 use crate::{CellLane, CellRefusal, Cells, Standing};
-use ext_rows::mark_of;
+use ext_rows::bits_of;
 
 /// A row, of some that were named in order, in whose cell anything stands.
 #[derive(Clone, Copy, Debug, Drop)]
@@ -30,8 +30,8 @@ pub(crate) struct Column {
     pub(crate) place: usize,
     // Where the marks of the first row's block stand.
     pub(crate) marks: usize,
-    // The bit of a cell's mark there.
-    pub(crate) mark: u32,
+    // The bits there that tell of its cell.
+    pub(crate) bits: u64,
 }
 
 // What a pass that reads some cells in order keeps of their words.
@@ -133,15 +133,15 @@ impl Cells {
             blocks,
             place: column,
             marks: self.limits.cells + 1 + column / 32,
-            mark: mark_of(column),
+            bits: bits_of(column),
         };
         let empty = self.read_empty(lane, rows, cells);
-        let again = self.read_each(lane, &rows[..empty.count], cells);
-        if again.versions == empty.versions {
+        let again = self.read_versions(lane, &rows[..empty.count], cells);
+        if again == empty.versions {
             return Ok(nearest_at(empty.count, empty.behind));
         }
-        let rest = self.read_each(lane, &rows[empty.count..], cells);
-        let mut seen = again.versions + rest.versions;
+        let rest = self.read_versions(lane, &rows[empty.count..], cells);
+        let mut seen = again + rest;
         for _ in 1..self.tries() {
             let again = self.read_each(lane, rows, cells);
             if again.versions == seen {
@@ -168,6 +168,10 @@ impl Cells {
         let mut versions = 0;
         for (count, row) in rows.iter().enumerate() {
             let word = self.read_at(lane, *row, column);
+            // A fresh cell, as most are.
+            if word == 0 {
+                continue;
+            }
             if !is_empty(word) {
                 return EmptyCells {
                     count,
@@ -184,8 +188,31 @@ impl Cells {
         }
     }
 
-    // Reads each of the cells once, in order.
+    // Reads each of the cells once, in order, and answers the sum of their versions.
     #[inline(always)]
+    fn read_versions(&self, lane: &mut CellLane, rows: &[usize], column: Column) -> u64
+        requires lane { lane.old.cells ≡ self.now.id }
+        requires few { length rows.now ≤ 16 }
+        requires column { IsColumn self.now.id.limits.cells column }
+        requires known { All (λ cell. cell < self.now.id.limits.cells) (cells_in rows.now (column.blocks * 32) column.place) }
+        ensures lane { lane.new.cells ≡ lane.old.cells }
+        ensures within { result ≤ length rows.now * 2 ^ 40 }
+        ensures read { (words : List ℕ) × ReadPass lane.old.cells.limits lane.old.view lane.new.view (cells_in rows.now (column.blocks * 32) column.place) words × (result ≡ sum_by version_in words) }
+    {
+        lane.recall();
+        let mut versions = 0;
+        for row in rows {
+            let word = self.read_at(lane, *row, column);
+            // A fresh cell, as most are.
+            if word == 0 {
+                continue;
+            }
+            versions += version(word);
+        }
+        versions
+    }
+
+    // Reads each of the cells once, in order, and keeps which is the first where anything stands.
     fn read_each(&self, lane: &mut CellLane, rows: &[usize], column: Column) -> Reading
         requires lane { lane.old.cells ≡ self.now.id }
         requires few { length rows.now ≤ 16 }
@@ -216,6 +243,6 @@ impl Cells {
         self.recall();
         let block = row * column.blocks;
         let cell = block * 32 + column.place;
-        self.read_marked(lane, cell, column.marks + block, column.mark)
+        self.read_marked(lane, cell, column.marks + block, column.bits)
     }
 }

@@ -6,19 +6,20 @@ ghost use Rattle.ext_rows.specs.Marks.{marks};
 
 use crate::CellLane;
 use crate::rule::{CellTable, LaneSeat, NewLane, SharedWords};
-use ext_model::LaneNo;
+use ext_model::{LaneNo, Size};
 use ext_rows::{CellLimits, row_count};
 use std::alloc::{AllocError, Global};
 
-/// Whether cells with these limits may be opened: at most 262,144 cells, 1 to 16 lanes, 1 to 64
-/// tries and 1 to 65,535 numbers. `Cells::open` refuses all others.
-pub fn are_limits(cells: usize, lanes: usize, tries: u32, numbers: u32) -> bool
-    ensures { IsTrue result ↔ AreLimits cells lanes tries numbers }
+/// Whether cells of this size may have these limits: at most 1,024 cells for each context, 1 to 16
+/// lanes, 1 to 64 tries and 1 to `size.numbers()` numbers. `Cells::open` refuses all others of the
+/// usual size, and `Cells::open_for` of the large one.
+pub fn are_limits(size: Size, cells: usize, lanes: usize, tries: u32, numbers: u32) -> bool
+    ensures { IsTrue result ↔ AreLimits size cells lanes tries numbers }
 {
-    cells <= 262_144
+    cells <= size.contexts() * 1024
         && (1..=16).contains(&lanes)
         && (1..=64).contains(&tries)
-        && (1..=65_535).contains(&numbers)
+        && (1..=size.numbers()).contains(&numbers)
 }
 
 /// `count` words, all zero.
@@ -33,7 +34,7 @@ pub(crate) fn open_words(
     alloc: Global,
     limits: &CellLimits,
 ) -> Result<(CellTable, LaneSeat), AllocError>
-    requires cells { limits.now.cells ≤ 262144 }
+    requires cells { limits.now.cells ≤ 67108864 }
     requires lanes { 1 ≤ limits.now.lanes }
     ensures words { IfOk result (λ r. r.0.shared.table_id.words ≡ (marks limits.now.cells).width) }
     ensures key { IfOk result (λ r. r.0.shared.key ≡ limits.now) }

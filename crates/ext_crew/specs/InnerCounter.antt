@@ -165,9 +165,9 @@ pub record HasEnded {T O : Type 0} (items : List T) (me : Me (Slot T O) (Drawn T
 
 -- ---- the counter of a run
 
--- This is the counter of `count` items, at most 256, each with a slot.
+-- This is the counter of `count` items, at most 65,536, each with a slot.
 abbrev pub IsCounter : {T : Type 0} → TableId → List T → ℕ → Type 0
-IsCounter table items count = (table.words ≡ 1) × (length items ≡ count) × (count ≤ 256) × (table.slots ≡ count)
+IsCounter table items count = (table.words ≡ 1) × (length items ≡ count) × (count ≤ 65536) × (table.slots ≡ count)
 
 -- This is the counter of these items, nothing was drawn from it, and its first seat stands for all 17 seats that there
 -- may be.

@@ -17,15 +17,15 @@ use std::thread::Threads;
 /// Runs one job for each item on several workers and gives the outcomes in the order of the items.
 /// Takes memory and may wait.
 ///
-/// Both slices have the same length, 1 to 16, and there are at most 256 items, possibly none. The
-/// number of workers is the smaller of that length and the number of items. Each is lent its own
-/// consecutive share of both slices; the lengths of the shares differ by at most one, and longer
-/// ones come first. Workers draw jobs in the order of the items, each its next one when it has
-/// ended the last, so which worker runs which job is not fixed. A job is one call of `run` with the
-/// index of the item, from 0, the item, and the worker's share of both slices as its earlier jobs
-/// left it. `run` must accept each item with any part of the slices, as any jobs left it. `gate` is
-/// called before and after each job. The call returns when every job has ended and every thread is
-/// joined.
+/// Both slices have the same length, 1 to 16, and there are at most 65,536 items, possibly none.
+/// The number of workers is the smaller of that length and the number of items. Each is lent its
+/// own consecutive share of both slices; the lengths of the shares differ by at most one, and
+/// longer ones come first. Workers draw jobs in the order of the items, each its next one when it
+/// has ended the last, so which worker runs which job is not fixed. A job is one call of `run` with
+/// the index of the item, from 0, the item, and the worker's share of both slices as its earlier
+/// jobs left it. `run` must accept each item with any part of the slices, as any jobs left it.
+/// `gate` is called before and after each job. The call returns when every job has ended and every
+/// thread is joined.
 ///
 /// `Memory` is the only refusal: all memory is taken before the first job, so no job was run, both
 /// slices are as they were, and the items are dropped. Without items it never comes. Room is taken
@@ -52,7 +52,7 @@ pub fn run_children<
     gate: &G,
 ) -> Result<Vec<O, M>, CrewFault>
     requires lengths { (0 < length first.old) × (length second.old ≡ length first.old) }
-    requires limits { (length first.old ≤ 16) × (length items.items ≤ 256) }
+    requires limits { (length first.old ≤ 16) × (length items.items ≤ 65536) }
     requires accepts { AcceptsParts F.Fn run.now items.items
         (record { first = first.old; second = second.old }) }
     ensures run { IfOk result (λ v. RunByDealing (Runs F.Fn run.now items.items)
@@ -88,7 +88,7 @@ fn open_crew<T: Drop, O: Drop, M: Allocator + Clone>(
     items: Vec<T, M>,
     workers: usize,
 ) -> Result<(Crew<T, O, M>, Vec<O, M>), AllocError>
-    requires few { (length items.items ≤ 256) × (workers ≤ 16) }
+    requires few { (length items.items ≤ 65536) × (workers ≤ 16) }
     ensures { IfOk result (λ made. IsOpenedFor items.items workers made.0.table.shared.table_id made.0.table.shared.key.value.items
         made.0.seat made.0.hands.items × (length items.items ≤ vec_capacity made.1) × (made.1.items ≡ [])) }
 {

@@ -1,5 +1,5 @@
 -- Where calls let lanes go on, so does the run of a tree.
-use Rattle.std.proofs.Common.{◌≡◌, inl, inr, ℕ, List, ap, refl, sym, subst, ◌∙◌}
+use Rattle.std.proofs.Common.{◌≡◌, ℕ, List, ap, refl, sym, subst, ◌∙◌}
 use Rattle.std.specs.Prelude.{Option}
 use Rattle.std.specs.List.{AllZip, FoldsTo}
 use base.Growing.{prefix_refl, prefix_trans}

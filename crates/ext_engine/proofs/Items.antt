@@ -16,7 +16,7 @@ use Rattle.ext_tree.proofs.TreeFacts.{longer}
 use Rattle.ext_tree.proofs.TreeLaws.{parents_list_children}
 use Rattle.ext_store.specs.Stores.{CloserView, StoreView, IsCloserOf}
 use Rattle.ext_engine.specs.declared.node.closers.Item.{Item}
-use Rattle.ext_engine.specs.InnerClosers.{IsWithin, IsItem, OfStore, HasBelow, HasClosers, HasTaken, contexts}
+use Rattle.ext_engine.specs.InnerClosers.{IsWithin, IsItem, OfStore, HasBelow, HasTaken, contexts}
 use Rattle.ext_engine.proofs.Contexts.{keeps-in, keeps-out}
 use Rattle.ext_engine.proofs.Within.{shown, at-within, too-deep, below-child}
 

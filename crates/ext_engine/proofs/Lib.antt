@@ -17,6 +17,7 @@ pub mod Lanes
 pub mod Meets
 pub mod Named
 pub mod NodeCalls
+pub mod NoStore
 pub mod NodesSeen
 pub mod OneEach
 pub mod Order

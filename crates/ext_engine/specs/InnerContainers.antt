@@ -22,7 +22,7 @@ pub record AreChildren (store : StoreView) (suite : SuiteView) (depth node : ℕ
   pub same_thread : map (λ i. i.node) children.in_turn.items ≡ filter (λ c. not (suite.is_concurrent c)) (children_of store.tree node)
   pub beside_below : All (IsNode store depth) children.beside.items
   pub in_turn_below : All (IsNode store depth) children.in_turn.items
-  pub few : vec_len children.beside ≤ 256
+  pub few : vec_len children.beside ≤ 65536
   pub none_yet : children.outcomes.items ≡ []
   pub room : vec_len children.in_turn ≤ vec_capacity children.outcomes
 

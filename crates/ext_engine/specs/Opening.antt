@@ -8,7 +8,9 @@ use Rattle.ext_store.specs.Stores.{AreStoreLimits, CloserView}
 use Rattle.ext_store.specs.declared.limits.Limits.{Limits}
 use Rattle.ext_store.specs.declared.limits.StoreFault.{StoreFault}
 use Rattle.ext_store.specs.declared.limits.StoreFault.TheVariants as store_faults
-use Rattle.ext_tree.specs.Trees.{Id, IsTree, HasFault}
+use Rattle.ext_model.specs.Sizes.{most_contexts}
+use Rattle.ext_model.specs.declared.size.Size.{Size}
+use Rattle.ext_tree.specs.Trees.{Id, IsTreeWithin, HasFault}
 use Rattle.ext_tree.specs.declared.fault.TreeFault.{TreeFault}
 use Rattle.ext_tree.specs.declared.fault.TreeFault.TheVariants as tree_faults
 use Rattle.ext_engine.specs.declared.opening.OpenFault.{OpenFault}
@@ -35,29 +37,31 @@ IsNotRead texts (faults.Locks why) = ⊥
 
 -- ---- the opening
 
--- The ids are no tree, for this fault; or they are one, and memory ran out.
-abbrev pub IsNoTree : List Id → TreeFault → Type 0
-IsNoTree ids tree_faults.Memory = IsTree ids
-IsNoTree ids why = HasFault ids why
+-- The ids are no tree of this size, for this fault; or they are one, and memory ran out.
+abbrev pub IsNoTree : Size → List Id → TreeFault → Type 0
+IsNoTree size ids tree_faults.Memory = IsTreeWithin (most_contexts size) ids
+IsNoTree size ids why = HasFault (most_contexts size) ids why
 
 -- The limits are not those of a store; or they are, and memory ran out.
 abbrev pub IsNoStore : Limits → StoreFault → Type 0
-IsNoStore limits store_faults.BadLimit = ¬ AreStoreLimits limits.keys limits.lanes limits.tries limits.numbers
-IsNoStore limits store_faults.Memory = AreStoreLimits limits.keys limits.lanes limits.tries limits.numbers
+IsNoStore limits store_faults.BadLimit = ¬ AreStoreLimits limits.size limits.keys limits.lanes limits.tries limits.numbers
+IsNoStore limits store_faults.Memory = AreStoreLimits limits.size limits.keys limits.lanes limits.tries limits.numbers
 
 -- Why no store is opened: the first reason that applies.
 abbrev pub IsStoreFault : List Id → Limits → OpenFault → Type 0
 IsStoreFault ids limits (faults.Id at why) = ⊥
-IsStoreFault ids limits (faults.Tree why) = IsNoTree ids why
-IsStoreFault ids limits (faults.Store why) = IsTree ids × IsNoStore limits why
+IsStoreFault ids limits (faults.Tree why) = IsNoTree limits.size ids why
+IsStoreFault ids limits (faults.Store why) = IsTreeWithin (most_contexts limits.size) ids × IsNoStore limits why
 IsStoreFault ids limits (faults.Locks why) = ⊥
 
 -- Why nothing is opened: the first reason that applies.
 abbrev pub IsNotOpened : List Id → List (List ℕ) → Limits → OpenFault → Type 0
 IsNotOpened ids names limits (faults.Id at why) = ⊥
-IsNotOpened ids names limits (faults.Tree why) = IsNoTree ids why
-IsNotOpened ids names limits (faults.Store why) = IsTree ids × IsNoStore limits why
-IsNotOpened ids names limits (faults.Locks why) = IsTree ids × AreStoreLimits limits.keys limits.lanes limits.tries limits.numbers × locking.IsNotOpened names limits.lanes limits.tries why
+IsNotOpened ids names limits (faults.Tree why) = IsNoTree limits.size ids why
+IsNotOpened ids names limits (faults.Store why) = IsTreeWithin (most_contexts limits.size) ids × IsNoStore limits why
+IsNotOpened ids names limits (faults.Locks why) =
+    IsTreeWithin (most_contexts limits.size) ids × AreStoreLimits limits.size limits.keys limits.lanes limits.tries limits.numbers
+    × locking.IsNotOpened names limits.lanes limits.tries why
 
 -- ---- what is taken out of what was opened
 

@@ -8,7 +8,8 @@ ghost use Rattle.ext_store.specs.Opening.{places_for};
 ghost use Rattle.ext_store.specs.Stores.{AreStoreLimits, IsCloserOf, IsLaneOf, closers_below, fresh_store_lane};
 ghost use Rattle.ext_engine.specs.Opening.{AreRead, IsNotOpened, IsNotRead, IsStoreFault};
 ghost use Rattle.ext_engine.specs.TreeRun.{IsUsable};
-ghost use Rattle.ext_tree.specs.Trees.{IsTree};
+ghost use Rattle.ext_model.specs.Sizes.{most_contexts};
+ghost use Rattle.ext_tree.specs.Trees.{IsTreeWithin};
 
 use ext_ids::{IdFault, UniqueId};
 use ext_locks::{LockFault, LockLane, Locks};
@@ -114,10 +115,10 @@ pub fn read_ids(alloc: Global, texts: &[&str]) -> Result<Vec<UniqueId>, OpenFaul
 /// and the same limit of tries. Takes all memory that these need, except for values, kept faults
 /// and keys.
 ///
-/// Refused, in this order, as `Tree` for the first fault of the ids, as `Store(BadLimit)` unless
-/// there are 1 to 16 lanes, 1 to 64 tries, 1 to 1,024 keys and 1 to 65,535 numbers, as
-/// `Store(Memory)`, and as `Locks` for more than 63 names, for the first that stands twice, and for
-/// want of memory.
+/// Refused, in this order, as `Tree` for the first fault of the ids, of which there may be
+/// `limits.size.contexts()`, as `Store(BadLimit)` unless there are 1 to 16 lanes, 1 to 64 tries,
+/// 1 to 1,024 keys and 1 to `limits.size.numbers()` numbers, as `Store(Memory)`, and as `Locks` for
+/// more than 63 names, for the first that stands twice, and for want of memory.
 pub fn open_run<V: StoreValue + Drop>(
     alloc: Global,
     ids: &[UniqueId],
@@ -140,6 +141,7 @@ pub fn open_run<V: StoreValue + Drop>(
     ensures own_closers { IfOk result (λ o. All (IsCloserOf o.store) o.closers.items) }
 
     // When it is refused.
+    ensures within { IfOk result (λ _. IsTreeWithin (most_contexts limits.size) ids.now × AreStoreLimits limits.size limits.keys limits.lanes limits.tries limits.numbers) }
     ensures fault { IfErr result (IsNotOpened ids.now (texts_of names.now) limits) }
 {
     let (store, lanes, closers) = open_store(alloc, ids, limits)?;
@@ -159,10 +161,10 @@ fn open_store<V: StoreValue + Drop>(
     ids: &[UniqueId],
     limits: Limits,
 ) -> Result<(Store<V>, Vec<Lane<V>>, Vec<Closer>), OpenFault>
-    ensures tree { IfOk result (λ r. (r.0.tree ≡ ids.now) × IsTree ids.now) }
+    ensures tree { IfOk result (λ r. (r.0.tree ≡ ids.now) × IsTreeWithin (most_contexts limits.size) ids.now) }
     ensures limits { IfOk result (λ r. r.0.id.cells.limits ≡ record { cells = length ids.now * places_for limits.keys; lanes = limits.lanes; numbers = limits.numbers; keep_faults = limits.keep_faults }) }
     ensures keys { IfOk result (λ r. length r.0.id.keys ≡ places_for limits.keys) }
-    ensures within { IfOk result (λ r. AreStoreLimits limits.keys limits.lanes limits.tries limits.numbers) }
+    ensures within { IfOk result (λ r. AreStoreLimits limits.size limits.keys limits.lanes limits.tries limits.numbers) }
     ensures tries { IfOk result (λ r. r.0.tries ≡ limits.tries) }
     ensures lanes { IfOk result (λ r. r.1.items ≡ map (fresh_store_lane r.0.id.places r.0.id.fault_places r.0.id.keys) (fresh_lanes r.0.id.cells 0 limits.lanes)) }
     ensures own_lanes { IfOk result (λ r. All (IsLaneOf r.0.id) r.1.items) }
@@ -170,6 +172,6 @@ fn open_store<V: StoreValue + Drop>(
     ensures own_closers { IfOk result (λ r. All (IsCloserOf r.0) r.2.items) }
     ensures fault { IfErr result (IsStoreFault ids.now limits) }
 {
-    let tree = Tree::build(alloc, ids)?;
+    let tree = Tree::build_within(alloc, ids, limits.size.contexts())?;
     Ok(Store::open(alloc, tree, limits)?)
 }

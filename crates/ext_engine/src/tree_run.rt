@@ -235,7 +235,7 @@ impl<
         lock_lanes: &mut [LockLane],
     ) -> Result<Vec<Result<Vec<RanNode>, EngineFault>>, EngineFault>
         requires items { All (IsNode self.now.nodes.store.now depth) items.items }
-        requires few { vec_len items ≤ 256 }
+        requires few { vec_len items ≤ 65536 }
         requires ready { IsRunnable self.now.nodes.store.now self.now.nodes.locks.now (S.suite_view self.now.nodes.suite.now)
             × S.fits self.now.nodes.suite.now self.now.nodes.store.now
             × IsUsable self.now.nodes.store.now self.now.nodes.locks.now (record { first = lanes.old; second = lock_lanes.old }) }

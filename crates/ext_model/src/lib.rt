@@ -12,7 +12,7 @@
 //! `Closing` what a closed context still has, and `Closed` the result of the closes.
 //! `FallingNumbers` holds the numbers that a closed context still has. The laws are in `StateLaws`,
 //! `HistoryLaws`, `WordLaws`, `CallLaws` and `ClosingLaws`, and examples in `Worked` and
-//! `WorkedCalls`; functions that do nothing prove them.
+//! `WorkedCalls`; functions that do nothing prove them. `Sizes` has how large a store may be.
 #![tactic(auto)]
 
 mod closed;
@@ -22,6 +22,7 @@ mod laws;
 mod look;
 mod plain;
 mod plain_fault;
+mod size;
 mod slot;
 mod worked;
 
@@ -32,5 +33,6 @@ pub use laws::{call_laws, closing_laws, history_laws, store_laws, word_laws};
 pub use look::{Fault, Look};
 pub use plain::PlainStore;
 pub use plain_fault::PlainFault;
+pub use size::Size;
 pub use slot::Slot;
 pub use worked::worked_histories;

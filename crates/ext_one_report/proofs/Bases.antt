@@ -3,6 +3,7 @@ use Rattle.std.proofs.Common.{◌≡◌, ℕ, ◌<◌, ◌≤◌, true, List, []
 use mathlib.Core.List.{IsPrefix}
 use Rattle.ext_model.specs.declared.look.Fault.{Fault}
 use Rattle.ext_model.specs.History.{History, Limits}
+use Rattle.ext_model.specs.Sizes.{most_numbers}
 use Rattle.ext_tree.specs.Keys.{KeyValue}
 use Rattle.ext_lifecycle.specs.Results.{ResultOf}
 use Rattle.ext_plan.specs.Plans.{PlanText}
@@ -11,9 +12,8 @@ use Rattle.ext_one_report.specs.Changing.{IsBelow, NodesChangeOnly}
 use Rattle.ext_engine.specs.Meeting.{first_seen}
 use Rattle.ext_parallel.specs.ParallelRun.{ParallelRun}
 use Rattle.ext_plain.specs.PlainRun.{node_run, run_opening}
-use Rattle.ext_plain.specs.ValueStates.{run_numbers, value_opening}
+use Rattle.ext_plain.specs.ValueStates.{value_opening}
 use Rattle.ext_one_report.proofs.StoredRuns.{stand_once, unnamed_keep_nothing}
-use Rattle.ext_races.specs.Races.{number_limit}
 use Rattle.ext_races.specs.Touches.{keys_named, numbers_drawn}
 use Rattle.ext_one_report.proofs.MatchingWords.{HasNumberIn, Places, RunView, cell_of}
 use Rattle.ext_one_report.proofs.Matching.{first_is_numbered, first_matches}
@@ -48,11 +48,11 @@ module _ (plan : PlanText) (lanes : ℕ) (results : List (ResultOf Fault)) (read
       cells_are_at_places (setting_in plan its run.locks) plan run.store run.numbered.numbering node context number key read run.store_is.tree refl (is_view plan lanes results run full).places named below
 
   -- before the run the same stands at any places: nothing
-  pub opens_level : length (keys_named plan) ≤ plan.key_places → (places : Places) → AreLevel plan its places (first_seen run.first.first) (value_opening plan.keep_faults plan.key_places)
+  pub opens_level : length (keys_named plan) ≤ plan.key_places → (places : Places) → AreLevel plan its places (first_seen run.first.first) (value_opening plan.keep_faults plan.key_places (most_numbers plan.size))
   opens_level few places =
-      subst (λ h. AreLevel plan its places h (value_opening plan.keep_faults plan.key_places)) (sym (nothing_before plan lanes results run full)) (record {
-        matches = first_matches its places plan.keep_faults plan.key_places;
-        numbered = first_is_numbered places plan.keep_faults plan.key_places;
+      subst (λ h. AreLevel plan its places h (value_opening plan.keep_faults plan.key_places (most_numbers plan.size))) (sym (nothing_before plan lanes results run full)) (record {
+        matches = first_matches its places plan.keep_faults plan.key_places (most_numbers plan.size);
+        numbered = first_is_numbered places plan.keep_faults plan.key_places (most_numbers plan.size);
         memory = refl;
         keeps = ap (λ (l : Limits). l.keep_faults) run.store_is.limits;
         gave = record {
@@ -60,10 +60,11 @@ module _ (plan : PlanText) (lanes : ℕ) (results : List (ResultOf Fault)) (read
           keys = record { different = λ i j d below inside. absurd (omega (arith, below, inside)); few = omega arith };
           named = λ i d within. absurd (omega (arith, within));
           room = few;
+          limit = refl;
         };
-        of_plan = opens_of_plan plan plan.keep_faults plan.key_places;
+        of_plan = opens_of_plan plan plan.keep_faults plan.key_places (most_numbers plan.size);
       })
 
   -- at the end of the plain run there are numbers left
-  pub numbers_left : numbers_drawn plan < number_limit → (node_run plan (length plan.nodes) (0 ∷ []) (run_opening [] plan)).state.store.drawn < run_numbers
+  pub numbers_left : numbers_drawn plan < most_numbers plan.size → (node_run plan (length plan.nodes) (0 ∷ []) (run_opening [] plan)).state.store.drawn < most_numbers plan.size
   numbers_left less = let most = draws_few plan read.runnable.tree in omega (arith, most, less)

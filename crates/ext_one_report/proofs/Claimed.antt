@@ -14,7 +14,7 @@ use Rattle.ext_tree.specs.Keys.{KeyValue}
 use Rattle.ext_lifecycle.specs.Endings.{successful}
 use Rattle.ext_plan.specs.StoreKeys.{is_there, place_of_key}
 use Rattle.ext_plan.specs.Values.{ValueText}
-use Rattle.ext_plain.specs.ValueStates.{ValueState, after_act, keep_value, next_number, reply_to, run_numbers, value_of, refusal as plain_refusal}
+use Rattle.ext_plain.specs.ValueStates.{ValueState, after_act, keep_value, next_number, reply_to, value_of, refusal as plain_refusal}
 use Rattle.ext_plain.specs.StepRuns.{StepEnd, claim_and, factory_gave, or_refused}
 use Rattle.ext_one_report.proofs.MatchingWords.{RunView, Places, Matches, IsNumbered, plain_slot, after_event}
 use Rattle.ext_one_report.proofs.Matching.{draw_happens, draw_slots, event_keeps_numbered, kept_drawn, place_then, plain_there, value_last, values_keep_matches, values_keep_numbered}
@@ -59,7 +59,7 @@ module _ (t : ValueState) (context : ℕ) (key : KeyValue) (there : is_there t.k
   claim_stands : claimed.store.slots (context, place_of_key t.keys key) ≡ Some (slot.Claim any_lane)
   claim_stands = place_then t.store any_lane (Claim (context, place_of_key t.keys key)) (context, place_of_key t.keys key) true (here (context, place_of_key t.keys key))
 
-  module _ (v : ValueText) (left : t.store.drawn < run_numbers) (places : Places) (numbered : IsNumbered places t) where
+  module _ (v : ValueText) (left : t.store.drawn < t.numbers) (places : Places) (numbered : IsNumbered places t) where
     -- the state with the value under its number
     abbrev pub kept_claimed : ValueState
     kept_claimed = keep_value v claimed

@@ -9,6 +9,7 @@ use Rattle.ext_model.specs.declared.look.Fault.{Fault}
 use Rattle.ext_model.specs.Closing.{remaining}
 use Rattle.ext_model.specs.History.{History, slots_in, IsLegal}
 use Rattle.ext_model.specs.Plain.{Place}
+use Rattle.ext_model.specs.Sizes.{most_numbers}
 use Rattle.ext_tree.specs.Keys.{AreDifferent, KeyValue, global_namespace, key_of}
 use Rattle.ext_values.specs.Known.{known_at}
 use Rattle.ext_cells.specs.Lanes.{Lane}
@@ -152,7 +153,7 @@ module _ (plan : PlanText) (run : RunView) (locks : LocksView) (h : History) (to
           let in_tree : node < length run.store.tree = subst (λ (n : ℕ). node < n) (sym (ap length close.basis.tree ∙ length-map plan.nodes (λ (n : NodeText). n.id))) close.inside in
           subst (λ l. IsPermutation (there_of (λ number. closeable (run.meaning.values number)) l)
           (there_of (λ number. closeable (value_of s.values number)) (remaining (λ i. (seal_keys s.places node s).store.slots (node, i)) s.places))) seen_left
-          (same_remaining run close.basis.view node in_tree (seen_by lane.cells.view) (first_seen after) s (seal_keys s.places node s) (keys_named plan)
+          (same_remaining run close.basis.view node in_tree (seen_by lane.cells.view) (first_seen after) s (seal_keys s.places node s) (keys_named plan) (most_numbers plan.size)
           (λ key number has. level.matches.slots node key number (close.all key) has) (λ key number has free. lanes.sealed key number has free)
           (λ key none. level.matches.unnumbered node key (close.all key) none) (plain_seals_places node s) level.gave
           (λ number past. level.numbered.beyond node some_key number (close.all some_key) past) seen_in
@@ -194,7 +195,7 @@ module _ (plan : PlanText) (run : RunView) (locks : LocksView) (h : History) (to
         let both = both_true (places context key) (not (context == node)) is in
         plain.others context number (not_one context node both.1) ∙ level.numbered.beyond context key number both.0 (subst (λ (keys : List KeyValue). length keys ≤ number) plain.keys past)
 
-    gave_few : GaveFew (keys_named plan) t
+    gave_few : GaveFew (keys_named plan) (most_numbers plan.size) t
     gave_few = record {
       values = ap length plain.values ∙ (level.gave.values ∙ sym plain.drawn);
       keys = record {
@@ -203,6 +204,7 @@ module _ (plan : PlanText) (run : RunView) (locks : LocksView) (h : History) (to
       };
       named = subst (All (Contains (keys_named plan))) (sym plain.keys) level.gave.named;
       room = subst (λ n. length (keys_named plan) ≤ n) (sym plain.places) level.gave.room;
+      limit = plain.numbers ∙ level.gave.limit;
     }
 
     level_besides : IsOfPlan plan t → AreLevel plan run (besides node places) after t

@@ -12,6 +12,7 @@ use Rattle.ext_model.specs.Plain.{Place, any_lane, same_place, state_by}
 use Rattle.ext_model.proofs.Changes.{here, same_place_is}
 use Rattle.ext_plain.specs.ValueStates.{ValueState, after_act}
 use Rattle.ext_plain.specs.ContextEnds.{seal_keys}
+use Rattle.ext_plain.proofs.LimitsStay.{seals-limits}
 use Rattle.ext_one_report.proofs.Closes.{PlainSealsPlaces, seal_of}
 
 -- ---- one seal
@@ -82,11 +83,6 @@ module _ (node : ℕ) where
       let t = seal_keys n node s in
       drawn_by t.store (node, n) (seal_reply (t.store.slots (node, n))) ∙ drawn_stays n s
 
-  places_stay : (n : ℕ) (s : ValueState) → (seal_keys n node s).places ≡ s.places
-  unfolding seal_keys
-  places_stay zero s = refl
-  places_stay (suc n) s = places_stay n s
-
   keys_stay : (n : ℕ) (s : ValueState) → (seal_keys n node s).keys ≡ s.keys
   unfolding seal_keys
   keys_stay zero s = refl
@@ -112,7 +108,8 @@ plain_seals_places node s = record {
   sealed = λ key less. sealed_below node s.places key s less;
   others = λ context key other. not_here node s.places context key s other;
   drawn = drawn_stays node s.places s;
-  places = places_stay node s.places s;
+  places = (seals-limits s.places node s).places;
+  numbers = (seals-limits s.places node s).numbers;
   keys = keys_stay node s.places s;
   values = values_stay node s.places s;
   memory = memory_stays node s.places s;

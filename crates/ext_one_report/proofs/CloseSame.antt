@@ -161,11 +161,11 @@ key_there (key ∷ keys) (suc i) less = key_there keys i (omega (arith, less))
 
 -- ---- the context
 
-module _ (run : RunView) (view : IsRunView run) (node : ℕ) (inside : node < length run.store.tree) (h g : History) (s t : ValueState) (names : List KeyValue)
+module _ (run : RunView) (view : IsRunView run) (node : ℕ) (inside : node < length run.store.tree) (h g : History) (s t : ValueState) (names : List KeyValue) (most : ℕ)
     (matches : (key : KeyValue) (number : ℕ) → HasNumberIn run key number → AreMatched run.meaning (plain_meaning s.values) (slots_in (cell_of run number) h node) (plain_slot s node key))
     (lanes : (key : KeyValue) (number : ℕ) → HasNumberIn run key number → ((lane : ℕ) → slots_in (cell_of run number) h node ≢ Some (slot.Claim lane))
     → slots_in (cell_of run number) g node ≡ seal_of (slots_in (cell_of run number) h node))
-    (unnumbered : (key : KeyValue) → ((number : ℕ) → ¬ HasNumberIn run key number) → plain_slot s node key ≡ None) (plain : SealsPlaces node s t) (gave : GaveFew names s)
+    (unnumbered : (key : KeyValue) → ((number : ℕ) → ¬ HasNumberIn run key number) → plain_slot s node key ≡ None) (plain : SealsPlaces node s t) (gave : GaveFew names most s)
     (beyond : (number : ℕ) → length s.keys ≤ number → s.store.slots (node, number) ≡ None) (once : HoldsOnce run g)
     (plain_once : (i j number : ℕ) → number_in (s.store.slots (node, i)) ≡ Some number → number_in (s.store.slots (node, j)) ≡ Some number → i ≡ j) where
   -- what stands in the end, by numbers of keys

@@ -43,6 +43,7 @@ pub record SealsPlaces (node : ℕ) (before after : ValueState) : Type 0 where
   pub others : (context key : ℕ) → context ≢ node → after.store.slots (context, key) ≡ before.store.slots (context, key)
   pub drawn : after.store.drawn ≡ before.store.drawn
   pub places : after.places ≡ before.places
+  pub numbers : after.numbers ≡ before.numbers
   pub keys : after.keys ≡ before.keys
   pub values : after.values ≡ before.values
   pub memory : after.memory ≡ before.memory

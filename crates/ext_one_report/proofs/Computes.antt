@@ -42,7 +42,7 @@ use Rattle.ext_store.specs.declared.computed.Compute.TheVariants as computes
 use Rattle.ext_store.specs.Stores.{context_cells}
 use Rattle.ext_store.specs.Computing.{ComputesFrom, Fills, Uses, Computes, IsRefused, Meets, given_up_events}
 use Rattle.ext_store.specs.Waiting.{ComputesAfterWaits, IsDecided}
-use Rattle.ext_plain.specs.ValueStates.{ValueState, enough, run_numbers, value_of}
+use Rattle.ext_plain.specs.ValueStates.{ValueState, enough, value_of}
 use Rattle.ext_plain.specs.StepRuns.{StepEnd, ended, compute_looked, compute_numbered, factory_gave, found_along, numbered_by}
 use Rattle.ext_parallel.specs.declared.steps.stored_value.StoredValue.{StoredValue}
 use Rattle.ext_parallel.specs.Saying.{Ends, EndsRefused, EndsUnkept}
@@ -288,7 +288,7 @@ vains run places view tree context ancestors key number is_path has within t the
 
 module _ (run : RunView) (places : Places) (view : IsRunView run) (tree : IsTree run.store.tree) (name label : List ℕ) (context : ℕ) (ancestors : List ℕ) (key : KeyValue) (number : ℕ)
     (is_path : IsPathOf run.store.tree context (context ∷ ancestors)) (has : HasNumberIn run key number) (within : All (λ c. places c key ≡ true) (context ∷ ancestors)) (t : ValueState)
-    (there : is_there t.keys key ≡ true) (left : t.store.drawn < run_numbers) (numbered : IsNumbered places t) (v : ValueText) (a b : PlanLane) (o : Outcome) (lane : IsLaneIn run b)
+    (there : is_there t.keys key ≡ true) (left : t.store.drawn < t.numbers) (numbered : IsNumbered places t) (v : ValueText) (a b : PlanLane) (o : Outcome) (lane : IsLaneIn run b)
     (finds : FindsAll name label o) (alone : IsAlone run places a.cells.view b.cells.view) (matches : Matches run places (seen_by a.cells.view) t) where
   abbrev its_end : StepEnd
   its_end = compute_looked name label (context, place_of_key t.keys key) v t (found_along (place_of_key t.keys key) (context ∷ ancestors) t)
@@ -445,7 +445,7 @@ module _ (run : RunView) (keys : List KeyText) (path : List ℕ) (places : Place
   value_along [] same it number has made is_path inside = absurd is_path
   value_along (context ∷ above) same it number has made is_path inside =
       value_alike run places both.view both.tree name (label_of keys key) context above (key_of_step keys key) number is_path (number_stays b.keys run.numbering (key_of_step keys key) number both.lane.keys has) inside
-      it.state it.there (subst (λ (st : State Place). st.drawn < run_numbers) (sym it.drawn) both.room.numbers) it.numbered v a b o both.lane both.finds both.alone
+      it.state it.there (subst (λ n. it.state.store.drawn < n) (sym it.numbers) (subst (λ (st : State Place). st.drawn < s.numbers) (sym it.drawn) both.room.numbers)) it.numbered v a b o both.lane both.finds both.alone
       (it.matches run (seen_by a.cells.view) both.matches) made
 
   pub computes_end_alike : StepComputes run.store (call_of keys path name key up) v a o b → EndAlike run places o b (numbered_by enough name (label_of keys key) (key_of_step keys key) (compute_numbered enough name (label_of keys key) (drop up path) v) s)

@@ -14,7 +14,7 @@ use Rattle.ext_tree.specs.Keys.{KeyValue}
 use Rattle.ext_lifecycle.specs.Endings.{successful}
 use Rattle.ext_plan.specs.StoreKeys.{is_there, place_of_key}
 use Rattle.ext_plan.specs.Values.{ValueText}
-use Rattle.ext_plain.specs.ValueStates.{ValueState, after_act, next_number, reply_to, run_numbers, value_of, refusal as plain_refusal}
+use Rattle.ext_plain.specs.ValueStates.{ValueState, after_act, next_number, reply_to, value_of, refusal as plain_refusal}
 use Rattle.ext_plain.specs.StepRuns.{StepEnd, ended, factory_failed, or_refused}
 use Rattle.ext_one_report.proofs.MatchingWords.{RunView, Places, Matches, IsNumbered, plain_slot, text_of, after_event}
 use Rattle.ext_one_report.proofs.Matching.{draw_happens, event_keeps_numbered, place_then, plain_there, values_keep_matches, values_keep_numbered}
@@ -26,7 +26,7 @@ abbrev pub words_value : List ℕ → ValueText
 words_value text = record { text = text; closeable = false }
 
 module _ (t : ValueState) (context : ℕ) (key : KeyValue) (there : is_there t.keys key ≡ true) (empty : t.store.slots (context, place_of_key t.keys key) ≡ None) (text : List ℕ)
-    (left : t.store.drawn < run_numbers) (places : Places) (numbered : IsNumbered places t) where
+    (left : t.store.drawn < t.numbers) (places : Places) (numbered : IsNumbered places t) where
   -- the state under the claim, and with the words of the fault
   abbrev under_claim : ValueState
   under_claim = claimed t context key there empty
@@ -58,10 +58,10 @@ module _ (t : ValueState) (context : ℕ) (key : KeyValue) (there : is_there t.k
       let kept_end : StepEnd = ended successful (after_act act with_words) in
       let back_end : StepEnd = ended successful (after_act (Abandon place) under_claim) in
       let happens : reply_to (Claim place) t ≡ Happens None = ap (claim_reply false) empty in
-      let claimed_so : next_state run_numbers t.store any_lane (Claim place) ≡ under_claim.store = ap (λ r. state_by r t.store (record { lane = any_lane; act = Claim place })) happens in
+      let claimed_so : next_state t.numbers t.store any_lane (Claim place) ≡ under_claim.store = ap (λ r. state_by r t.store (record { lane = any_lane; act = Claim place })) happens in
       ap (λ b. if b then or_refused name label (plain_refusal (reply_to (next_number under_claim) under_claim)) (after_act (Abandon place) under_claim) kept_end else back_end) keeps
-      ∙ (ap (λ (st : State Place). ended successful (record t { store = next_state run_numbers st any_lane (Abandon place) })) (sym claimed_so)
-      ∙ ap (λ (st : State Place). ended successful (record t { store = st })) (abandon_undoes_claim run_numbers t.store any_lane place empty))
+      ∙ (ap (λ (st : State Place). ended successful (record t { store = next_state t.numbers st any_lane (Abandon place) })) (sym claimed_so)
+      ∙ ap (λ (st : State Place). ended successful (record t { store = st })) (abandon_undoes_claim t.numbers t.store any_lane place empty))
 
   pub faulted_slot : plain_slot faulted context key ≡ Some (slot.Fault with_words.store.drawn)
   faulted_slot = plain_there faulted context key there ∙ place_then with_words.store any_lane (Fail (context, place_of_key t.keys key) with_words.store.drawn) (context, place_of_key t.keys key) true (here (context, place_of_key t.keys key))

@@ -42,7 +42,7 @@ use Rattle.ext_store.specs.declared.computed.Compute.TheVariants as computes
 use Rattle.ext_store.specs.Stores.{context_cells}
 use Rattle.ext_store.specs.Computing.{ComputesFrom, Fails, Uses, Computes, IsRefused, Meets, given_up_events}
 use Rattle.ext_store.specs.Waiting.{ComputesAfterWaits}
-use Rattle.ext_plain.specs.ValueStates.{ValueState, enough, run_numbers, value_of}
+use Rattle.ext_plain.specs.ValueStates.{ValueState, enough, value_of}
 use Rattle.ext_plain.specs.StepRuns.{StepEnd, ended, computefail_looked, computefail_numbered, factory_failed, found_along}
 use Rattle.ext_parallel.specs.declared.steps.stored_value.StoredValue.{StoredValue}
 use Rattle.ext_parallel.specs.Saying.{Ends, EndsRefused, EndsUnkept}
@@ -122,7 +122,7 @@ only_fail cell lane number = λ other off.
 
 module _ (run : RunView) (places : Places) (view : IsRunView run) (tree : IsTree run.store.tree) (name label : List ℕ) (context : ℕ) (ancestors : List ℕ) (key : KeyValue) (number : ℕ)
     (is_path : IsPathOf run.store.tree context (context ∷ ancestors)) (has : HasNumberIn run key number) (within : All (λ c. places c key ≡ true) (context ∷ ancestors)) (t : ValueState)
-    (there : is_there t.keys key ≡ true) (left : t.store.drawn < run_numbers) (numbered : IsNumbered places t) (text : List ℕ) (a b : PlanLane) (o : Outcome) (lane : IsLaneIn run b)
+    (there : is_there t.keys key ≡ true) (left : t.store.drawn < t.numbers) (numbered : IsNumbered places t) (text : List ℕ) (a b : PlanLane) (o : Outcome) (lane : IsLaneIn run b)
     (finds : FindsAll name label o) (alone : IsAlone run places a.cells.view b.cells.view) (matches : Matches run places (seen_by a.cells.view) t) where
   abbrev its_end : StepEnd
   its_end = computefail_looked name label (context, place_of_key t.keys key) text t (found_along (place_of_key t.keys key) (context ∷ ancestors) t)
@@ -312,7 +312,7 @@ module _ (run : RunView) (keys : List KeyText) (path : List ℕ) (places : Place
   fail_along (context ∷ above) it number has made is_path inside =
       fail_alike run places both.view both.tree (codes "computefail") (label_of keys key) context above (key_of_step keys key) number is_path
       (number_stays b.keys run.numbering (key_of_step keys key) number both.lane.keys has) inside
-      it.state it.there (subst (λ (st : State Place). st.drawn < run_numbers) (sym it.drawn) both.room.numbers) it.numbered text a b o both.lane both.finds both.alone
+      it.state it.there (subst (λ n. it.state.store.drawn < n) (sym it.numbers) (subst (λ (st : State Place). st.drawn < s.numbers) (sym it.drawn) both.room.numbers)) it.numbered text a b o both.lane both.finds both.alone
       (it.matches run (seen_by a.cells.view) both.matches) (both.keeps ∙ sym it.faults) made
 
 pub failures_end_alike : WordEndsAlike words.ComputeFail

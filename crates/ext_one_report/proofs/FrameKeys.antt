@@ -4,6 +4,7 @@ use Rattle.std.proofs.lemmas.Map.Views.{list_any-from_Contains}
 use Rattle.std.proofs.lemmas.List.Elements.{All-cons, All-contains, All-nil, Contains-append_left}
 use Rattle.ext_history.proofs.Lists.{bools}
 use Rattle.ext_model.specs.declared.event.Act.TheVariants.{Seal}
+use Rattle.ext_model.specs.Sizes.{most_numbers}
 use Rattle.ext_tree.specs.Keys.{KeyValue}
 use Rattle.ext_tree.specs.Traits.{key_eq_equiv}
 use Rattle.ext_tree.specs.Trees.{IsPathOf}
@@ -67,8 +68,8 @@ calls_name_keys plan node call less there =
 
 -- ---- so only these get numbers
 
-module _ (names : List KeyValue) where
-  seals_few : (count node : ℕ) (s : ValueState) → GaveFew names s → GaveFew names (seal_keys count node s)
+module _ (names : List KeyValue) (numbers : ℕ) where
+  seals_few : (count node : ℕ) (s : ValueState) → GaveFew names numbers s → GaveFew names numbers (seal_keys count node s)
   unfolding seal_keys
   seals_few zero node s few = few
   seals_few (suc key) node s few =
@@ -78,22 +79,24 @@ module _ (names : List KeyValue) where
         keys = record { different = before.keys.different; few = before.keys.few };
         named = before.named;
         room = before.room;
+        limit = before.limit;
       }
 
   -- any node of the plan
   abbrev Any : ℕ → List ℕ → Type 0
   Any node path = Unit {0}
 
-  few_keep : (plan : PlanText) → NodesAreTree plan → names ≡ keys_named plan → KeepNodes plan Any (GaveFew names)
+  few_keep : (plan : PlanText) → NodesAreTree plan → names ≡ keys_named plan → KeepNodes plan Any (GaveFew names numbers)
   few_keep plan tree are = record {
     below = λ parent child path is parented any. tt;
-    calls = λ node path call s any is there few. few_are_given names plan.keys path (steps_of_call plan call) s few
+    calls = λ node path call s any is there few. few_are_given names numbers plan.keys path (steps_of_call plan call) s few
         (subst (λ ns. All (NamesOneOf ns plan.keys) (steps_of_call plan call)) (sym are) (calls_name_keys plan node call (within_nodes plan node path tree is) there));
     seals = λ node path s any is few. seals_few s.places node s few;
   }
 
 pub nodes_give_few : (plan : PlanText) (levels node : ℕ) (path : List ℕ) (r : RunState) → NodesAreTree plan → IsPathOf (ids_of_nodes plan.nodes) node path
-    → GaveFew (keys_named plan) r.state → GaveFew (keys_named plan) (node_run plan levels path r).state
+    → GaveFew (keys_named plan) (most_numbers plan.size) r.state → GaveFew (keys_named plan) (most_numbers plan.size) (node_run plan levels path r).state
 nodes_give_few plan levels node path r tree is few =
     let names = keys_named plan in
-    nodes_keep plan (Any names) (GaveFew names) (few_keep names plan tree refl) tree levels node path r tt is few
+    let numbers = most_numbers plan.size in
+    nodes_keep plan (Any names numbers) (GaveFew names numbers) (few_keep names numbers plan tree refl) tree levels node path r tt is few

@@ -14,7 +14,7 @@ use Rattle.ext_tree.specs.Keys.{KeyValue}
 use Rattle.ext_plan.specs.StoreKeys.{is_there, place_of_key}
 use Rattle.ext_plan.specs.Values.{ValueText}
 use Rattle.ext_plan.proofs.KeyLists.{is_contained, not_contained, place_last, place_within}
-use Rattle.ext_plain.specs.ValueStates.{ValueState, after_act, keep_value, next_number, reply_to, run_numbers, value_of, with_number}
+use Rattle.ext_plain.specs.ValueStates.{ValueState, after_act, keep_value, next_number, reply_to, value_of, with_number}
 use Rattle.ext_one_report.proofs.MatchingWords.{Places, plain_slot}
 use Rattle.ext_one_report.proofs.Matching.{draw_slots, one_of_place, place_stays, plain_none, plain_there, there_more, values_known}
 use Rattle.ext_one_report.proofs.PlainFrames.{IsOpen, LeavesElse}
@@ -139,7 +139,7 @@ reply_drawn (Refuses why) s act = omega arith
 
 pub acts_more : (place : Place) (act : Act Place) (s t : ValueState) → place_of act ≡ Some place → ActsAt place s t → ActsAt place s (after_act act t)
 acts_more place act s t at acts = record {
-  slots = λ other apart. others_stay run_numbers t.store any_lane act other (ap (is_at same_place other) at ∙ apart) ∙ acts.slots other apart;
+  slots = λ other apart. others_stay t.numbers t.store any_lane act other (ap (is_at same_place other) at ∙ apart) ∙ acts.slots other apart;
   keys = acts.keys;
   values = acts.values;
   drawn = let before = acts.drawn in let now = reply_drawn (reply_to act t) t.store act in omega (arith, before, now);
@@ -149,7 +149,7 @@ acts_more place act s t at acts = record {
 
 pub acts_kept : (place : Place) (value : ValueText) (s t : ValueState) → ActsAt place s t → ActsAt place s (keep_value value t)
 acts_kept place value s t acts = record {
-  slots = λ other apart. draw_slots (plain_reply run_numbers t.store any_lane (next_number t)) t.store any_lane (t.store.drawn + 1) other ∙ acts.slots other apart;
+  slots = λ other apart. draw_slots (plain_reply t.numbers t.store any_lane (next_number t)) t.store any_lane (t.store.drawn + 1) other ∙ acts.slots other apart;
   keys = acts.keys;
   values = λ number v is. (values_known t.values (value ∷ [])).values number v (acts.values number v is);
   drawn = let before = acts.drawn in let now = reply_drawn (reply_to (next_number t) t) t.store (next_number t) in omega (arith, before, now);
@@ -215,7 +215,7 @@ leaves_closed node number s t acts changes closes closed = record {
 pub leaves_kept : (changes : Places) (closes : ℕ → Bool) (value : ValueText) (s : ValueState) → LeavesElse changes closes s (keep_value value s)
 leaves_kept changes closes value s =
     let drawn : (place : Place) → (keep_value value s).store.slots place ≡ s.store.slots place =
-    draw_slots (plain_reply run_numbers s.store any_lane (next_number s)) s.store any_lane (s.store.drawn + 1) in record {
+    draw_slots (plain_reply s.numbers s.store any_lane (next_number s)) s.store any_lane (s.store.drawn + 1) in record {
       slots = λ context key none still clear. slot_same s (keep_value value s) context key refl (λ there. drawn (context, place_of_key s.keys key));
       values = λ number v is. (values_known s.values (value ∷ [])).values number v is;
       drawn = reply_drawn (reply_to (next_number s) s) s.store (next_number s);

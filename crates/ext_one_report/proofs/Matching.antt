@@ -20,7 +20,7 @@ use Rattle.ext_tree.proofs.KeyPlacing.{key_within, length-places, one_key, one_n
 use Rattle.ext_plan.specs.StoreKeys.{is_there, place_of_key}
 use Rattle.ext_plan.specs.Values.{ValueText}
 use Rattle.ext_plan.proofs.KeyLists.{has_place, is_contained, not_contained, place_last, place_within}
-use Rattle.ext_plain.specs.ValueStates.{ValueState, keep_value, next_number, run_numbers, value_of, value_opening, with_number}
+use Rattle.ext_plain.specs.ValueStates.{ValueState, keep_value, next_number, value_of, value_opening, with_number}
 use Rattle.ext_plain.proofs.Numberings.{there_by}
 use Rattle.ext_one_report.proofs.StandingsWords.{Meaning, AreMatched, KnowsMore, nothing}
 use Rattle.ext_one_report.proofs.MatchingWords.{RunView, IsRunView, HasNumberIn, Places, Matches, AreNotAt, IsNumbered, cell_of, plain_meaning, plain_slot, text_of, AreEqualEvents, after_event}
@@ -149,7 +149,7 @@ draw_slots (Refuses why) s lane number place = refl
 
 pub kept_slot : (value : ValueText) (s : ValueState) (context : ℕ) (key : KeyValue) → plain_slot (keep_value value s) context key ≡ plain_slot s context key
 kept_slot value s context key =
-    ap (λ x. if is_there s.keys key then x else None) (draw_slots (plain_reply run_numbers s.store any_lane (next_number s)) s.store any_lane (s.store.drawn + 1) (context, place_of_key s.keys key))
+    ap (λ x. if is_there s.keys key then x else None) (draw_slots (plain_reply s.numbers s.store any_lane (next_number s)) s.store any_lane (s.store.drawn + 1) (context, place_of_key s.keys key))
 
 pub values_keep_matches : (run : RunView) (places : Places) (h : History) (value : ValueText) (s : ValueState) → Matches run places h s → Matches run places h (keep_value value s)
 values_keep_matches run places h value s matches = record {
@@ -159,18 +159,18 @@ values_keep_matches run places h value s matches = record {
 }
 
 -- where a number is left it is drawn
-pub draw_happens : (s : ValueState) → s.store.drawn < run_numbers → plain_reply run_numbers s.store any_lane (next_number s) ≡ Happens (Some (s.store.drawn + 1))
-draw_happens s left = ap (λ b. if b then Happens (Some (s.store.drawn + 1)) else Refuses NumbersFull) (test (s.store.drawn) run_numbers left)
+pub draw_happens : (s : ValueState) → s.store.drawn < s.numbers → plain_reply s.numbers s.store any_lane (next_number s) ≡ Happens (Some (s.store.drawn + 1))
+draw_happens s left = ap (λ b. if b then Happens (Some (s.store.drawn + 1)) else Refuses NumbersFull) (test (s.store.drawn) s.numbers left)
   where
     test : (a b : ℕ) → a < b → nat_lt a b ≡ true
     test a b less = grind (arith, nat_tests)
 
-pub kept_drawn : (value : ValueText) (s : ValueState) → s.store.drawn < run_numbers → (keep_value value s).store.drawn ≡ s.store.drawn + 1
+pub kept_drawn : (value : ValueText) (s : ValueState) → s.store.drawn < s.numbers → (keep_value value s).store.drawn ≡ s.store.drawn + 1
 kept_drawn value s left = ap (λ r. (state_by r s.store (record { lane = any_lane; act = next_number s })).drawn) (draw_happens s left)
 
-pub values_keep_numbered : (places : Places) (value : ValueText) (s : ValueState) → s.store.drawn < run_numbers → IsNumbered places s → IsNumbered places (keep_value value s)
+pub values_keep_numbered : (places : Places) (value : ValueText) (s : ValueState) → s.store.drawn < s.numbers → IsNumbered places s → IsNumbered places (keep_value value s)
 values_keep_numbered places value s left numbered = record {
-  beyond = λ context key number is past. draw_slots (plain_reply run_numbers s.store any_lane (next_number s)) s.store any_lane (s.store.drawn + 1) (context, number) ∙ numbered.beyond context key number is past;
+  beyond = λ context key number is past. draw_slots (plain_reply s.numbers s.store any_lane (next_number s)) s.store any_lane (s.store.drawn + 1) (context, number) ∙ numbered.beyond context key number is past;
   drawn = kept_drawn value s left ∙ longer s.values s.store.drawn numbered.drawn;
 }
   where
@@ -179,11 +179,11 @@ values_keep_numbered places value s left numbered = record {
 
 -- ---- the first state
 
-pub first_matches : (run : RunView) (places : Places) (keeps : Bool) (keys : ℕ) → Matches run places [] (value_opening keeps keys)
-first_matches run places keeps keys = record { slots = λ context key number is has. record { standing = nothing; here = refl; there = refl }; unnumbered = λ context key is none. refl }
+pub first_matches : (run : RunView) (places : Places) (keeps : Bool) (keys numbers : ℕ) → Matches run places [] (value_opening keeps keys numbers)
+first_matches run places keeps keys numbers = record { slots = λ context key number is has. record { standing = nothing; here = refl; there = refl }; unnumbered = λ context key is none. refl }
 
-pub first_is_numbered : (places : Places) (keeps : Bool) (keys : ℕ) → IsNumbered places (value_opening keeps keys)
-first_is_numbered places keeps keys = record { beyond = λ context key number is past. refl; drawn = refl }
+pub first_is_numbered : (places : Places) (keeps : Bool) (keys numbers : ℕ) → IsNumbered places (value_opening keeps keys numbers)
+first_is_numbered places keeps keys numbers = record { beyond = λ context key number is past. refl; drawn = refl }
 
 -- ---- fewer places
 

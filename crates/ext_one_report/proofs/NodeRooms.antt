@@ -2,6 +2,7 @@
 use Rattle.std.proofs.Common.{◌≡◌, ℕ, ◌<◌, ◌≤◌, Bool, true, false, List, [], ◌∷◌, ◌++◌, length, refl, ap, sym, subst, ◌∙◌, arith}
 use Rattle.std.specs.Prelude.{All, Contains, ◌&&◌, if◌then◌else◌}
 use Rattle.std.proofs.lemmas.List.Elements.{All-cons, All-head, All-nil, All-tail}
+use Rattle.ext_model.specs.Sizes.{most_numbers}
 use Rattle.ext_tree.specs.Keys.{KeyValue}
 use Rattle.ext_tree.specs.Trees.{IsPathOf}
 use Rattle.ext_lifecycle.specs.declared.call.Call.{Call}
@@ -13,7 +14,7 @@ use Rattle.ext_plan.specs.ReadPlans.{IsReadPlan, ids_of_nodes}
 use Rattle.ext_races.specs.MadeSteps.{calls_of}
 use Rattle.ext_races.specs.Touches.{keys_named}
 use Rattle.ext_plain.specs.PlainRunLaws.{NamesOneOf}
-use Rattle.ext_plain.specs.ValueStates.{ValueState, run_numbers}
+use Rattle.ext_plain.specs.ValueStates.{ValueState}
 use Rattle.ext_plain.specs.StepRuns.{StepEnd, step_run, steps_run}
 use Rattle.ext_plain.specs.NodeCalls.{CallsEnd, and_call, call_run, make_all, make_befores, make_if_successful}
 use Rattle.ext_one_report.proofs.CallListsWords.{BeforesHaveRoom, CallsHaveRoom}
@@ -78,21 +79,21 @@ module _ (plan : PlanText) (path : List ℕ) where
 
 -- ---- room
 
-module _ (names : List KeyValue) where
-  pub steps_room : (keys : List KeyText) (path : List ℕ) (steps : List StepText) (s : ValueState) → GaveFew names s → All (NamesOneOf names keys) steps → s.memory ≡ []
-      → (steps_run keys path steps s).state.store.drawn < run_numbers → StepsHaveRoom keys path steps s
+module _ (names : List KeyValue) (numbers : ℕ) where
+  pub steps_room : (keys : List KeyText) (path : List ℕ) (steps : List StepText) (s : ValueState) → GaveFew names numbers s → All (NamesOneOf names keys) steps → s.memory ≡ []
+      → (steps_run keys path steps s).state.store.drawn < numbers → StepsHaveRoom keys path steps s
   steps_room keys path [] s few named none left = tt
   steps_room keys path (step ∷ more) s few named none left =
       let P : StepText → Type 0 = NamesOneOf names keys in
       let one : All P (step ∷ []) = All-cons P step [] (All-head P step more named) (All-nil P) in
       let drawn = steps_draw keys path (step ∷ more) s none in
       let next = step_run keys path step s in
-      let first = few_have_room names keys path (step ∷ []) s few one (omega (arith, drawn, left)) in (
+      let first = few_have_room names numbers keys path (step ∷ []) s few one (omega (arith, drawn, left)) in (
         first.0,
         λ on.
             let single : (steps_run keys path (step ∷ []) s).state ≡ (steps_run keys path [] next.state).state = ap (λ (e : StepEnd). e.state) (plain_goes keys path step [] s none on) in
             let same : (steps_run keys path [] next.state).state ≡ next.state = ap (λ (e : StepEnd). e.state) (steps_run-nil keys path next.state) in
-            let given : GaveFew names next.state = subst (λ (t : ValueState). GaveFew names t) (single ∙ same) (few_are_given names keys path (step ∷ []) s few one) in
+            let given : GaveFew names numbers next.state = subst (λ (t : ValueState). GaveFew names numbers t) (single ∙ same) (few_are_given names numbers keys path (step ∷ []) s few one) in
             let clear : next.state.memory ≡ [] = ap (λ (t : ValueState). t.memory) (sym (single ∙ same)) ∙ steps_memory keys path (step ∷ []) s none in
             let whole : (steps_run keys path (step ∷ more) s).state.store.drawn ≡ (steps_run keys path more next.state).state.store.drawn = ap (λ (e : StepEnd). e.state.store.drawn) (plain_goes keys path step more s none on) in
             steps_room keys path more next.state given (All-tail P step more named) clear (omega (arith, whole, left)),
@@ -102,8 +103,8 @@ module _ (names : List KeyValue) where
     abbrev Named : Call → Type 0
     Named call = All (NamesOneOf names plan.keys) (steps_of_call plan call)
 
-    pub all_room : (calls : List Call) (e : CallsEnd) → All Named calls → GaveFew names e.state → e.state.memory ≡ []
-        → (make_all (call_run plan path) calls e).state.store.drawn < run_numbers → CallsHaveRoom plan path calls e.state
+    pub all_room : (calls : List Call) (e : CallsEnd) → All Named calls → GaveFew names numbers e.state → e.state.memory ≡ []
+        → (make_all (call_run plan path) calls e).state.store.drawn < numbers → CallsHaveRoom plan path calls e.state
     all_room [] e named few none left = tt
     all_room (call ∷ calls) e named few none left =
         let end = call_run plan path call e.state in
@@ -111,7 +112,7 @@ module _ (names : List KeyValue) where
         let clear = call_memory plan path call e.state none in
         let later = all_draw plan path calls (and_call e end) clear in (
           steps_room plan.keys path (steps_of_call plan call) e.state few one none (omega (arith, later, left)),
-          all_room calls (and_call e end) (All-tail Named call calls named) (few_are_given names plan.keys path (steps_of_call plan call) e.state few one) clear left,
+          all_room calls (and_call e end) (All-tail Named call calls named) (few_are_given names numbers plan.keys path (steps_of_call plan call) e.state few one) clear left,
         )
 
     good_so_far : (before : List VerdictText) (v : VerdictText) → all_successful before ≡ true → is_successful v ≡ true → all_successful (before ++ v ∷ []) ≡ true
@@ -122,8 +123,8 @@ module _ (names : List KeyValue) where
         both true is rest = rest is
         both false is rest = absurd (cc is)
 
-    pub befores_room : (calls : List Call) (e : CallsEnd) → all_successful e.calls ≡ true → All Named calls → GaveFew names e.state → e.state.memory ≡ []
-        → (make_befores (call_run plan path) calls e).state.store.drawn < run_numbers → BeforesHaveRoom plan path calls e.state
+    pub befores_room : (calls : List Call) (e : CallsEnd) → all_successful e.calls ≡ true → All Named calls → GaveFew names numbers e.state → e.state.memory ≡ []
+        → (make_befores (call_run plan path) calls e).state.store.drawn < numbers → BeforesHaveRoom plan path calls e.state
     befores_room [] e good named few none left = tt
     befores_room (call ∷ calls) e good named few none left =
         let end = call_run plan path call e.state in
@@ -134,7 +135,7 @@ module _ (names : List KeyValue) where
         let later = befores_draw plan path calls (and_call e end) clear in (
           steps_room plan.keys path (steps_of_call plan call) e.state few one none (omega (arith, later, left, whole)),
           λ on. befores_room calls (and_call e end) (good_so_far e.calls end.verdict good on) (All-tail Named call calls named)
-              (few_are_given names plan.keys path (steps_of_call plan call) e.state few one) clear (omega (arith, whole, left)),
+              (few_are_given names numbers plan.keys path (steps_of_call plan call) e.state few one) clear (omega (arith, whole, left)),
         )
 
 -- ---- the calls of a node of a plan
@@ -156,14 +157,14 @@ module _ (plan : PlanText) (run : RunView) (read : IsReadPlan plan) (node : ℕ)
   pub record Holds (s : ValueState) : Type 0 where
     pub memory : s.memory ≡ []
     pub keeps : run.store.id.cells.limits.keep_faults ≡ s.keep_faults
-    pub gave : GaveFew (keys_named plan) s
+    pub gave : GaveFew (keys_named plan) (most_numbers plan.size) s
     pub of_plan : IsOfPlan plan s
 
   holds : (call : Call) (s : ValueState) → Own call → Holds s → Holds (call_run plan path call s).state
   holds call s own before = record {
     memory = steps_memory plan.keys path (steps_of_call plan call) s before.memory;
     keeps = before.keeps ∙ sym (steps_faults plan.keys path (steps_of_call plan call) s);
-    gave = few_are_given (keys_named plan) plan.keys path (steps_of_call plan call) s before.gave (names_keys call own);
+    gave = few_are_given (keys_named plan) (most_numbers plan.size) plan.keys path (steps_of_call plan call) s before.gave (names_keys call own);
     of_plan = call_of plan node path call s read its own before.memory before.of_plan;
   }
 

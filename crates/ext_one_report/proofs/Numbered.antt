@@ -21,6 +21,7 @@ pub record IsNamed (places : Places) (key : KeyValue) (s : ValueState) : Type 0 
   pub matches : (run : RunView) (h : History) → Matches run places h s → Matches run places h state
   pub numbered : IsNumbered places state
   pub drawn : state.store ≡ s.store
+  pub numbers : state.numbers ≡ s.numbers
   pub values : state.values ≡ s.values
   pub faults : state.keep_faults ≡ s.keep_faults
 
@@ -37,6 +38,7 @@ named places key s room numbered =
         matches = λ run h matches. matches;
         numbered = numbered;
         drawn = refl;
+        numbers = refl;
         values = refl;
         faults = refl;
       }
@@ -49,6 +51,7 @@ named places key s room numbered =
         matches = λ run h matches. keys_keep_matches run places h key s none numbered matches;
         numbered = keys_keep_numbered places key s numbered;
         drawn = refl;
+        numbers = refl;
         values = refl;
         faults = refl;
       }

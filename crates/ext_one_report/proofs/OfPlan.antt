@@ -44,7 +44,7 @@ pub record IsOfPlan (plan : PlanText) (s : ValueState) : Type 0 where
 
 -- so it is before the first node,
 abbrev pub OpensOfPlan : Type 0
-OpensOfPlan = (plan : PlanText) (keeps : Bool) (places : ℕ) → IsOfPlan plan (value_opening keeps places)
+OpensOfPlan = (plan : PlanText) (keeps : Bool) (places numbers : ℕ) → IsOfPlan plan (value_opening keeps places numbers)
 
 -- the closes that fail all tell one text
 abbrev pub TellOneText : List (Option (List ℕ)) → Type 0

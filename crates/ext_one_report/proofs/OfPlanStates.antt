@@ -14,7 +14,7 @@ use Rattle.ext_model.proofs.Steps.{others_stay}
 use Rattle.ext_tree.specs.Keys.{KeyValue}
 use Rattle.ext_plan.specs.Plans.{PlanText}
 use Rattle.ext_plan.specs.Values.{ValueText, begins_with}
-use Rattle.ext_plain.specs.ValueStates.{ValueState, run_numbers, reply_to, after_act, why_refused, next_number, keep_value, value_of, with_number}
+use Rattle.ext_plain.specs.ValueStates.{ValueState, reply_to, after_act, why_refused, next_number, keep_value, value_of, with_number}
 use Rattle.ext_plain.specs.PlainRunLaws.{HasValues}
 use Rattle.ext_plain.proofs.Values.{act-values, keep-drawn, last_value}
 use Rattle.ext_one_report.proofs.StoredWords.{number_in}
@@ -173,7 +173,7 @@ module _ (plan : PlanText) where
   of_kept value s room h =
       let t = keep_value value s in
       let count : t.store.drawn ≡ suc s.store.drawn = keep-drawn value s room in
-      let same : (place : Place) → t.store.slots place ≡ s.store.slots place = λ place. others_stay run_numbers s.store any_lane (next_number s) place refl in
+      let same : (place : Place) → t.store.slots place ≡ s.store.slots place = λ place. others_stay s.numbers s.store any_lane (next_number s) place refl in
       let stood : (place : Place) (number : ℕ) → number_in (t.store.slots place) ≡ Some number → number_in (s.store.slots place) ≡ Some number = λ place number is. ap number_in (sym (same place)) ∙ is in
       record {
         of = record {
@@ -240,7 +240,7 @@ module _ (plan : PlanText) where
 -- ---- before the first node
 
 pub opens_of_plan : OpensOfPlan
-opens_of_plan plan keeps places = record {
+opens_of_plan plan keeps places numbers = record {
   once = λ place other number first second. absurd cc;
   drawn = λ place number is. absurd cc;
   values = refl;

@@ -16,7 +16,7 @@ use Rattle.ext_plan.specs.StepCalls.{label_of, start_of}
 use Rattle.ext_plan.specs.StoreKeys.{is_there, key_of_step, place_of_key}
 use Rattle.ext_plan.specs.Values.{ValueText}
 use Rattle.ext_plan.proofs.KeyLists.{place_last, not_contained}
-use Rattle.ext_plain.specs.ValueStates.{ValueState, enough, run_numbers, with_number}
+use Rattle.ext_plain.specs.ValueStates.{ValueState, enough, with_number}
 use Rattle.ext_plain.specs.StepRuns.{StepEnd, compute_looked, compute_numbered, factory_gave, found_along, number_by, numbered_by, step_run}
 use Rattle.ext_plain.proofs.Numberings.{is_known, is_next, there_then}
 use Rattle.ext_one_report.proofs.PlanCells.{changed_by}
@@ -61,6 +61,7 @@ record IsNamedThere (key : KeyValue) (s : ValueState) : Type 0 where
   goes : (name label : List ℕ) (goes_on : ℕ → ValueState → StepEnd) → numbered_by enough name label key goes_on s ≡ goes_on (place_of_key state.keys key) state
   leaves : LeavesElse (λ context other. false) no_context s state
   store : state.store ≡ s.store
+  numbers : state.numbers ≡ s.numbers
   values : state.values ≡ s.values
 
 less_is : (a b : ℕ) → a < b → nat_lt a b ≡ true
@@ -75,6 +76,7 @@ named_there key s room =
         goes = λ name label goes_on. ap (number_by enough name label key goes_on s) (is_known s.places s.keys key there);
         leaves = leaves_itself (λ context other. false) no_context s;
         store = refl;
+        numbers = refl;
         values = refl;
       }
       | inr none ↦ record {
@@ -85,6 +87,7 @@ named_there key s room =
             ∙ ap (λ n. goes_on n (with_number key s)) (sym (place_last s.keys key none));
         leaves = leaves_named (λ context other. false) no_context key s none;
         store = refl;
+        numbers = refl;
         values = refl;
       }
     ]
@@ -102,7 +105,7 @@ pub record PlainEnds (context : ℕ) (key : KeyValue) (v : ValueText) (end : Ste
 nowhere : (t : ValueState) → t.store.drawn ≡ length t.values → IsNumbered (λ context key. false) t
 nowhere t drawn = record { beyond = λ context key number is past. absurd (cc is); drawn = drawn }
 
-module _ (name label : List ℕ) (context : ℕ) (above : List ℕ) (key : KeyValue) (v : ValueText) (t : ValueState) (there : is_there t.keys key ≡ true) (left : t.store.drawn < run_numbers)
+module _ (name label : List ℕ) (context : ℕ) (above : List ℕ) (key : KeyValue) (v : ValueText) (t : ValueState) (there : is_there t.keys key ≡ true) (left : t.store.drawn < t.numbers)
     (drawn : t.store.drawn ≡ length t.values) (none : All (λ c. plain_slot t c key ≡ None) above) where
   abbrev its_end : StepEnd
   its_end = compute_looked name label (context, place_of_key t.keys key) v t (found_along (place_of_key t.keys key) (context ∷ above) t)
@@ -148,7 +151,7 @@ plain_ends keys name key context above v s room drawn clear clear_above none nea
     let k : KeyValue = key_of_step keys key in
     let it : IsNamedThere k s = named_there k s room.keys in
     let t : ValueState = it.state in
-    let left : t.store.drawn < run_numbers = subst (λ (st : State Place). st.drawn < run_numbers) (sym it.store) room.numbers in
+    let left : t.store.drawn < t.numbers = subst (λ n. t.store.drawn < n) (sym it.numbers) (subst (λ (st : State Place). st.drawn < s.numbers) (sym it.store) room.numbers) in
     let drawn_then : t.store.drawn ≡ length t.values = ap (λ (st : State Place). st.drawn) it.store ∙ (drawn ∙ ap length (sym it.values)) in
     let none_then : All (λ c. plain_slot t c k ≡ None) above = λ i d less. it.leaves.slots (slice_index_or above i d) k refl refl (clear_above i d less) ∙ none i d less in
     let near_then : StandsOrNot (plain_meaning t.values) v (plain_slot s context k) = subst (λ vs. StandsOrNot (plain_meaning vs) v (plain_slot s context k)) (sym it.values) near in

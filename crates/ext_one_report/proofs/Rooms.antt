@@ -1,5 +1,5 @@
 -- Each step of a plain run draws one number at most, and numbers one key at most.
-use Rattle.std.proofs.Common.{◌≡◌, ◌≤◌, ◌<◌, ℕ, ◌+◌, suc, inl, inr, Bool, true, false, List, [], ◌∷◌, ◌++◌, length, length-append, Option, None, Some, Contains, refl, sym, subst, arith}
+use Rattle.std.proofs.Common.{◌≡◌, ◌≤◌, ◌<◌, ℕ, ◌+◌, suc, inl, inr, Bool, true, false, List, [], ◌∷◌, ◌++◌, length, length-append, Option, None, Some, Contains, refl, sym, subst, ◌∙◌, arith}
 use Rattle.std.specs.Prelude.{All, IfSome, if◌then◌else◌, nat_lt}
 use Rattle.std.proofs.lemmas.Bool.{ltb-true}
 use Rattle.std.proofs.lemmas.List.Elements.{All-push}
@@ -20,13 +20,13 @@ use Rattle.ext_plan.specs.Steps.{step_key}
 use Rattle.ext_plan.specs.StoreKeys.{is_there, key_of_step}
 use Rattle.ext_plan.specs.Values.{ValueText}
 use Rattle.ext_plan.proofs.KeyLists.{not_contained}
-use Rattle.ext_plain.specs.ValueStates.{Numbering, ValueState, after_act, enough, full, keep_value, known, next, next_number, numbering_of, run_numbers, why_refused, with_number}
+use Rattle.ext_plain.specs.ValueStates.{Numbering, ValueState, after_act, enough, full, keep_value, known, next, next_number, numbering_of, why_refused, with_number}
 use Rattle.ext_plain.specs.StepRuns.{StepEnd, acts_by, call_by, claim_and, compute_looked, compute_numbered, computefail_looked, ended, factory_failed, factory_gave, found_along, kept_or_refused, number_by, numbered_by, or_refused, put_by, put_in, step_run, steps_run}
 use Rattle.ext_plain.specs.PlainRunLaws.{HasValues, NamesOneOf, NumbersKeys}
 use Rattle.ext_plain.proofs.Kept.{IsKept, IsKeptNaming, step-kept-by, steps-kept-by}
 use Rattle.ext_plain.proofs.Named.{OfKeys, numbers-once, of-keys}
 use Rattle.ext_plain.proofs.Numberings.{is_full}
-use Rattle.ext_plain.proofs.PlacesStay.{keeps-places}
+use Rattle.ext_plain.proofs.LimitsStay.{keeps-limits}
 use Rattle.ext_plain.proofs.Rooms.{has_room}
 use Rattle.ext_plain.proofs.Values.{act-values, keep-drawn}
 use Rattle.ext_one_report.proofs.StepsWords.{HasRoom}
@@ -34,13 +34,14 @@ use Rattle.ext_one_report.proofs.CallsWords.{StepsHaveRoom}
 use Rattle.ext_one_report.proofs.Calls.{all_first, all_later, plain_goes, plain_stops, step_memory}
 use Rattle.ext_plain.proofs.Stepping.{steps_run-nil}
 
--- Each number that was drawn is that of a value, each key has one number at most, only keys of this list have any, and
--- there is a place for each of them
-pub record GaveFew (names : List KeyValue) (s : ValueState) : Type 0 where
+-- Each number that was drawn is that of a value, each key has one number at most, only keys of this list have any, there
+-- is a place for each of them, and so many numbers can be drawn
+pub record GaveFew (names : List KeyValue) (numbers : ℕ) (s : ValueState) : Type 0 where
   pub values : HasValues s
   pub keys : NumbersKeys s
   pub named : All (Contains names) s.keys
   pub room : length names ≤ s.places
+  pub limit : s.numbers ≡ numbers
 
 -- ---- a step keeps one value at most
 
@@ -174,7 +175,7 @@ step_values keys path step s h = step-kept-by HasValues valued keys enough path 
 steps_values : (keys : List KeyText) (path : List ℕ) (steps : List StepText) (s : ValueState) → HasValues s → HasValues (steps_run keys path steps s).state
 steps_values keys path steps s h = steps-kept-by HasValues valued keys path steps s (λ k d inside. by_any HasValues keys (step_key _) valued_naming) h
 
-module _ (names : List KeyValue) where
+module _ (names : List KeyValue) (numbers : ℕ) where
   abbrev Within : List KeyValue → Type 0
   Within keys = All (Contains names) keys
 
@@ -185,34 +186,36 @@ module _ (names : List KeyValue) where
   by_named keys None there = tt
   by_named keys (Some key) there = naming (key_of_step keys key) there
 
-  step_given : (keys : List KeyText) (path : List ℕ) (step : StepText) (s : ValueState) → GaveFew names s → NamesOneOf names keys step → GaveFew names (step_run keys path step s).state
+  step_given : (keys : List KeyText) (path : List ℕ) (step : StepText) (s : ValueState) → GaveFew names numbers s → NamesOneOf names keys step → GaveFew names numbers (step_run keys path step s).state
   step_given keys path step s few named = record {
     values = step_values keys path step s few.values;
     keys = numbers-once.step keys enough path step s few.keys;
     named = step-kept-by (OfKeys Within) (of-keys Within) keys enough path step s (by_named keys (step_key step) named) few.named;
-    room = subst (λ n. length names ≤ n) (sym (keeps-places.step keys enough path step s)) few.room;
+    room = subst (λ n. length names ≤ n) (sym (keeps-limits.step keys enough path step s).places) few.room;
+    limit = (keeps-limits.step keys enough path step s).numbers ∙ few.limit;
   }
 
-  pub few_are_given : (keys : List KeyText) (path : List ℕ) (steps : List StepText) (s : ValueState) → GaveFew names s → All (NamesOneOf names keys) steps → GaveFew names (steps_run keys path steps s).state
+  pub few_are_given : (keys : List KeyText) (path : List ℕ) (steps : List StepText) (s : ValueState) → GaveFew names numbers s → All (NamesOneOf names keys) steps → GaveFew names numbers (steps_run keys path steps s).state
   few_are_given keys path steps s few named = record {
     values = steps_values keys path steps s few.values;
     keys = numbers-once.steps keys path steps s few.keys;
     named = steps-kept-by (OfKeys Within) (of-keys Within) keys path steps s (λ k d inside. by_named keys (step_key _) (named k d inside)) few.named;
-    room = subst (λ n. length names ≤ n) (sym (keeps-places.steps keys path steps s)) few.room;
+    room = subst (λ n. length names ≤ n) (sym (keeps-limits.steps keys path steps s).places) few.room;
+    limit = (keeps-limits.steps keys path steps s).numbers ∙ few.limit;
   }
 
   -- ---- room
 
-  key_room : (s : ValueState) (key : KeyValue) → GaveFew names s → Contains names key → is_there s.keys key ≡ false → length s.keys < s.places
+  key_room : (s : ValueState) (key : KeyValue) → GaveFew names numbers s → Contains names key → is_there s.keys key ≡ false → length s.keys < s.places
   key_room s key few there none =
       elim (bools (nat_lt (length s.keys) s.places)) [
         | inl is ↦ ltb-true (length s.keys) s.places is
         | inr over ↦ absurd (has_room s.places names s.keys key few.room few.keys.different few.named there (is_full s.places s.keys key (not_contained s.keys key none) over))
       ]
 
-  room_of : (keys : List KeyText) (o : Option StepKeyText) (s : ValueState) → GaveFew names s → s.store.drawn < run_numbers → IfSome o (λ key. Contains names (key_of_step keys key)) → IfSome o (λ key. HasRoom (key_of_step keys key) s)
+  room_of : (keys : List KeyText) (o : Option StepKeyText) (s : ValueState) → GaveFew names numbers s → s.store.drawn < numbers → IfSome o (λ key. Contains names (key_of_step keys key)) → IfSome o (λ key. HasRoom (key_of_step keys key) s)
   room_of keys None s few drawn there = tt
-  room_of keys (Some key) s few drawn there = record { numbers = drawn; keys = key_room s (key_of_step keys key) few there }
+  room_of keys (Some key) s few drawn there = record { numbers = subst (λ n. s.store.drawn < n) (sym few.limit) drawn; keys = key_room s (key_of_step keys key) few there }
 
 drawn_few : (keys : List KeyText) (path : List ℕ) (step : StepText) (s : ValueState) → HasValues s → (step_run keys path step s).state.store.drawn ≤ s.store.drawn + 1
 drawn_few keys path step s h =
@@ -220,14 +223,14 @@ drawn_few keys path step s h =
     let later = step_values keys path step s h in
     omega (arith, few, later, h)
 
-pub few_have_room : (names : List KeyValue) (keys : List KeyText) (path : List ℕ) (steps : List StepText) (s : ValueState)
-    → GaveFew names s → All (NamesOneOf names keys) steps → s.store.drawn + length steps ≤ run_numbers → StepsHaveRoom keys path steps s
-few_have_room names keys path [] s few named count = tt
-few_have_room names keys path (step ∷ more) s few named count =
+pub few_have_room : (names : List KeyValue) (numbers : ℕ) (keys : List KeyText) (path : List ℕ) (steps : List StepText) (s : ValueState)
+    → GaveFew names numbers s → All (NamesOneOf names keys) steps → s.store.drawn + length steps ≤ numbers → StepsHaveRoom keys path steps s
+few_have_room names numbers keys path [] s few named count = tt
+few_have_room names numbers keys path (step ∷ more) s few named count =
     let one = all_first (NamesOneOf names keys) step more named in
     let drawn = drawn_few keys path step s few.values in (
-      room_of names keys (step_key step) s few (omega (arith, count)) one,
-      λ on. few_have_room names keys path more (step_run keys path step s).state (step_given names keys path step s few one) (all_later (NamesOneOf names keys) step more named) (omega (arith, count, drawn)),
+      room_of names numbers keys (step_key step) s few (omega (arith, count)) one,
+      λ on. few_have_room names numbers keys path more (step_run keys path step s).state (step_given names numbers keys path step s few one) (all_later (NamesOneOf names keys) step more named) (omega (arith, count, drawn)),
     )
 
 pub steps_draw_few : (keys : List KeyText) (path : List ℕ) (steps : List StepText) (s : ValueState) → HasValues s → s.memory ≡ [] → (steps_run keys path steps s).state.store.drawn ≤ s.store.drawn + length steps

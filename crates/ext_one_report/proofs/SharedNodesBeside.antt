@@ -4,6 +4,7 @@ use Rattle.std.specs.Prelude.{All, Contains}
 use Rattle.std.proofs.lemmas.List.Elements.{All-contains, Contains-get_or}
 use Rattle.ext_history.proofs.Lists.{bools, contains_later}
 use Rattle.ext_model.specs.History.{slots_in}
+use Rattle.ext_model.specs.Sizes.{most_numbers}
 use Rattle.ext_tree.specs.Keys.{KeyValue}
 use Rattle.ext_tree.specs.Trees.{IsPathOf}
 use Rattle.ext_plan.specs.Values.{ValueText}
@@ -13,7 +14,6 @@ use Rattle.ext_engine.proofs.Acts.{shorter}
 use Rattle.ext_one_report.specs.Changing.{events_at}
 use Rattle.ext_one_report.proofs.Kept.{same_there}
 use Rattle.ext_plain.specs.PlainRun.{RunState}
-use Rattle.ext_plain.specs.ValueStates.{run_numbers}
 use Rattle.ext_one_report.proofs.MatchingWords.{HasNumberIn, cell_of, plain_meaning, plain_slot}
 use Rattle.ext_one_report.proofs.StandingsWords.{AreMatched, KnowsMore}
 use Rattle.ext_one_report.proofs.Matching.{knows_itself}
@@ -79,7 +79,7 @@ no_value : (o : Option ValueText) → (is_some o ≡ true → ⊥) → o ≡ Non
 no_value None none = refl
 no_value (Some v) none = absurd (none refl)
 
-module _ (g : Ground) (b : Body g) (each : ChildrenEnd g) (drawn : (after_all g b.r (cs g b)).state.store.drawn < run_numbers) where
+module _ (g : Ground) (b : Body g) (each : ChildrenEnd g) (drawn : (after_all g b.r (cs g b)).state.store.drawn < most_numbers g.plan.size) where
   abbrev count : ℕ
   count = length (cs g b)
 

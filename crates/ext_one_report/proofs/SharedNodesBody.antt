@@ -10,6 +10,7 @@ use Rattle.ext_model.specs.declared.look.Look.TheVariants as look
 use Rattle.ext_model.specs.CallActs.{look_after}
 use Rattle.ext_model.specs.Events.{place_of}
 use Rattle.ext_model.specs.History.{History, slots_in}
+use Rattle.ext_model.specs.Sizes.{most_numbers}
 use Rattle.ext_tree.specs.Keys.{KeyValue}
 use Rattle.ext_tree.specs.Trees.{Id, IsParentOf, IsPathOf, IsTree, children_of}
 use Rattle.ext_tree.proofs.TreeLaws.{parents_list_children}
@@ -29,7 +30,6 @@ use Rattle.ext_one_report.specs.Changing.{events_at}
 use Rattle.ext_one_report.proofs.Containers.{are_children, is_concurrent_child}
 use Rattle.ext_one_report.proofs.Kept.{same_there}
 use Rattle.ext_parallel.specs.declared.steps.stored_value.StoredValue.{StoredValue}
-use Rattle.ext_plain.specs.ValueStates.{run_numbers}
 use Rattle.ext_plain.specs.PlainRun.{RunState, node_run}
 use Rattle.ext_one_report.proofs.MatchingWords.{HasNumberIn, Places, RunView, cell_of, plain_meaning, plain_slot}
 use Rattle.ext_one_report.proofs.StepsWords.{IsLaneIn}
@@ -98,7 +98,7 @@ module _ (g : Ground) where
   abbrev pub ChildrenEnd : Type 0
   ChildrenEnd =
       (child : ℕ) (o : Open) (s : Lanes StoredValue) (ran : List Ran) (u : Lanes StoredValue) (r : RunState) → IsChild child → ChildRun over g.depth child s ran u
-      → BeginsNear g.plan g.run g.locks g.h g.touched g.changes g.changed g.shares child o s u r → (step r child).state.store.drawn < run_numbers
+      → BeginsNear g.plan g.run g.locks g.h g.touched g.changes g.changed g.shares child o s u r → (step r child).state.store.drawn < most_numbers g.plan.size
       → Ends g.plan g.run g.locks g.h g.touched g.changes g.changed g.shares child o s ran u r (step r child)
 
   abbrev pub beside_ones : List ℕ

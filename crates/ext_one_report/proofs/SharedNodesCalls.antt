@@ -6,6 +6,7 @@ use Rattle.ext_history.specs.Histories.{seen_by}
 use Rattle.ext_history.proofs.Legal.{legal_begun}
 use Rattle.ext_model.specs.declared.event.Event.{Event}
 use Rattle.ext_model.specs.History.{History}
+use Rattle.ext_model.specs.Sizes.{most_numbers}
 use Rattle.ext_tree.specs.Keys.{KeyValue}
 use Rattle.ext_tree.specs.Trees.{IsPathOf}
 use Rattle.ext_lifecycle.specs.declared.call.Call.{Call}
@@ -23,7 +24,7 @@ use Rattle.ext_engine.specs.Order.{IsMadeIn, LaneGoesOn}
 use Rattle.ext_engine.proofs.Acts.{Acts, same_made}
 use Rattle.ext_parallel.specs.StoreCalls.{PlanLane}
 use Rattle.ext_plain.specs.NodeCalls.{CallsEnd, call_run, make_all, make_befores, no_calls}
-use Rattle.ext_plain.specs.ValueStates.{ValueState, run_numbers}
+use Rattle.ext_plain.specs.ValueStates.{ValueState}
 use Rattle.ext_plain.proofs.Nodes.{start_is}
 use Rattle.ext_one_report.proofs.CallListsWords.{CallFits}
 use Rattle.ext_one_report.proofs.MatchingWords.{Matches, Places, RunView, cell_of}
@@ -232,7 +233,7 @@ module _ (g : Ground) where
     held_here = record { memory = since.level.memory; keeps = since.level.keeps; gave = since.level.gave; of_plan = since.level.of_plan }
 
     pub befores_called : (calls : List Call) (os : List Outcome) → All Own calls → MakesBefores (MakesFully g.plan g.run g.locks g.node None) calls a os b
-        → (make_befores (call_run g.plan g.path) calls (no_calls s)).state.store.drawn < run_numbers → Called os (make_befores (call_run g.plan g.path) calls (no_calls s))
+        → (make_befores (call_run g.plan g.path) calls (no_calls s)).state.store.drawn < most_numbers g.plan.size → Called os (make_befores (call_run g.plan g.path) calls (no_calls s))
     befores_called [] os own made drawn = record {
       near = subst (λ (l : List Outcome). CallsNear l (no_calls s)) (sym made.0) (record { says = refl; counts = refl });
       counted = λ nothing. subst (λ (l : List Outcome). AreCounted l (no_calls s)) (sym made.0) (record { computed = refl; found = refl });
@@ -241,7 +242,7 @@ module _ (g : Ground) where
     }
     befores_called (call ∷ calls) os own made drawn =
         let all = call ∷ calls in
-        let room = befores_room (keys_named g.plan) g.plan g.path all (no_calls s) refl (each_of Own Named all named own) since.level.gave since.level.memory drawn in
+        let room = befores_room (keys_named g.plan) (most_numbers g.plan.size) g.plan g.path all (no_calls s) refl (each_of Own Named all named own) since.level.gave since.level.memory drawn in
         let its = beside (first_of_befores g.plan g.run g.locks g.node None call calls a os b made) in
         let finds = befores_find g.plan g.run g.locks g.node None all a os b made in
         let makes = befores_made g.plan g.run g.locks g.node None all a os b made in
@@ -257,7 +258,7 @@ module _ (g : Ground) where
         }
 
     pub all_called : (calls : List Call) (before os : List Outcome) (e : CallsEnd) → e.state ≡ s → CallsNear before e → (SharesNothing (g.shares g.node) → AreCounted before e) → All Own calls → MakesAll (MakesFully g.plan g.run g.locks g.node None) calls a os b
-        → (make_all (call_run g.plan g.path) calls e).state.store.drawn < run_numbers → Called (before ++ os) (make_all (call_run g.plan g.path) calls e)
+        → (make_all (call_run g.plan g.path) calls e).state.store.drawn < most_numbers g.plan.size → Called (before ++ os) (make_all (call_run g.plan g.path) calls e)
     all_called [] before os e at near counted own made drawn = record {
       near = subst (λ (l : List Outcome). CallsNear (before ++ l) e) (sym made.0) (subst (λ (l : List Outcome). CallsNear l e) (sym (append-nil before)) near);
       counted = λ nothing.
@@ -269,7 +270,7 @@ module _ (g : Ground) where
         let all = call ∷ calls in
         let B : ValueState → Type 0 = λ t. AreBesideOpen g.run g.path places o a b t in
         let held : Holds e.state = subst Holds (sym at) held_here in
-        let room = all_room (keys_named g.plan) g.plan g.path all e (each_of Own Named all named own) held.gave held.memory drawn in
+        let room = all_room (keys_named g.plan) (most_numbers g.plan.size) g.plan g.path all e (each_of Own Named all named own) held.gave held.memory drawn in
         let its : AreBesideOpen g.run g.path places o a b e.state = subst B (sym at) (beside (first_of_all g.plan g.run g.locks g.node None call calls a os b made)) in
         let finds = all_find g.plan g.run g.locks g.node None all a os b made in
         let makes = all_made g.plan g.run g.locks g.node None all a os b made in

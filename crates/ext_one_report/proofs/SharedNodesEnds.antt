@@ -7,6 +7,7 @@ use Rattle.std.proofs.lemmas.List.Elements.{All-append, All-contains, Contains-g
 use Rattle.ext_history.specs.Histories.{seen_by}
 use Rattle.ext_history.proofs.Lists.{bools, contains_cons, contains_here, contains_none}
 use Rattle.ext_model.specs.History.{History}
+use Rattle.ext_model.specs.Sizes.{most_numbers}
 use Rattle.ext_tree.specs.Keys.{KeyValue}
 use Rattle.ext_tree.specs.Trees.{Id, IsParentOf, IsPathOf, IsTree, children_of}
 use Rattle.ext_tree.proofs.TreeLaws.{paths_are_unique}
@@ -37,7 +38,7 @@ use Rattle.ext_one_report.proofs.Containers.{Tree, at, body_acts_in, go}
 use Rattle.ext_one_report.proofs.Parts.{no_acts}
 use Rattle.ext_parallel.specs.declared.steps.stored_value.StoredValue.{StoredValue}
 use Rattle.ext_parallel.specs.StoreCalls.{PlanLane}
-use Rattle.ext_plain.specs.ValueStates.{ValueState, run_numbers}
+use Rattle.ext_plain.specs.ValueStates.{ValueState}
 use Rattle.ext_plain.specs.ContextEnds.{faults_of_closes, seal_keys}
 use Rattle.ext_plain.specs.NodeCalls.{CallsEnd, afters_run, befores_run, no_calls}
 use Rattle.ext_plain.specs.PlainRun.{RunState, body_run, container_run, node_run, outcome_of, test_node_run, with_result}
@@ -237,14 +238,14 @@ module _ (g : Ground) (container : is_some (test_of g.plan g.node) ≡ false) (e
     | inr off ↦ subst Kept (sym (bodied_off off)) (record { fine = opened_fine; drawn = omega arith })
   ]
 
-  module _ (drawn : sealed.store.drawn < run_numbers) where
-    called_drawn : called_end.state.store.drawn < run_numbers
+  module _ (drawn : sealed.store.drawn < most_numbers g.plan.size) where
+    called_drawn : called_end.state.store.drawn < most_numbers g.plan.size
     called_drawn = let one = (seals_leave g.node called_end.state).drawn in omega (arith, one, drawn)
 
-    bodied_drawn : bodied_run.state.store.drawn < run_numbers
+    bodied_drawn : bodied_run.state.store.drawn < most_numbers g.plan.size
     bodied_drawn = let one = all_draw g.plan g.path afters (record opened_end { state = bodied_run.state }) kept.fine.memory in let last = called_drawn in omega (arith, one, last)
 
-    opened_drawn : opened_end.state.store.drawn < run_numbers
+    opened_drawn : opened_end.state.store.drawn < most_numbers g.plan.size
     opened_drawn = let one = kept.drawn in let last = bodied_drawn in omega (arith, one, last)
 
     no_child : (x : ℕ) → Contains [] x → IsChild g x
@@ -285,7 +286,7 @@ module _ (g : Ground) (container : is_some (test_of g.plan g.node) ≡ false) (e
         let begun : Lanes StoredValue = record { first = lanes_run.opened; second = before.second } in
         let body = lanes_run.body_made.made on in
         let is = bodied_on (went_on ∙ on) in
-        let last : (after_all g (after_all g opened_run first_ones) later_ones).state.store.drawn < run_numbers = subst (λ (q : RunState). q.state.store.drawn < run_numbers) is bodied_drawn in
+        let last : (after_all g (after_all g opened_run first_ones) later_ones).state.store.drawn < most_numbers g.plan.size = subst (λ (q : RunState). q.state.store.drawn < most_numbers g.plan.size) is bodied_drawn in
         let turned = body_turned g w each begun lanes_run.below lanes_run.body body bodied_in bodied_within opening from_bodied opened.later opened_run opened_fine since_opened last in
         record {
           done = turned.done;
@@ -532,7 +533,7 @@ module _ (plan : PlanText) (run : RunView) (locks : LocksView) (h : History) (to
 
   pub node_ends : (depth levels node : ℕ) (path : List ℕ) (o : Open) (before : Lanes StoredValue) (ran : List Ran) (after : Lanes StoredValue) (r : RunState) → IsPathOf run.store.tree node path
       → length plan.nodes < levels + length path → ChildRun setting depth node before ran after → BeginsNear plan run locks h touched changes changed shares node o before after r
-      → (node_run plan levels path r).state.store.drawn < run_numbers → Ends plan run locks h touched changes changed shares node o before ran after r (node_run plan levels path r)
+      → (node_run plan levels path r).state.store.drawn < most_numbers plan.size → Ends plan run locks h touched changes changed shares node o before ran after r (node_run plan levels path r)
   node_ends zero levels node path o before ran after r path_is deep tree_run begins drawn = absurd tree_run
   node_ends (suc depth) levels node path o before ran after r path_is deep tree_run begins drawn =
       let tree = plan_tree plan run locks h touched changes changed shares basis in
@@ -542,7 +543,7 @@ module _ (plan : PlanText) (run : RunView) (locks : LocksView) (h : History) (to
       let inside = within_nodes plan node path tree in_ids in
       let some : levels ≢ 0 = λ none. omega (arith, none, deep, short, inside) in
       let E : RunState → Type 0 = λ q. Ends plan run locks h touched changes changed shares node o before ran after r q in
-      let D : RunState → Type 0 = λ q. q.state.store.drawn < run_numbers in
+      let D : RunState → Type 0 = λ q. q.state.store.drawn < most_numbers plan.size in
       elim (bools (is_some (test_of plan node))) [
         | inl test ↦
             let is : node_run plan levels path r ≡ test_node_run plan node path r = node_run-more plan levels path r node true some (start_is (ids_of_nodes plan.nodes) node path in_ids) test in

@@ -7,12 +7,12 @@ use Rattle.ext_history.proofs.Lists.{bools}
 use Rattle.ext_model.specs.declared.event.Event.{Event}
 use Rattle.ext_model.specs.Events.{place_of}
 use Rattle.ext_model.specs.History.{slots_in}
+use Rattle.ext_model.specs.Sizes.{most_numbers}
 use Rattle.ext_tree.specs.Keys.{KeyValue}
 use Rattle.ext_plan.specs.Values.{ValueText}
 use Rattle.ext_engine.specs.Meeting.{first_seen}
 use Rattle.ext_engine.specs.Order.{IsMadeIn}
 use Rattle.ext_plain.specs.PlainRun.{RunState, node_run}
-use Rattle.ext_plain.specs.ValueStates.{run_numbers}
 use Rattle.ext_one_report.proofs.MatchingWords.{HasNumberIn, Places, cell_of, plain_meaning, plain_slot}
 use Rattle.ext_one_report.proofs.StandingsWords.{AreMatched}
 use Rattle.ext_one_report.proofs.OnCells.{same_slot}
@@ -39,7 +39,7 @@ fold_next f r [] i less = absurd (omega (arith, less))
 fold_next f r (c ∷ cs) zero less = refl
 fold_next f r (c ∷ cs) (suc i) less = fold_next f (f r c) cs i (omega (arith, less))
 
-module _ (g : Ground) (b : Body g) (each : ChildrenEnd g) (drawn : (after_all g b.r (cs g b)).state.store.drawn < run_numbers) where
+module _ (g : Ground) (b : Body g) (each : ChildrenEnd g) (drawn : (after_all g b.r (cs g b)).state.store.drawn < most_numbers g.plan.size) where
   -- ---- the plain run
 
   -- the children behind it

@@ -6,6 +6,7 @@ use base.Growing.{prefix_trans}
 use Rattle.std.proofs.lemmas.List.Elements.{All-contains, Contains-get_or}
 use Rattle.ext_history.proofs.Lists.{bools, contains_cons, contains_here, contains_later}
 use Rattle.ext_model.specs.History.{slots_in}
+use Rattle.ext_model.specs.Sizes.{most_numbers}
 use Rattle.ext_tree.specs.Keys.{KeyValue}
 use Rattle.ext_plan.specs.Values.{ValueText}
 use Rattle.ext_engine.specs.Meeting.{HasSeenWithin, first_seen}
@@ -19,7 +20,7 @@ use Rattle.ext_one_report.proofs.Parts.{first_within, no_acts}
 use Rattle.ext_parallel.specs.declared.steps.stored_value.StoredValue.{StoredValue}
 use Rattle.ext_parallel.specs.StoreCalls.{PlanLane}
 use Rattle.ext_plain.specs.PlainRun.{RunState}
-use Rattle.ext_plain.specs.ValueStates.{ValueState, run_numbers}
+use Rattle.ext_plain.specs.ValueStates.{ValueState}
 use Rattle.ext_one_report.proofs.MatchingWords.{HasNumberIn, Places, cell_of, plain_meaning, plain_slot}
 use Rattle.ext_one_report.proofs.StandingsWords.{AreMatched}
 use Rattle.ext_one_report.proofs.StepsWords.{IsLaneIn}
@@ -114,7 +115,7 @@ module _ (g : Ground) (w : Whole g) where
 
   module _ (each : ChildrenEnd g) (c : ℕ) (parent : IsChild g c) (before : List ℕ) (others : (x : ℕ) → Contains before x → IsChild g x × (x ≢ c)) (o : Open) (s : Lanes StoredValue) (ran : List Ran) (m : Lanes StoredValue) (r : RunState)
       (child : ChildRun (over g) g.depth c s ran m) (m_within : All (HasSeenWithin g.h) m.first) (m_known : All (IsLaneIn g.run) m.first) (pre : Acts g.h w.first s.first) (acts : Acts g.h s.first m.first)
-      (post : Acts g.h m.first w.last) (fine : IsFine g.plan r) (since : Since before o s.first r.state) (drawn : (step g r c).state.store.drawn < run_numbers) where
+      (post : Acts g.h m.first w.last) (fine : IsFine g.plan r) (since : Since before o s.first r.state) (drawn : (step g r c).state.store.drawn < most_numbers g.plan.size) where
     abbrev oc : Open
     oc = only_touched (g.touched c) o
 

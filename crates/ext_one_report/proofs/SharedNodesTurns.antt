@@ -5,6 +5,7 @@ use Rattle.std.specs.List.{FoldsTo, flat_map}
 use Rattle.std.proofs.lemmas.List.Elements.{Contains-get_or}
 use Rattle.ext_history.proofs.Lists.{contains_cons, contains_here, contains_later, contains_none}
 use Rattle.ext_history.proofs.Once.{Once}
+use Rattle.ext_model.specs.Sizes.{most_numbers}
 use Rattle.ext_engine.specs.RunLaws.{HasRun}
 use Rattle.ext_engine.specs.Meeting.{HasSeenWithin, first_seen}
 use Rattle.ext_engine.specs.Order.{CallsGoOn, ChildRun}
@@ -19,7 +20,6 @@ use Rattle.ext_one_report.proofs.Containers.{Tree, at, go}
 use Rattle.ext_parallel.specs.declared.steps.stored_value.StoredValue.{StoredValue}
 use Rattle.ext_parallel.specs.StoreCalls.{PlanLane}
 use Rattle.ext_plain.specs.PlainRun.{RunState, node_run}
-use Rattle.ext_plain.specs.ValueStates.{run_numbers}
 use Rattle.ext_one_report.proofs.StepsWords.{IsLaneIn}
 use Rattle.ext_one_report.specs.Shares.{Open}
 use Rattle.ext_one_report.proofs.Shared.{unshared}
@@ -73,7 +73,7 @@ module _ (g : Ground) where
     turns : (entries : List Entry) (before : List ℕ) (o : Open) (s u : Lanes StoredValue) (r : RunState) → FoldsTo (λ s d u. Run d.0 s d.1 u) s entries u
         → ((x : ℕ) → Contains (map (λ e. e.0) entries) x → Contains (turn_ones g) x) → Once (map (λ e. e.0) entries) → ((x : ℕ) → Contains before x → IsChild g x)
         → ((x : ℕ) → Contains before x → Contains (map (λ e. e.0) entries) x → ⊥) → All (IsLaneIn g.run) u.first → All (HasSeenWithin g.h) u.first → Acts g.h w.first s.first → Acts g.h u.first w.last → IsFine g.plan r
-        → Since g w before o s.first r.state → (after_all g r (map (λ e. e.0) entries)).state.store.drawn < run_numbers
+        → Since g w before o s.first r.state → (after_all g r (map (λ e. e.0) entries)).state.store.drawn < most_numbers g.plan.size
         → Turned (map (λ e. e.0) entries) (flat_map (λ e. e.1) entries) u.first r (after_all g r (map (λ e. e.0) entries))
     turns [] before o s u r same in_turn once are apart known within pre post fine since drawn = record {
       done = before;
@@ -97,7 +97,7 @@ module _ (g : Ground) where
         let rest_children : All (IsChild g) rest = λ k d less. turn_child g _ (in_turn _ (contains_later c rest _ (Contains-get_or rest k d less))) in
         let fine_m = child_fine g.plan g.touched g.changes g.basis.read g.basis.covered g.levels g.node g.path (path_in g) r c parent fine in
         let more_drawn = all_leave_drawn rest (step g r c) rest_children fine_m in
-        let few : (step g r c).state.store.drawn < run_numbers = omega (arith, more_drawn, drawn) in
+        let few : (step g r c).state.store.drawn < most_numbers g.plan.size = omega (arith, more_drawn, drawn) in
         let end = ends_c g w each c parent before others o s e.1 m r runs.1 m_within m_known pre acts post_m fine since few in
         let since_m = since_c g w each c parent before others o s e.1 m r runs.1 m_within m_known pre acts post_m fine since few in
         let more = turns entries (c ∷ before) _ m u (step g r c) runs.2 (λ x there. in_turn x (contains_later c rest x there)) once.1
@@ -118,7 +118,7 @@ module _ (g : Ground) where
 
     module _ (opened : Lanes StoredValue) (below : List Ran) (after : Lanes StoredValue) (body : BodyRun (over g) (ChildRun (over g) g.depth) g.node opened below after) (known : All (IsLaneIn g.run) after.first)
         (within : All (HasSeenWithin g.h) after.first) (pre : Acts g.h w.first opened.first) (post : Acts g.h after.first w.last) (o : Open) (r : RunState) (fine : IsFine g.plan r) (since : Since g w [] o opened.first r.state)
-        (drawn : (after_all g (after_all g r (beside_ones g)) (turn_ones g)).state.store.drawn < run_numbers) where
+        (drawn : (after_all g (after_all g r (beside_ones g)) (turn_ones g)).state.store.drawn < most_numbers g.plan.size) where
       joined_within : All (HasSeenWithin g.h) body.joined
       joined_within = turned_within (over g) going g.h (Tree (over g) going g.h g.depth) (go (over g) going g.h g.depth) (at (over g) going g.h g.depth) g.node opened below after body within
 
@@ -166,7 +166,7 @@ module _ (g : Ground) where
       mid_fine : IsFine g.plan mid
       mid_fine = children_fine g.plan g.touched g.changes g.basis.read g.basis.covered g.levels g.node g.path (path_in g) (beside_ones g) r beside_children fine
 
-      few : mid.state.store.drawn < run_numbers
+      few : mid.state.store.drawn < most_numbers g.plan.size
       few = let more = all_leave_drawn (turn_ones g) mid turn_children mid_fine in omega (arith, more, drawn)
 
       since_mid : Since g w (beside_ones g) (later g its each few) body.joined mid.state
@@ -186,7 +186,7 @@ module _ (g : Ground) where
           let tree = plan_tree g.plan g.run g.locks g.h g.touched g.changes g.changed g.shares g.basis in
           let second = turns entries (beside_ones g) (later g its each few) (with_lanes body.joined body.between) after mid body.in_turn.runs (λ x there. subst (λ l. Contains l x) are there)
           (subst Once (sym are) (once-right (beside_ones g) (turn_ones g) (all_once g))) (beside_child g) (λ x there also. once-apart (beside_ones g) (turn_ones g) x (all_once g) there (subst (λ l. Contains l x) are also))
-          known within (acts_then g.h w.first opened.first body.joined pre beside_acts) post mid_fine since_mid (subst (λ (l : List ℕ). (after_all g mid l).state.store.drawn < run_numbers) (sym are) drawn) in
+          known within (acts_then g.h w.first opened.first body.joined pre beside_acts) post mid_fine since_mid (subst (λ (l : List ℕ). (after_all g mid l).state.store.drawn < most_numbers g.plan.size) (sym are) drawn) in
           let turned : Turned (turn_ones g) (flat_map (λ e. e.1) entries) after.first mid (after_all g mid (turn_ones g)) =
           subst (λ (l : List ℕ). Turned l (flat_map (λ e. e.1) entries) after.first mid (after_all g mid l)) are second in
           let both = then_below (ids g) tree g.node (λ r child. node_run g.plan g.levels (child ∷ g.path) r) (AllToldNear g.shares) (near_none g.shares) (near_then g.shares) (beside_ones g) (turn_ones g) (flat_map (λ ran. ran) body.beside) (flat_map (λ e. e.1) entries)

@@ -6,6 +6,7 @@ use mathlib.Core.List.{IsPrefix}
 use Rattle.ext_model.specs.declared.event.Event.{Event}
 use Rattle.ext_model.specs.Events.{place_of}
 use Rattle.ext_model.specs.History.{History, IsLegal}
+use Rattle.ext_model.specs.Sizes.{most_numbers}
 use Rattle.ext_tree.specs.Keys.{KeyValue}
 use Rattle.ext_tree.specs.Trees.{IsPathOf}
 use Rattle.ext_lifecycle.specs.FaultTexts.{NodeOutcome, fault_text}
@@ -23,7 +24,6 @@ use Rattle.ext_engine.specs.Order.{ChildRun, IsMadeIn}
 use Rattle.ext_engine.specs.TreeRun.{Lanes, Ran, TestRun}
 use Rattle.ext_parallel.specs.declared.steps.stored_value.StoredValue.{StoredValue}
 use Rattle.ext_parallel.specs.StoreCalls.{PlanLane}
-use Rattle.ext_plain.specs.ValueStates.{run_numbers}
 use Rattle.ext_plain.specs.PlainRun.{RunState, node_run, test_node_run}
 use Rattle.ext_one_report.proofs.MatchingWords.{HasNumberIn, IsRunView, Places, RunView, cell_of, plain_slot}
 use Rattle.ext_one_report.proofs.StepsWords.{IsLaneIn}
@@ -108,7 +108,7 @@ module _ (plan : PlanText) (run : RunView) (locks : LocksView) (h : History) (to
   TestsEndNear =
       (node : ℕ) (path : List ℕ) (open_at : Open) (before : Lanes StoredValue) (ran : List Ran) (after : Lanes StoredValue) (r : RunState)
       → IsSharedBasis plan run locks h touched changes changed shares → IsPathOf run.store.tree node path → is_some (test_of plan node) ≡ true
-      → TestRun (setting_in plan run locks) node path before ran after → BeginsNear node open_at before after r → (test_node_run plan node path r).state.store.drawn < run_numbers
+      → TestRun (setting_in plan run locks) node path before ran after → BeginsNear node open_at before after r → (test_node_run plan node path r).state.store.drawn < most_numbers plan.size
       → EndsNear node open_at before ran after r (test_node_run plan node path r)
 
   -- and so does each node with all nodes below it
@@ -116,5 +116,5 @@ module _ (plan : PlanText) (run : RunView) (locks : LocksView) (h : History) (to
   NodesEndNear =
       (depth levels node : ℕ) (path : List ℕ) (open_at : Open) (before : Lanes StoredValue) (ran : List Ran) (after : Lanes StoredValue) (r : RunState)
       → IsSharedBasis plan run locks h touched changes changed shares → IsPathOf run.store.tree node path → length plan.nodes < levels + length path
-      → ChildRun (setting_in plan run locks) depth node before ran after → BeginsNear node open_at before after r → (node_run plan levels path r).state.store.drawn < run_numbers
+      → ChildRun (setting_in plan run locks) depth node before ran after → BeginsNear node open_at before after r → (node_run plan levels path r).state.store.drawn < most_numbers plan.size
       → EndsNear node open_at before ran after r (node_run plan levels path r)

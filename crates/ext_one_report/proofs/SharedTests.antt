@@ -8,6 +8,7 @@ use Rattle.ext_history.proofs.Lists.{contains_none}
 use Rattle.ext_model.specs.declared.event.Event.{Event}
 use Rattle.ext_model.specs.Events.{place_of}
 use Rattle.ext_model.specs.History.{History}
+use Rattle.ext_model.specs.Sizes.{most_numbers}
 use Rattle.ext_tree.specs.Keys.{KeyValue}
 use Rattle.ext_tree.specs.Trees.{IsPathOf}
 use Rattle.ext_lifecycle.specs.declared.call.Call.{Call}
@@ -31,7 +32,7 @@ use Rattle.ext_engine.proofs.Seen.{acts_close, acts_first}
 use Rattle.ext_one_report.proofs.Parts.{no_acts}
 use Rattle.ext_parallel.specs.declared.steps.stored_value.StoredValue.{StoredValue}
 use Rattle.ext_parallel.specs.StoreCalls.{PlanLane}
-use Rattle.ext_plain.specs.ValueStates.{ValueState, run_numbers}
+use Rattle.ext_plain.specs.ValueStates.{ValueState}
 use Rattle.ext_plain.specs.ContextEnds.{faults_of_closes, seal_keys}
 use Rattle.ext_plain.specs.NodeCalls.{CallsEnd}
 use Rattle.ext_plain.specs.PlainRun.{RunState, outcome_of, test_node_run}
@@ -75,7 +76,7 @@ module _ (plan : PlanText) (run : RunView) (locks : LocksView) (h : History) (to
   module _ (node : ℕ) (path : List ℕ) (open_at : Open) (before : Lanes StoredValue) (ran : List Ran) (after : Lanes StoredValue) (r : RunState)
       (basis : IsSharedBasis plan run locks h touched changes changed shares) (path_is : IsPathOf run.store.tree node path) (is_test : is_some (test_of plan node) ≡ true)
       (its_run : TestRun setting node path before ran after) (begins : BeginsNear plan run locks h touched changes changed shares node open_at before after r)
-      (drawn : (test_node_run plan node path r).state.store.drawn < run_numbers) where
+      (drawn : (test_node_run plan node path r).state.store.drawn < most_numbers plan.size) where
     abbrev end : CallsEnd
     end = plain_test plan node path r.state
 

@@ -20,7 +20,7 @@ use Rattle.ext_plan.specs.Plans.{KeyText, StepKeyText, StepText, keyed}
 use Rattle.ext_plan.specs.StepCalls.{call_of, label_of, start_of}
 use Rattle.ext_plan.specs.StepWords.{looks_along, word_text}
 use Rattle.ext_plan.specs.StoreKeys.{is_there, key_of_step}
-use Rattle.ext_plain.specs.ValueStates.{ValueState, run_numbers}
+use Rattle.ext_plain.specs.ValueStates.{ValueState}
 use Rattle.ext_plain.specs.StepRuns.{StepEnd, step_run}
 use Rattle.ext_parallel.specs.declared.steps.stored_value.StoredValue.{StoredValue}
 use Rattle.ext_parallel.specs.Saying.{no_memory}
@@ -52,7 +52,7 @@ pub record IsLaneIn (run : RunView) (lane : PlanLane) : Type 0 where
 
 -- and so does one in a plain run: a number for its value, and one for its key
 pub record HasRoom (key : KeyValue) (s : ValueState) : Type 0 where
-  pub numbers : s.store.drawn < run_numbers
+  pub numbers : s.store.drawn < s.numbers
   pub keys : is_there s.keys key ≡ false → length s.keys < s.places
 
 -- ---- two steps

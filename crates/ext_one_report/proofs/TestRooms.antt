@@ -2,6 +2,7 @@
 use Rattle.std.proofs.Common.{◌≡◌, ℕ, ◌<◌, true, List, [], ◌∷◌, ◌++◌, Contains, refl, ap, sym, subst, arith, append_assoc}
 use Rattle.std.specs.Prelude.{All, is_some}
 use Rattle.std.proofs.lemmas.List.Elements.{All-head, Contains-append_left, Contains-append_right}
+use Rattle.ext_model.specs.Sizes.{most_numbers}
 use Rattle.ext_tree.specs.Trees.{IsPathOf}
 use Rattle.ext_lifecycle.specs.declared.call.Call.{Call}
 use Rattle.ext_lifecycle.specs.Callbacks.{afters_of, befores_of, test_call}
@@ -11,7 +12,7 @@ use Rattle.ext_plan.specs.ReadPlans.{IsReadPlan, ids_of_nodes}
 use Rattle.ext_races.specs.MadeSteps.{calls_of, plan_path}
 use Rattle.ext_races.specs.Touches.{keys_named}
 use Rattle.ext_races.proofs.Lists.{all_contained}
-use Rattle.ext_plain.specs.ValueStates.{ValueState, run_numbers}
+use Rattle.ext_plain.specs.ValueStates.{ValueState}
 use Rattle.ext_plain.specs.NodeCalls.{CallsEnd, befores_run, call_run, no_calls, test_run}
 use Rattle.ext_one_report.proofs.MatchingWords.{RunView}
 use Rattle.ext_one_report.proofs.TestCallsWords.{TestHasRoom, afters_round, befores_round, plain_test}
@@ -89,16 +90,17 @@ module _ (plan : PlanText) (run : RunView) (read : IsReadPlan plan) (node : ℕ)
     last_holds = calls.all_hold plan run read node path its (afters_round plan node path) second own_afters second_holds
 
     -- where numbers are left at the end there were enough at each step
-    pub room : last.state.store.drawn < run_numbers → TestHasRoom plan node path s
+    pub room : last.state.store.drawn < most_numbers plan.size → TestHasRoom plan node path s
     room drawn =
         let names = keys_named plan in
+        let numbers = most_numbers plan.size in
         let one = befores_draw plan path (test_call node ∷ []) first first_holds.memory in
         let more = all_draw plan path (afters_round plan node path) second second_holds.memory in
         record {
-          befores = befores_room names plan path (befores_round plan node path) (no_calls s) refl (each_of Own Named (befores_round plan node path) named own_befores) begins.gave begins.memory (omega (arith, one, more, drawn));
+          befores = befores_room names numbers plan path (befores_round plan node path) (no_calls s) refl (each_of Own Named (befores_round plan node path) named own_befores) begins.gave begins.memory (omega (arith, one, more, drawn));
           body = λ good.
               let made : second.state.store.drawn ≡ (call_run plan path (test_call node) first.state).state.store.drawn =
               ap (λ (e : CallsEnd). e.state.store.drawn) (if_made (call_run plan path) first (test_call node) good) in
-              steps_room names plan.keys path (steps_of_call plan (test_call node)) first.state first_holds.gave (named (test_call node) own_body) first_holds.memory (omega (arith, made, more, drawn));
-          afters = all_room names plan path (afters_round plan node path) second (each_of Own Named (afters_round plan node path) named own_afters) second_holds.gave second_holds.memory drawn;
+              steps_room names numbers plan.keys path (steps_of_call plan (test_call node)) first.state first_holds.gave (named (test_call node) own_body) first_holds.memory (omega (arith, made, more, drawn));
+          afters = all_room names numbers plan path (afters_round plan node path) second (each_of Own Named (afters_round plan node path) named own_afters) second_holds.gave second_holds.memory drawn;
         }

@@ -353,6 +353,7 @@ are_runnable mode before first second one two three = record {
 pub tests_are_read : TestsAreRead
 tests_are_read mode before first second one two three = record {
   runnable = are_runnable mode before first second one two three;
+  nodes = omega arith;
   different = omega arith;
   labels = record { words = all_none (λ label. is_word label ≡ true); different = λ i j d first last same. absurd (omega (arith, last)) };
   keys = of_all_steps (All (NamesLabelBelow 0)) mode before first second one.names two.names three.names;

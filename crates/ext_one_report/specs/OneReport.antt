@@ -2,11 +2,11 @@
 -- several lanes that lacks nothing reports the same as the plain run (JUnit 5 User Guide, "Parallel Execution").
 use Rattle.std.specs.Prelude.{◌≡◌, ℕ, ◌<◌, ◌≤◌, List, length, map, Some, slice_get}
 use Rattle.ext_model.specs.declared.look.Fault.{Fault}
+use Rattle.ext_model.specs.Sizes.{most_numbers}
 use Rattle.ext_lifecycle.specs.FaultTexts.{NodeOutcome, fault_text}
 use Rattle.ext_lifecycle.specs.Results.{ResultOf, with_fault_told}
 use Rattle.ext_plan.specs.Plans.{PlanText}
 use Rattle.ext_plan.specs.ReadPlans.{IsReadPlan}
-use Rattle.ext_races.specs.Races.{number_limit}
 use Rattle.ext_races.specs.Touches.{keys_named, numbers_drawn}
 use Rattle.ext_parallel.specs.ParallelRun.{ParallelRun}
 use Rattle.ext_plain.specs.PlainRun.{plain_run}
@@ -21,7 +21,7 @@ pub record HasOneReport (plan : PlanText) : Type 0 where
   pub apart : KeepsApart plan
   pub closes : ClosesTellOne plan
   pub keys : length (keys_named plan) ≤ plan.key_places
-  pub numbers : numbers_drawn plan < number_limit
+  pub numbers : numbers_drawn plan < most_numbers plan.size
 
 -- Each run of such a plan that lacks nothing reports of each node what the plain run does, on however many lanes and in
 -- whatever order they go.
@@ -36,7 +36,7 @@ pub record HasNearReport (plan : PlanText) : Type 0 where
   pub alike : SharesValues plan
   pub closes : ClosesTellOne plan
   pub keys : length (keys_named plan) ≤ plan.key_places
-  pub numbers : numbers_drawn plan < number_limit
+  pub numbers : numbers_drawn plan < most_numbers plan.size
 
 -- The reports are the same for each node, except for which shared values it computed and which it found.
 pub record AreNearReports (shares : ℕ → Open) (here there : List NodeOutcome) : Type 0 where

@@ -6,6 +6,8 @@
 use Rattle.std.specs.Prelude.{ℕ, ◌≤◌, ◌<◌, All, codes, false, List, [], ◌∷◌, ◌++◌, length, Some, None, ◌≡◌}
 use Rattle.ext_lifecycle.specs.declared.mode.Mode.{Mode}
 use Rattle.ext_lifecycle.specs.declared.mode.Mode.TheVariants as modes
+use Rattle.ext_model.specs.Sizes.{most_numbers}
+use Rattle.ext_model.specs.declared.size.Size.TheVariants as sizes
 use Rattle.ext_tree.specs.Trees.{Id}
 use Rattle.ext_plan.specs.declared.word.Word.TheVariants as words
 use Rattle.ext_plan.specs.Plans.{NodeText, PlanText, StepKeyText, StepText, named, keyed}
@@ -13,7 +15,7 @@ use Rattle.ext_plan.specs.ReadPlans.{IsReadPlan, NamesLabelBelow, StayOnPath}
 use Rattle.ext_plan.specs.Steps.{step_limit}
 use Rattle.ext_races.specs.declared.race.Race.{Race}
 use Rattle.ext_races.specs.Beside.{IsBeside}
-use Rattle.ext_races.specs.Races.{IsRace, number_limit}
+use Rattle.ext_races.specs.Races.{IsRace}
 use Rattle.ext_races.specs.Touches.{keys_named, numbers_drawn}
 use Rattle.ext_one_report.specs.Apart.{KeepsApart, ClosesTellOne}
 use Rattle.ext_plan.specs.StoreKeys.{key_of_step}
@@ -58,6 +60,7 @@ abbrev pub tests_of_mode : Mode → List StepText → List StepText → List Ste
 tests_of_mode mode before first second = record {
   keep_faults = false;
   key_places = 64;
+  size = sizes.Usual;
   keys = [];
   nodes = container root_id [] ∷ container class_id (before ∷ []) ∷ test_of_class mode (codes "m") first ∷ test_of_class mode (codes "n") second ∷ [];
 }
@@ -149,7 +152,7 @@ WorkedHasKeys = length (keys_named worked_plan) ≤ worked_plan.key_places
 
 -- There are more numbers than they may draw.
 abbrev pub WorkedHasNumbers : Type 0
-WorkedHasNumbers = numbers_drawn worked_plan < number_limit
+WorkedHasNumbers = numbers_drawn worked_plan < most_numbers worked_plan.size
 
 -- It is a plan like one that was read.
 abbrev pub WorkedIsRead : Type 0

@@ -4,6 +4,7 @@ use Rattle.std.specs.Prelude.{◌≡◌, ℕ, ◌*◌, true, List, length, map, 
 use mathlib.Core.List.{IsPrefix}
 use Rattle.ext_model.specs.declared.look.Fault.{Fault}
 use Rattle.ext_model.specs.History.{History, IsLegal, own}
+use Rattle.ext_model.specs.Sizes.{most_numbers}
 use Rattle.ext_lifecycle.specs.declared.call.Call.{Call}
 use Rattle.ext_plan.specs.Plans.{PlanText, StepKeyText, StepText}
 use Rattle.ext_plan.specs.PlanCalls.{steps_of_call}
@@ -18,10 +19,6 @@ use Rattle.ext_store.specs.Opening.{fault_count}
 use Rattle.ext_store.specs.Stores.{StoreView, StoreLane}
 use Rattle.ext_locks.specs.Opening.{LocksView}
 
--- How many numbers a run's store draws at most.
-abbrev pub run_numbers : ℕ
-run_numbers = 65535
-
 -- How many exchanges a call makes at most before it waits or starts over.
 abbrev pub run_tries : ℕ
 run_tries = 64
@@ -30,10 +27,10 @@ run_tries = 64
 -- and, if faults are kept, one for the fault of each.
 pub record IsStoreOf (plan : PlanText) (lanes : ℕ) (store : StoreView) : Type 0 where
   pub tree : store.tree ≡ ids_of_nodes plan.nodes
-  pub limits : store.id.cells.limits ≡ record { cells = length plan.nodes * plan.key_places; lanes = lanes; numbers = run_numbers; keep_faults = plan.keep_faults }
+  pub limits : store.id.cells.limits ≡ record { cells = length plan.nodes * plan.key_places; lanes = lanes; numbers = most_numbers plan.size; keep_faults = plan.keep_faults }
   pub key_places : length store.id.keys ≡ plan.key_places
-  pub places : length store.id.places ≡ run_numbers
-  pub fault_places : length store.id.fault_places ≡ fault_count plan.keep_faults run_numbers
+  pub places : length store.id.places ≡ most_numbers plan.size
+  pub fault_places : length store.id.fault_places ≡ fault_count plan.keep_faults (most_numbers plan.size)
   pub tries : store.tries ≡ run_tries
 
 -- Locks with the names that the plan's nodes name, for `lanes` lanes.

@@ -15,9 +15,6 @@ use std::alloc::{AllocError, Global};
 /// How many exchanges a call tries before it waits or starts over.
 const TRIES: u32 = 64;
 
-/// How many numbers the store of a run draws at most.
-const NUMBERS: u32 = 65_535;
-
 /// Opens a store of the plan's contexts, with its lanes and a closer for each context.
 pub(crate) fn open_store<V: StoreValue + Drop>(
     alloc: Global,
@@ -37,8 +34,9 @@ pub(crate) fn open_store<V: StoreValue + Drop>(
         lanes,
         tries: TRIES,
         keys: plan.key_places,
-        numbers: NUMBERS,
+        numbers: plan.size.numbers(),
         keep_faults: plan.keep_faults,
+        size: plan.size,
     };
     match Store::open(alloc, tree, limits) {
         Ok(opened) => Ok(opened),

@@ -31,7 +31,7 @@ use std::thread::Threads;
 /// nodes over them (`ext_engine::run_tree`), each lane on at most one thread. A key gets its number
 /// when a lane first names it, the same in all lanes. Steps make the store's waiting calls. The
 /// listener is notified when a node starts, with its lane, of each fault of its calls and closes as
-/// it comes, and when the node has ended. Each plan from `ext_plan_reading::read_plan` is runnable.
+/// it comes, and when the node has ended. Each plan that `ext_plan_reading` has read is runnable.
 ///
 /// Refused as `Memory` if memory for the suite, the locks or the store is refused, before anything
 /// runs, which no clause states; or if the run ended early for want of memory, as `run_tree` says.

@@ -25,7 +25,7 @@ use Rattle.ext_plan.specs.StepCalls.{label_of, start_of}
 use Rattle.ext_plan.specs.StepTexts.{met_fault_text}
 use Rattle.ext_plan.specs.Values.{ValueText}
 use Rattle.ext_plan.specs.Verdicts.{seen_fault, fail_verdict, none_verdict, want_verdict}
-use Rattle.ext_plain.specs.ValueStates.{enough, ValueState, run_numbers, reply_to, after_act, why_refused, next_number, keep_value, value_of, Numbering, known, next, full, numbering_of, with_number}
+use Rattle.ext_plain.specs.ValueStates.{enough, ValueState, reply_to, after_act, why_refused, next_number, keep_value, value_of, Numbering, known, next, full, numbering_of, with_number}
 use Rattle.ext_plain.specs.StepRuns.{StepEnd, ended, or_refused, shown, shown_fault, seen_by, factory_failed, claim_and, compute_looked, compute_numbered, computefail_looked, computefail_numbered, found_along, none_numbered, number_by, numbered_by, step_run, want_numbered}
 use Rattle.ext_plain.specs.PlainRun.{RunState, node_run}
 use Rattle.ext_plain.specs.PlainRunLaws.{HasNoFaults, HasValues, MeetsFault, named_by}
@@ -174,7 +174,7 @@ failed-same name label place text s keeps won =
     let gone = after_act (Abandon place) claimed in
     let drawn : StepEnd = or_refused name label (why_refused (next_number claimed) claimed) gone (ended successful (failing place text s)) in
     ap (λ b. (let end : StepEnd = if b then drawn else ended successful gone in end.state)) keeps
-    ∙ ap (λ (t : State Place). record s { store = t }) (abandon_undoes_claim run_numbers s.store any_lane place (was_empty (s.store.slots place) won))
+    ∙ ap (λ (t : State Place). record s { store = t }) (abandon_undoes_claim s.numbers s.store any_lane place (was_empty (s.store.slots place) won))
 
 looked-same : (name label : List ℕ) (place : Place) (text : List ℕ) (s : ValueState) (found : Look) → s.keep_faults ≡ false → (computefail_looked name label place text s found).state ≡ s
 looked-same name label place text s (look.Found at number) keeps = refl

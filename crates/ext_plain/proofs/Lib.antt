@@ -18,7 +18,7 @@ pub mod Nodes
 pub mod Runs
 pub mod Ends
 pub mod Kept
-pub mod PlacesStay
+pub mod LimitsStay
 pub mod Seals
 pub mod Values
 pub mod KeptFaults

@@ -8,7 +8,7 @@ use Rattle.ext_model.specs.Plain.{same_place, any_lane, under}
 use Rattle.ext_model.specs.Closing.{kept_by, put_in_kept, remaining}
 use Rattle.ext_model.proofs.Changes.{same_place_is}
 use Rattle.ext_model.proofs.Steps.{others_stay}
-use Rattle.ext_plain.specs.ValueStates.{ValueState, run_numbers, after_act, value_of}
+use Rattle.ext_plain.specs.ValueStates.{ValueState, after_act, value_of}
 use Rattle.ext_plain.specs.ContextEnds.{seal_keys, numbers_left, if_closeable, closeables}
 use Rattle.ext_model.specs.declared.look.Fault.{Fault}
 use Rattle.ext_model.specs.declared.closed.Closed.{Closed}
@@ -35,7 +35,7 @@ not_true false h = refl
 pub other_key : (at key other : ℕ) (s : ValueState) → other < key → under (after_act (Seal (at, key)) s).store other at ≡ under s.store other at
 other_key at key other s below =
     let differ : same_place (at, key) (at, other) ≡ false = not_true (same_place (at, key) (at, other)) (λ same. let e : key ≡ other = ap (λ p. p.1) (same_place_is (at, key) (at, other) same) in absurd (omega (arith, e, below))) in
-    others_stay run_numbers s.store any_lane (Seal (at, key)) (at, other) differ
+    others_stay s.numbers s.store any_lane (Seal (at, key)) (at, other) differ
 
 remaining-same : (a b : ℕ → Option Slot) (keys : ℕ) → ((key : ℕ) → key < keys → a key ≡ b key) → remaining a keys ≡ remaining b keys
 remaining-same a b zero same = refl

@@ -13,13 +13,13 @@ use Rattle.ext_model.specs.Plain.{Place, same_place, any_lane, state_by, next_st
 use Rattle.ext_model.proofs.Changes.{here, same_place_is}
 use Rattle.ext_model.proofs.Steps.{others_stay, seals_stay, abandon_undoes_claim}
 use Rattle.ext_plan.specs.Plans.{PlanText}
-use Rattle.ext_plain.specs.ValueStates.{ValueState, run_numbers, refusal, reply_to, after_act, why_refused, next_number, keep_value}
+use Rattle.ext_plain.specs.ValueStates.{ValueState, refusal, reply_to, after_act, why_refused, next_number, keep_value}
 use Rattle.ext_plain.specs.ContextEnds.{seal_keys}
 use Rattle.ext_plain.specs.PlainRun.{RunState, container_run, node_end, node_run, test_node_run}
 use Rattle.ext_plain.specs.PlainRunLaws.{HasNoClaims}
 use Rattle.ext_plain.proofs.Ends.{body_end, container_end, test_end}
 use Rattle.ext_plain.proofs.Kept.{IsKept, IsKeptNumbered, container-open, node-kept, seals-kept, test-open}
-use Rattle.ext_plain.proofs.PlacesStay.{container-places, test-places}
+use Rattle.ext_plain.proofs.LimitsStay.{container-limits, test-limits}
 use Rattle.ext_lifecycle.specs.FaultTexts.{NodeOutcome}
 use Rattle.ext_plan.specs.Values.{ValueText}
 use Rattle.ext_plan.specs.StepCalls.{start_of}
@@ -49,13 +49,13 @@ was_empty (Some (slot.Claim lane)) won = absurd cc
 was_empty (Some (slot.Sealed kept)) won = absurd cc
 
 -- a claim that is followed by the draw of a number and a fill: the place has the number
-claim_stands : (s : State Place) (place : Place) → s.slots place ≡ None → (next_state run_numbers s any_lane (Claim place)).slots place ≡ Some (slot.Claim any_lane)
-claim_stands s place empty =
+claim_stands : (numbers : ℕ) (s : State Place) (place : Place) → s.slots place ≡ None → (next_state numbers s any_lane (Claim place)).slots place ≡ Some (slot.Claim any_lane)
+claim_stands numbers s place empty =
     ap (λ x. (state_by (claim_reply false x) s (record { lane = any_lane; act = Claim place })).slots place) empty
     ∙ ap (λ b. if b then Some (slot.Claim any_lane) else s.slots place) (here place)
 
-fill_stands : (s : State Place) (place : Place) (number : ℕ) → s.slots place ≡ Some (slot.Claim any_lane) → (next_state run_numbers s any_lane (Fill place number)).slots place ≡ Some (slot.Entry number)
-fill_stands s place number claimed =
+fill_stands : (numbers : ℕ) (s : State Place) (place : Place) (number : ℕ) → s.slots place ≡ Some (slot.Claim any_lane) → (next_state numbers s any_lane (Fill place number)).slots place ≡ Some (slot.Entry number)
+fill_stands numbers s place number claimed =
     ap (λ x. (state_by (end_reply any_lane x) s (record { lane = any_lane; act = Fill place number })).slots place) claimed
     ∙ ap (λ b. if b then Some (slot.Entry number) else s.slots place) (here place)
 
@@ -64,16 +64,16 @@ pub filled_here : (place : Place) (value : ValueText) (s : ValueState) → why_r
 filled_here place value s won =
     let claimed = after_act (Claim place) s in
     let kept = keep_value value claimed in
-    fill_stands kept.store place kept.store.drawn (others_stay run_numbers claimed.store any_lane (next_number claimed) place refl ∙ claim_stands s.store place (was_empty (s.store.slots place) won))
+    fill_stands kept.numbers kept.store place kept.store.drawn (others_stay claimed.numbers claimed.store any_lane (next_number claimed) place refl ∙ claim_stands s.numbers s.store place (was_empty (s.store.slots place) won))
 
 filled_elsewhere : (place : Place) (value : ValueText) (s : ValueState) (p : Place) → same_place place p ≡ false
     → (let kept = keep_value value (after_act (Claim place) s) in (after_act (Fill place kept.store.drawn) kept).store.slots p ≡ s.store.slots p)
 filled_elsewhere place value s p other =
     let claimed = after_act (Claim place) s in
     let kept = keep_value value claimed in
-    others_stay run_numbers kept.store any_lane (Fill place kept.store.drawn) p other
-    ∙ others_stay run_numbers claimed.store any_lane (next_number claimed) p refl
-    ∙ others_stay run_numbers s.store any_lane (Claim place) p other
+    others_stay kept.numbers kept.store any_lane (Fill place kept.store.drawn) p other
+    ∙ others_stay claimed.numbers claimed.store any_lane (next_number claimed) p refl
+    ∙ others_stay s.numbers s.store any_lane (Claim place) p other
 
 fill-free : (place : Place) (value : ValueText) (s : ValueState) → why_refused (Claim place) s ≡ None → HasNoClaims s → (p : Place) (b : Bool) → same_place place p ≡ b
     → (let kept = keep_value value (after_act (Claim place) s) in ¬ IsClaimed ((after_act (Fill place kept.store.drawn) kept).store.slots p))
@@ -85,8 +85,8 @@ fill-free place value s won h p false other = subst (λ x. ¬ IsClaimed x) (sym 
 
 -- the same with a fail
 
-fail_stands : (s : State Place) (place : Place) (number : ℕ) → s.slots place ≡ Some (slot.Claim any_lane) → (next_state run_numbers s any_lane (Fail place number)).slots place ≡ Some (slot.Fault number)
-fail_stands s place number claimed =
+fail_stands : (numbers : ℕ) (s : State Place) (place : Place) (number : ℕ) → s.slots place ≡ Some (slot.Claim any_lane) → (next_state numbers s any_lane (Fail place number)).slots place ≡ Some (slot.Fault number)
+fail_stands numbers s place number claimed =
     ap (λ x. (state_by (end_reply any_lane x) s (record { lane = any_lane; act = Fail place number })).slots place) claimed
     ∙ ap (λ b. if b then Some (slot.Fault number) else s.slots place) (here place)
 
@@ -95,16 +95,16 @@ pub failed_here : (place : Place) (value : ValueText) (s : ValueState) → why_r
 failed_here place value s won =
     let claimed = after_act (Claim place) s in
     let kept = keep_value value claimed in
-    fail_stands kept.store place kept.store.drawn (others_stay run_numbers claimed.store any_lane (next_number claimed) place refl ∙ claim_stands s.store place (was_empty (s.store.slots place) won))
+    fail_stands kept.numbers kept.store place kept.store.drawn (others_stay claimed.numbers claimed.store any_lane (next_number claimed) place refl ∙ claim_stands s.numbers s.store place (was_empty (s.store.slots place) won))
 
 failed_elsewhere : (place : Place) (value : ValueText) (s : ValueState) (p : Place) → same_place place p ≡ false
     → (let kept = keep_value value (after_act (Claim place) s) in (after_act (Fail place kept.store.drawn) kept).store.slots p ≡ s.store.slots p)
 failed_elsewhere place value s p other =
     let claimed = after_act (Claim place) s in
     let kept = keep_value value claimed in
-    others_stay run_numbers kept.store any_lane (Fail place kept.store.drawn) p other
-    ∙ others_stay run_numbers claimed.store any_lane (next_number claimed) p refl
-    ∙ others_stay run_numbers s.store any_lane (Claim place) p other
+    others_stay kept.numbers kept.store any_lane (Fail place kept.store.drawn) p other
+    ∙ others_stay claimed.numbers claimed.store any_lane (next_number claimed) p refl
+    ∙ others_stay s.numbers s.store any_lane (Claim place) p other
 
 fail-free : (place : Place) (value : ValueText) (s : ValueState) → why_refused (Claim place) s ≡ None → HasNoClaims s → (p : Place) (b : Bool) → same_place place p ≡ b
     → (let kept = keep_value value (after_act (Claim place) s) in ¬ IsClaimed ((after_act (Fail place kept.store.drawn) kept).store.slots p))
@@ -121,7 +121,7 @@ free = record {
   removes = λ place s h. act-free (Remove place) s h (λ p claimed. claimed);
   seals = λ place s h. act-free (Seal place) s h (λ p claimed. claimed);
   keeps = λ value s room h. act-free (next_number s) s h h;
-  abandons = λ place s won h. subst (λ (t : State Place). (p : Place) → ¬ IsClaimed (t.slots p)) (sym (abandon_undoes_claim run_numbers s.store any_lane place (was_empty (s.store.slots place) won))) h;
+  abandons = λ place s won h. subst (λ (t : State Place). (p : Place) → ¬ IsClaimed (t.slots p)) (sym (abandon_undoes_claim s.numbers s.store any_lane place (was_empty (s.store.slots place) won))) h;
   fills = λ place value s won room h. λ p. fill-free place value s won h p (same_place place p) refl;
   fails = λ place value s keeps won room h. λ p. fail-free place value s won h p (same_place place p) refl;
 }
@@ -145,12 +145,12 @@ sealed_by (Some (slot.Fault number)) s place is unclaimed = either-sealed (same_
 sealed_by (Some (slot.Claim lane)) s place is unclaimed = absurd (unclaimed tt)
 sealed_by (Some (slot.Sealed kept)) s place is unclaimed = subst IsSealed (sym is) tt
 
-stays_by : (x : Option Slot) (s : State Place) (act : Act Place) (place : Place) → s.slots place ≡ x → IsSealed x → IsSealed ((next_state run_numbers s any_lane act).slots place)
-stays_by None s act place is sealed = absurd sealed
-stays_by (Some (slot.Entry number)) s act place is sealed = absurd sealed
-stays_by (Some (slot.Fault number)) s act place is sealed = absurd sealed
-stays_by (Some (slot.Claim lane)) s act place is sealed = absurd sealed
-stays_by (Some (slot.Sealed kept)) s act place is sealed = subst IsSealed (sym (seals_stay run_numbers s any_lane act place kept is)) tt
+stays_by : (numbers : ℕ) (x : Option Slot) (s : State Place) (act : Act Place) (place : Place) → s.slots place ≡ x → IsSealed x → IsSealed ((next_state numbers s any_lane act).slots place)
+stays_by numbers None s act place is sealed = absurd sealed
+stays_by numbers (Some (slot.Entry number)) s act place is sealed = absurd sealed
+stays_by numbers (Some (slot.Fault number)) s act place is sealed = absurd sealed
+stays_by numbers (Some (slot.Claim lane)) s act place is sealed = absurd sealed
+stays_by numbers (Some (slot.Sealed kept)) s act place is sealed = subst IsSealed (sym (seals_stay numbers s any_lane act place kept is)) tt
 
 seals-sealed : (count at key : ℕ) (s : ValueState) → HasNoClaims s → key < count → IsSealed ((seal_keys count at s).store.slots (at, key))
 unfolding seal_keys
@@ -158,7 +158,7 @@ seals-sealed zero at key s no_claims within = absurd (omega (arith, within))
 seals-sealed (suc last) at key s no_claims within =
     let before = seal_keys last at s in
     ⊎_elim
-    (λ below. stays_by _ before.store (Seal (at, last)) (at, key) refl (seals-sealed last at key s no_claims below))
+    (λ below. stays_by before.numbers _ before.store (Seal (at, last)) (at, key) refl (seals-sealed last at key s no_claims below))
     (λ past.
     let is : last ≡ key = omega (arith, past, within) in
     subst (λ k. IsSealed ((after_act (Seal (at, last)) before).store.slots (at, k))) is (sealed_by _ before.store (at, last) refl (seals-kept HasNoClaims free last at s no_claims (at, last))))
@@ -178,8 +178,8 @@ pub node-sealed : (plan : PlanText) (levels key : ℕ) (path : List ℕ) (run : 
 unfolding node_run
 node-sealed plan levels key path run no_claims within =
     let at = start_of path in
-    let tested = end-sealed plan key at true (test_end plan at path run) run.results (test-open HasNoClaims free free-numbered plan at path run no_claims) (subst (λ n. key < n) (sym (test-places plan at path run)) within) in
+    let tested = end-sealed plan key at true (test_end plan at path run) run.results (test-open HasNoClaims free free-numbered plan at path run no_claims) (subst (λ n. key < n) (sym (test-limits plan at path run).places) within) in
     let contained = end-sealed plan key at false (container_end plan (node_run plan levels) at path run) (body_end plan (node_run plan levels) at path run).results (container-open HasNoClaims free free-numbered plan (node_run plan levels) (node-free plan levels) at path run no_claims)
-    (subst (λ n. key < n) (sym (container-places plan levels at path run)) within) in
+    (subst (λ n. key < n) (sym (container-limits plan levels at path run).places) within) in
     subst (λ n. IsSealed ((node_run plan n path run).state.store.slots (at, key))) (sym (add-one levels))
     (node-by-sealed (is_some (test_of plan at)) (test_node_run plan at path run) (container_run plan (node_run plan levels) at path run) (at, key) tested contained)

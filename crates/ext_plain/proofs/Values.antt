@@ -15,7 +15,7 @@ use Rattle.ext_plan.specs.declared.word.Word.TheVariants as words
 use Rattle.ext_plan.specs.Plans.{KeyText, PlanText, StepKeyText, keyed}
 use Rattle.ext_plan.specs.StoreKeys.{key_of_step}
 use Rattle.ext_lifecycle.specs.Endings.{successful, failed}
-use Rattle.ext_plain.specs.ValueStates.{run_numbers, enough, ValueState, refusal, reply_to, after_act, why_refused, next_number, keep_value, value_of, Numbering, known, next, full, numbering_of, with_number}
+use Rattle.ext_plain.specs.ValueStates.{enough, ValueState, refusal, reply_to, after_act, why_refused, next_number, keep_value, value_of, Numbering, known, next, full, numbering_of, with_number}
 use Rattle.ext_plain.specs.StepRuns.{StepEnd, kept_or_refused, number_by, numbered_by, put_in, put_kept, seen_by, shown, step_run, want_numbered}
 use Rattle.ext_plain.specs.PlainRun.{RunState, node_run}
 use Rattle.ext_plain.specs.PlainRunLaws.{HasValues}
@@ -43,7 +43,7 @@ drawn_if true answer s room = add-one s.store.drawn
 drawn_if false answer s room = absurd cc
 
 pub keep-drawn : (value : ValueText) (s : ValueState) → why_refused (next_number s) s ≡ None → (keep_value value s).store.drawn ≡ suc s.store.drawn
-keep-drawn value s room = drawn_if (nat_lt s.store.drawn run_numbers) (Some (s.store.drawn + 1)) s room
+keep-drawn value s room = drawn_if (nat_lt s.store.drawn s.numbers) (Some (s.store.drawn + 1)) s room
 
 -- ---- each number has a value
 
@@ -102,7 +102,7 @@ kept-wanted own label at key above text kept values are drawn passed =
     let number = kept.store.drawn in
     let stored = put-happens (kept.store.slots (at, key)) (codes "put") own passed in
     let found : lookup (under (after_act (Put (at, key) number) kept).store key) (at ∷ above) ≡ look.Found at number =
-    put_found run_numbers kept.store any_lane at key number stored.0 [] above (λ k d within. absurd (omega (arith, within))) stored.1 in
+    put_found kept.numbers kept.store any_lane at key number stored.0 [] above (λ k d within. absurd (omega (arith, within))) stored.1 in
     ap (λ found. want_verdict (codes "want") label text (seen_by kept.values found)) found
     ∙ ap (λ vs. want_verdict (codes "want") label text (shown (value_of vs number))) are
     ∙ ap (λ n. want_verdict (codes "want") label text (shown (value_of (values ++ record { text = text; closeable = false } ∷ []) n))) drawn

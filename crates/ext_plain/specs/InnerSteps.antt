@@ -38,7 +38,7 @@ use Rattle.ext_plain.specs.ValueStates.{Memory, enough, no_key, no_value, no_num
 -- ---- the store and its values
 
 abbrev pub state_view : ValueStore → ValueState
-state_view s = record { keep_faults = s.keep_faults; places = s.places; store = state_of s.store; keys = s.keys; values = map value_view s.values.items; memory = [] }
+state_view s = record { keep_faults = s.keep_faults; places = s.places; numbers = s.store.numbers; store = state_of s.store; keys = s.keys; values = map value_view s.values.items; memory = [] }
 
 -- The reason for a refusal other than a lack of memory.
 abbrev pub IsReasonOf : PlainFault → Reason → Type 0

@@ -8,6 +8,7 @@
 use Rattle.std.specs.Prelude.{◌≡◌, ◌≢◌, ℕ, zero, suc, ◌+◌, codes, nat_lt, Bool, true, false, ◌||◌, List, [], ◌∷◌, length, fold, Option, Some, None, is_some, slice_set, All, if◌then◌else◌}
 use Rattle.std.specs.List.{list_any}
 use Rattle.std.specs.Str.{bytes_eq}
+use Rattle.ext_model.specs.Sizes.{most_numbers}
 use Rattle.ext_lifecycle.specs.declared.status.Status.{Status}
 use Rattle.ext_lifecycle.specs.declared.status.Status.TheVariants as statuses
 use Rattle.ext_lifecycle.specs.Endings.{all_successful}
@@ -82,7 +83,7 @@ skipped_from at (node ∷ more) = skipped_result at (is_some node.test) ∷ skip
 
 -- The run before its first step, with what its steps find of memory, in the order in which they are made.
 abbrev pub run_opening : List Memory → PlanText → RunState
-run_opening memory plan = record { state = with_memory memory (value_opening plan.keep_faults plan.key_places); results = skipped_from 0 plan.nodes }
+run_opening memory plan = record { state = with_memory memory (value_opening plan.keep_faults plan.key_places (most_numbers plan.size)); results = skipped_from 0 plan.nodes }
 
 -- The results of the nodes, in the order of the plan. The root is node 0, and no tree is deeper than it has nodes.
 abbrev pub plain_run_by : List Memory → PlanText → List NodeOutcome

@@ -113,7 +113,7 @@ pub record NumbersKeys (s : ValueState) : Type 0 where
 
 -- All four hold before the first node, whether faults are kept or not, and however many places there are.
 abbrev pub OpensClear : Type 0
-OpensClear = (keeps : Bool) (places : ℕ) → HasNoClaims (value_opening keeps places) × HasValues (value_opening keeps places) × HasNoFaults (value_opening keeps places) × NumbersKeys (value_opening keeps places)
+OpensClear = (keeps : Bool) (places numbers : ℕ) → HasNoClaims (value_opening keeps places numbers) × HasValues (value_opening keeps places numbers) × HasNoFaults (value_opening keeps places numbers) × NumbersKeys (value_opening keeps places numbers)
 
 -- If there was no claim before a node, there is none after it.
 abbrev pub MakesNoClaims : Type 0
@@ -131,11 +131,16 @@ KeepsValues = (plan : PlanText) (levels : ℕ) (path : List ℕ) (run : RunState
 
 -- ---- the numbers of keys
 
--- The number of places for keys stays through a step, the steps of a call, or a node and all nodes below it.
-pub record KeepsPlaces : Type 0 where
-  pub step : (keys : List KeyText) (found : Memory) (path : List ℕ) (step : StepText) (s : ValueState) → (step_by keys found path step s).state.places ≡ s.places
-  pub steps : (keys : List KeyText) (path : List ℕ) (steps : List StepText) (s : ValueState) → (steps_run keys path steps s).state.places ≡ s.places
-  pub node : (plan : PlanText) (levels : ℕ) (path : List ℕ) (run : RunState) → (node_run plan levels path run).state.places ≡ run.state.places
+-- The second store has places for as many keys as the first, and as many numbers.
+pub record HasLimitsOf (before after : ValueState) : Type 0 where
+  pub places : after.places ≡ before.places
+  pub numbers : after.numbers ≡ before.numbers
+
+-- These limits stay through a step, the steps of a call, or a node and all nodes below it.
+pub record KeepsLimits : Type 0 where
+  pub step : (keys : List KeyText) (found : Memory) (path : List ℕ) (step : StepText) (s : ValueState) → HasLimitsOf s (step_by keys found path step s).state
+  pub steps : (keys : List KeyText) (path : List ℕ) (steps : List StepText) (s : ValueState) → HasLimitsOf s (steps_run keys path steps s).state
+  pub node : (plan : PlanText) (levels : ℕ) (path : List ℕ) (run : RunState) → HasLimitsOf run.state (node_run plan levels path run).state
 
 -- If no key had two numbers, none has after a step, after the steps of a call, or after a node and all nodes below it.
 pub record NumbersOnce : Type 0 where

@@ -12,10 +12,6 @@ use Rattle.ext_plan.specs.declared.reason.Reason.{Reason}
 use Rattle.ext_plan.specs.declared.reason.Reason.TheVariants as reasons
 use Rattle.ext_plan.specs.Values.{ValueText}
 
--- How many numbers a run's store draws at most.
-abbrev pub run_numbers : ℕ
-run_numbers = 65535
-
 -- What a step finds of the memory that it asks for: enough, or none for one of these: a key that is made for it, a
 -- value that it keeps, the number of a new key, a place of the store, or the words of its fault.
 pub data Memory : Type 0 where
@@ -26,13 +22,14 @@ pub data Memory : Type 0 where
   no_place : Memory
   no_words : Memory
 
--- The store of a run: whether it keeps faults; how many keys can have numbers; its state; the keys that have a number,
--- in the order in which steps first named them, each key's place being its number; the kept values, from number 1 on,
--- and among them the text of each kept fault, as a value that isn't closeable; and what the next steps find of memory,
--- in the order in which they are made. Steps past the end of that list find enough.
+-- The store of a run: whether it keeps faults; how many keys can have numbers; how many numbers it draws at most; its
+-- state; the keys that have a number, in the order in which steps first named them, each key's place being its number;
+-- the kept values, from number 1 on, and among them the text of each kept fault, as a value that isn't closeable; and
+-- what the next steps find of memory, in the order in which they are made. Steps past the end of that list find enough.
 pub record ValueState : Type 0 where
   pub keep_faults : Bool
   pub places : ℕ
+  pub numbers : ℕ
   pub store : State Place
   pub keys : List KeyValue
   pub values : List ValueText
@@ -40,9 +37,9 @@ pub record ValueState : Type 0 where
 
 -- ---- an act on the store
 
--- The newly opened store, which keeps faults or not, with this many places for keys.
-abbrev pub value_opening : Bool → ℕ → ValueState
-value_opening keeps places = record { keep_faults = keeps; places = places; store = opening; keys = []; values = []; memory = [] }
+-- The newly opened store, which keeps faults or not, with this many places for keys and this many numbers.
+abbrev pub value_opening : Bool → ℕ → ℕ → ValueState
+value_opening keeps places numbers = record { keep_faults = keeps; places = places; numbers = numbers; store = opening; keys = []; values = []; memory = [] }
 
 -- The same store, whose next steps find this of memory.
 abbrev pub with_memory : List Memory → ValueState → ValueState
@@ -60,11 +57,11 @@ found_later (found ∷ more) = more
 
 -- What the store answers to an act.
 abbrev pub reply_to : Act Place → ValueState → Reply
-reply_to act s = plain_reply run_numbers s.store any_lane act
+reply_to act s = plain_reply s.numbers s.store any_lane act
 
 -- The store after an act, whether the act is an event or refused.
 abbrev pub after_act : Act Place → ValueState → ValueState
-after_act act s = record s { store = next_state run_numbers s.store any_lane act }
+after_act act s = record s { store = next_state s.numbers s.store any_lane act }
 
 -- Why a step's call of the store was refused. In a plain run only the first reason comes: a step acts on contexts that
 -- are not sealed yet, a claim follows a look-up that found nothing, and between two steps one thread has no claims, and
@@ -93,7 +90,7 @@ next_number s = Keep (s.store.drawn + 1)
 
 -- A value is kept under the number that is drawn for it.
 abbrev pub keep_value : ValueText → ValueState → ValueState
-keep_value value s = record s { store = next_state run_numbers s.store any_lane (next_number s); values = s.values ++ value ∷ [] }
+keep_value value s = record s { store = next_state s.numbers s.store any_lane (next_number s); values = s.values ++ value ∷ [] }
 
 -- The value of a number; numbers count from 1.
 abbrev pub value_of : List ValueText → ℕ → Option ValueText

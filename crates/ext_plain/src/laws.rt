@@ -1,6 +1,6 @@
 //! What is true of the plain run of every plan, whichever steps lack memory.
 ghost use Rattle.ext_plain.specs.Ancestors.{SkipsBelow};
-ghost use Rattle.ext_plain.specs.PlainRunLaws.{HasResultOfEachNode, HasTestsOfPlan, RunsEachNode, DoesOrLacks, RunsAsPlanned, RunsNode, RunsBody, SkipsBody, RunsParents, OpensClear, MakesNoClaims, SealsContexts, KeepsValues, KeepsPlaces, NumbersOnce, KeepsNumbers, KnowsNumbers, ChangesNothingUnnumbered, NumbersOnlyNamed, HasRoom, FindsWhatWasPut, KeepsFault, KeepsNoFault, NeverFaults};
+ghost use Rattle.ext_plain.specs.PlainRunLaws.{HasResultOfEachNode, HasTestsOfPlan, RunsEachNode, DoesOrLacks, RunsAsPlanned, RunsNode, RunsBody, SkipsBody, RunsParents, OpensClear, MakesNoClaims, SealsContexts, KeepsValues, KeepsLimits, NumbersOnce, KeepsNumbers, KnowsNumbers, ChangesNothingUnnumbered, NumbersOnlyNamed, HasRoom, FindsWhatWasPut, KeepsFault, KeepsNoFault, NeverFaults};
 
 /// Proves the laws of the plain run: of its results, its order, the values and faults that it
 /// finds, and what it seals.
@@ -22,7 +22,7 @@ pub fn plain_run_laws()
     ensures unclaimed { MakesNoClaims }
     ensures sealed { SealsContexts }
     ensures values { KeepsValues }
-    ensures places { KeepsPlaces }
+    ensures limits { KeepsLimits }
     ensures numbered_once { NumbersOnce }
     ensures numbers { KeepsNumbers }
     ensures known { KnowsNumbers }

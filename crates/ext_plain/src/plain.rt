@@ -48,8 +48,9 @@ pub struct PlainRun {
 ///
 /// A key gets its number when a step first names it, and keeps it to the end of the run. At most
 /// `key_places` of the plan have one: a step that names another fails with `directory full`. A step
-/// that puts has kept its value before, which drew a number. The end of a node seals all places of
-/// its context.
+/// that puts has kept its value before, which drew a number. At most `size.numbers()` of the plan
+/// are drawn: a step for which none is left fails with `numbers full`. The end of a node seals all
+/// places of its context.
 ///
 /// Takes memory for the keys, the lists of calls, the store, the values, the texts of faults and
 /// the results. A step that finds none fails with `Fault::Memory`, and the run goes on: the results
@@ -81,7 +82,12 @@ pub fn run_plain<'x, L: RunListener>(
         alloc,
         listener,
         setting: Setting::of(plan, made.as_slice(), tree),
-        store: ValueStore::new(alloc, plan.keep_faults, plan.key_places),
+        store: ValueStore::new(
+            alloc,
+            plan.keep_faults,
+            plan.key_places,
+            plan.size.numbers(),
+        ),
         node: 0,
         lacked: false,
     };

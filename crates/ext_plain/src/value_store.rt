@@ -16,9 +16,6 @@ use ext_plan::{PlanValue, Reason};
 use ext_tree::{Directory, Key};
 use std::alloc::{AllocError, Global};
 
-/// How many numbers a run's store draws at most.
-const NUMBERS: u32 = 65_535;
-
 /// The one lane of a plain run.
 const LANE: LaneNo = 0;
 
@@ -35,23 +32,22 @@ pub struct ValueStore<'a> {
     /// The kept values; the first has number 1. The text of a kept fault is among them, as a value
     /// that is not closeable.
     values: Vec<PlanValue<'a>>,
-    ghost limit: { store.numbers ≡ 65535 },
     ghost few: { places ≤ 1024 },
 }
 
 impl<'a> ValueStore<'a> {
     ghost use Rattle.ext_plain.specs.InnerSteps.{state_view, Declares, Keeps};
 
-    /// Makes an empty store with places for so many keys, which keeps the faults of factories or
-    /// not.
-    pub fn new(alloc: Global, keep_faults: bool, places: usize) -> ValueStore<'a>
+    /// Makes an empty store with places for so many keys, which draws at most so many numbers and
+    /// keeps the faults of factories or not.
+    pub fn new(alloc: Global, keep_faults: bool, places: usize, numbers: u32) -> ValueStore<'a>
         requires { places ≤ 1024 }
-        ensures { state_view result ≡ value_opening keep_faults places }
+        ensures { state_view result ≡ value_opening keep_faults places numbers }
     {
         ValueStore {
             keep_faults,
             places,
-            store: PlainStore::new(alloc, NUMBERS),
+            store: PlainStore::new(alloc, numbers),
             keys: Directory::new(alloc),
             values: Vec::new(alloc),
         }

@@ -6,6 +6,7 @@ use Rattle.ext_ids.specs.Grammar.{Pair}
 use Rattle.ext_lifecycle.specs.declared.call.Kind.{Kind}
 use Rattle.ext_lifecycle.specs.declared.call.Kind.TheVariants as kinds
 use Rattle.ext_lifecycle.specs.declared.mode.Mode.{Mode}
+use Rattle.ext_model.specs.declared.size.Size.{Size}
 use Rattle.ext_plan.specs.declared.plan.Plan.{Plan}
 use Rattle.ext_plan.specs.declared.plan.PlanKey.{PlanKey}
 use Rattle.ext_plan.specs.declared.plan.PlanLock.{PlanLock}
@@ -67,6 +68,7 @@ callbacks_of kinds.AfterAll node = node.after_all
 pub record PlanText : Type 0 where
   pub keep_faults : Bool
   pub key_places : ℕ
+  pub size : Size
   pub keys : List KeyText
   pub nodes : List NodeText
 
@@ -133,4 +135,4 @@ abbrev pub nodes_view : List PlanNode → List NodeText
 nodes_view ns = map node_view ns
 
 abbrev pub plan_view : Plan → PlanText
-plan_view p = record { keep_faults = p.keep_faults; key_places = p.key_places; keys = keys_view p.keys.items; nodes = nodes_view p.nodes.items }
+plan_view p = record { keep_faults = p.keep_faults; key_places = p.key_places; size = p.size; keys = keys_view p.keys.items; nodes = nodes_view p.nodes.items }

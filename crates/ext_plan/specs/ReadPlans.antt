@@ -2,6 +2,7 @@
 -- (`IsRunnablePlan`). Both stand at the end.
 use Rattle.std.specs.Prelude.{◌≡◌, ◌≢◌, ◌≤◌, ◌<◌, ◌++◌, ◌%◌, ℕ, true, List, [], All, AllPairs, HoldsAt, IfSome, length, map}
 use Rattle.ext_lifecycle.specs.declared.call.Kind.{Kind}
+use Rattle.ext_model.specs.Sizes.{most_contexts}
 use Rattle.ext_tree.specs.Trees.{children_of, Id, IsTree}
 use Rattle.ext_plan.specs.Plans.{StepKeyText, label, named, StepText, NodeText, PlanText, callbacks_of}
 use Rattle.ext_plan.specs.Labels.{is_word, labels_of}
@@ -15,9 +16,13 @@ use Rattle.ext_plan.specs.Steps.{step_key, height, step_limit, callback_limit}
 abbrev pub ids_of_nodes : List NodeText → List Id
 ids_of_nodes nodes = map (λ node. node.id) nodes
 
--- The nodes form a tree of 1 to 256 contexts.
+-- The nodes form a tree.
 abbrev pub NodesAreTree : PlanText → Type 0
 NodesAreTree plan = IsTree (ids_of_nodes plan.nodes)
+
+-- There are no more nodes than a plan of this size may have.
+abbrev pub HasFewNodes : PlanText → Type 0
+HasFewNodes plan = length plan.nodes ≤ most_contexts plan.size
 
 -- No test has children.
 abbrev pub TestsHaveNoChildren : PlanText → Type 0
@@ -124,11 +129,12 @@ pub record IsRunnablePlan (plan : PlanText) : Type 0 where
   pub short : StepListsAreShort plan
   pub few : CallbacksAreFew plan
 
--- What is true of each plan that was read: it can be run; there is a place for each key that is declared; each label is
--- a word of its own; steps name only labels that are declared; no step goes up past the root; and no test has callbacks
--- before or after all.
+-- What is true of each plan that was read: it can be run; there are no more nodes than a plan of its size may have;
+-- there is a place for each key that is declared; each label is a word of its own; steps name only labels that are
+-- declared; no step goes up past the root; and no test has callbacks before or after all.
 pub record IsReadPlan (plan : PlanText) : Type 0 where
   pub runnable : IsRunnablePlan plan
+  pub nodes : HasFewNodes plan
   pub different : HasFewKeys plan
   pub labels : HasOwnLabels plan
   pub keys : StepsNameLabels plan

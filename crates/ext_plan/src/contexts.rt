@@ -6,6 +6,7 @@ ghost use Rattle.ext_plan.specs.ReadPlans.{NodesAreTree, ids_of_nodes};
 
 use crate::plan::{Plan, PlanNode};
 use ext_ids::UniqueId;
+use ext_model::Size;
 use ext_tree::{Tree, TreeFault};
 use std::alloc::{AllocError, Global};
 
@@ -28,7 +29,7 @@ fn tree_of(alloc: Global, nodes: &[PlanNode]) -> Result<Tree, AllocError>
     ensures { IfOk result (λ tree. tree ≡ map (λ n. n.id) nodes.now) }
 {
     let ids = ids_of(alloc, nodes)?;
-    match Tree::build(alloc, ids.as_slice()) {
+    match Tree::build_within(alloc, ids.as_slice(), Size::Large.contexts()) {
         Ok(tree) => Ok(tree),
         Err(TreeFault::Memory) => Err(AllocError),
         Err(_) => unreachable!(),

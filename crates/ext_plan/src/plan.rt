@@ -6,25 +6,28 @@ ghost use Rattle.ext_plan.specs.PlanCalls.{steps_called};
 use crate::{KeyedStep, StepParts, Word};
 use ext_ids::UniqueId;
 use ext_lifecycle::{Call, Kind, Mode};
-use ext_model::ContextNo;
+use ext_model::{ContextNo, Size};
 
 /// The number of a label: the index of its key in `Plan::keys`. Two labels may name the same key of
 /// the store.
 pub type LabelNo = usize;
 
 /// What a run does: the declared keys, the nodes with their callbacks and tests, how many keys the
-/// store has places for, and whether it keeps the faults of factories.
+/// store has places for, how large it may be, and whether it keeps the faults of factories.
 #[derive(Debug, Drop)]
 pub struct Plan {
     /// Whether the store keeps the fault of a factory that fails.
     pub keep_faults: bool,
     /// How many different keys steps can name: 32 to 1,024, a multiple of 32.
     pub key_places: usize,
+    /// How large the plan and the store are: there are at most `size.contexts()` nodes, and a run
+    /// draws at most `size.numbers()` numbers.
+    pub size: Size,
     /// The declared keys with their labels, in the order of the plan. At most `key_places` of them
     /// are different.
     pub keys: Vec<PlanKey>,
-    /// The nodes, in the order of the plan: 1 to 256. The first is the root, and each other one is
-    /// a child of one before it.
+    /// The nodes, in the order of the plan, at least one. The first is the root, and each other one
+    /// is a child of one before it.
     pub nodes: Vec<PlanNode>,
 }
 

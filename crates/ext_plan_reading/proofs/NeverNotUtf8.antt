@@ -5,6 +5,8 @@ use Rattle.toml.specs.Data.{Data, Members, get_member, as_bool, as_integer, as_s
 use Rattle.ext_ids.specs.declared.fault.IdFault.{IdFault}
 use Rattle.ext_ids.specs.Grammar.{Pair}
 use Rattle.ext_ids.specs.Reading.{read_id}
+use Rattle.ext_model.specs.Sizes.{most_contexts}
+use Rattle.ext_model.specs.declared.size.Size.{Size}
 use Rattle.ext_tree.specs.Decided.{is_tree}
 use Rattle.ext_plan.specs.declared.plan.Plan.{Plan}
 use Rattle.ext_plan.specs.Plans.{KeyText, LockText, StepText, NodeText, plan_view}
@@ -210,11 +212,11 @@ nodes_other labels all before [] = value before
 nodes_other labels all before (sketch ∷ more) =
     then_other (node_at labels (length before) (has_children (ids_of all) (length before)) (least_test_depth (outlines_of all) sketch.id) sketch) _ (node_other labels _ _ _ sketch) (λ node. nodes_other labels all (before ++ node ∷ []) more)
 
-all_nodes_other : (labels : List (List ℕ)) (tables : List Members) → IsOther (nodes_of_tables labels tables)
+all_nodes_other : (size : Size) (labels : List (List ℕ)) (tables : List Members) → IsOther (nodes_of_tables size labels tables)
 unfolding nodes_of_tables
-all_nodes_other labels tables =
+all_nodes_other size labels tables =
     then_other (sketches_after [] tables) _ (sketches_other [] tables) (λ sketches.
-    then_other (check faults.BadTree (is_tree (ids_of sketches))) _ (checked _ _ (λ h. absurd cc)) (λ _. nodes_other _ _ [] sketches))
+    then_other (check faults.BadTree (is_tree (most_contexts size) (ids_of sketches))) _ (checked _ _ (λ h. absurd cc)) (λ _. nodes_other _ _ [] sketches))
 
 -- ---- plans
 
@@ -222,31 +224,31 @@ tables_other : (found : Option Data) → IsOther (tables_or_none (faults.BadFiel
 tables_other None = value []
 tables_other (Some found) = or_fault _ (tables_in found) (λ h. absurd cc)
 
-plan_other : (top : Members) → IsOther (plan_of top)
+plan_other : (size : Size) (top : Members) → IsOther (plan_of size top)
 unfolding plan_of plan_of_tables
-plan_other top =
+plan_other size top =
     then_other (check (faults.UnknownField places.Whole) (has_only top_fields top)) _ (checked _ _ (λ h. absurd cc)) (λ _.
     then_other (truth_or_false (faults.BadField places.Whole) (get_member (codes "keep_faults") top)) _ (truth_other (faults.BadField places.Whole) (get_member (codes "keep_faults") top) (λ h. absurd cc)) (λ keep_faults.
     then_other (key_places_or_64 (faults.BadField places.Whole) (get_member (codes "keys") top)) _ (places_other (faults.BadField places.Whole) (get_member (codes "keys") top) (λ h. absurd cc)) (λ key_places.
     then_other (tables_or_none (faults.BadField places.Whole) (get_member (codes "key") top)) _ (tables_other (get_member (codes "key") top)) (λ key_tables.
     then_other (tables_or_none (faults.BadField places.Whole) (get_member (codes "node") top)) _ (tables_other (get_member (codes "node") top)) (λ node_tables.
     then_other (keys_after [] key_tables) _ (keys_other [] key_tables) (λ keys.
-    then_other (nodes_of_tables (labels_of keys) node_tables) _ (all_nodes_other _ node_tables) (λ nodes.
+    then_other (nodes_of_tables size (labels_of keys) node_tables) _ (all_nodes_other size _ node_tables) (λ nodes.
     then_other (check faults.TooMany (nat_le (length (different_keys keys)) key_places)) _ (checked _ _ (λ h. absurd cc)) (λ _.
     then_other (check faults.TooMany (nat_le (length (lock_names nodes)) lock_limit)) _ (checked _ _ (λ h. absurd cc)) (λ _. value _)))))))))
 
 -- what gives the plan of a document doesn't answer `NotUtf8`
-pub never_not_utf8 : (read : Result Plan PlanFault) (top : Members) → Gives plan_view read (plan_of top) → read ≢ Err faults.NotUtf8
-never_not_utf8 (Ok p) top given h = absurd cc
-never_not_utf8 (Err faults.NotUtf8) top given h = plan_other top given
-never_not_utf8 (Err faults.NotToml) top given h = absurd cc
-never_not_utf8 (Err (faults.UnknownField place)) top given h = absurd cc
-never_not_utf8 (Err (faults.BadField place)) top given h = absurd cc
-never_not_utf8 (Err (faults.BadLabel key)) top given h = absurd cc
-never_not_utf8 (Err (faults.BadId node)) top given h = absurd cc
-never_not_utf8 (Err faults.BadTree) top given h = absurd cc
-never_not_utf8 (Err (faults.BadStep node)) top given h = absurd cc
-never_not_utf8 (Err (faults.BadLock node)) top given h = absurd cc
-never_not_utf8 (Err (faults.BadTest node)) top given h = absurd cc
-never_not_utf8 (Err faults.TooMany) top given h = absurd cc
-never_not_utf8 (Err faults.Memory) top given h = absurd cc
+pub never_not_utf8 : (size : Size) (read : Result Plan PlanFault) (top : Members) → Gives plan_view read (plan_of size top) → read ≢ Err faults.NotUtf8
+never_not_utf8 size (Ok p) top given h = absurd cc
+never_not_utf8 size (Err faults.NotUtf8) top given h = plan_other size top given
+never_not_utf8 size (Err faults.NotToml) top given h = absurd cc
+never_not_utf8 size (Err (faults.UnknownField place)) top given h = absurd cc
+never_not_utf8 size (Err (faults.BadField place)) top given h = absurd cc
+never_not_utf8 size (Err (faults.BadLabel key)) top given h = absurd cc
+never_not_utf8 size (Err (faults.BadId node)) top given h = absurd cc
+never_not_utf8 size (Err faults.BadTree) top given h = absurd cc
+never_not_utf8 size (Err (faults.BadStep node)) top given h = absurd cc
+never_not_utf8 size (Err (faults.BadLock node)) top given h = absurd cc
+never_not_utf8 size (Err (faults.BadTest node)) top given h = absurd cc
+never_not_utf8 size (Err faults.TooMany) top given h = absurd cc
+never_not_utf8 size (Err faults.Memory) top given h = absurd cc

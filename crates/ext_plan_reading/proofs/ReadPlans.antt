@@ -8,9 +8,10 @@ use Rattle.std.proofs.lemmas.List.Elements.{All-nil}
 use Rattle.toml.specs.Data.{Members, get_member}
 use Rattle.ext_lifecycle.specs.declared.call.Kind.{Kind}
 use Rattle.ext_lifecycle.specs.declared.call.Kind.TheVariants as kinds
+use Rattle.ext_model.specs.Sizes.{most_contexts}
+use Rattle.ext_model.specs.declared.size.Size.{Size}
 use Rattle.ext_tree.specs.Decided.{is_tree}
 use Rattle.ext_tree.specs.Trees.{children_of, Id, IsTree}
-use Rattle.ext_tree.proofs.Testing.{test_tells}
 use Rattle.ext_plan.specs.declared.plan.Plan.{Plan}
 use Rattle.ext_plan.specs.Plans.{StepText, NodeText, PlanText, callbacks_of, plan_view}
 use Rattle.ext_plan.specs.Steps.{height, step_limit, callback_limit}
@@ -34,6 +35,7 @@ use Rattle.ext_plan_reading.proofs.KeyReading.{keys_are_own, no_keys}
 use Rattle.ext_plan_reading.proofs.NodeReading.{NodeFits, IsAlone, KindFits, FitsIn, outline_of_node, outlines_of_nodes, if_is_test, nodes_are_read, childless}
 use Rattle.ext_plan_reading.proofs.StepReading.{AreFitting}
 use Rattle.ext_plan_reading.proofs.TestDepths.{least_is_below}
+use Rattle.ext_plan_reading.proofs.TreeTests.{tree_within}
 
 -- ---- from what was read of one node
 
@@ -103,30 +105,31 @@ stays_below_root labels plan fit = record {
 ids_in-nodes : (nodes : List NodeText) → map (λ o. o.0) (outlines_of_nodes nodes) ≡ ids_of_nodes nodes
 ids_in-nodes nodes = map-map (λ (o : Outline). o.0) outline_of_node nodes
 
-is_read : (top : Members) (plan : PlanText) → plan_of top ≡ Ok plan → IsReadPlan plan
+is_read : (size : Size) (top : Members) (plan : PlanText) → plan_of size top ≡ Ok plan → IsReadPlan plan
 unfolding plan_of plan_of_tables nodes_of_tables
-is_read top plan h =
+is_read size top plan h =
     let fields = both_gave (check (faults.UnknownField places.Whole) (has_only top_fields top)) _ _ h in
     let keep_faults = both_gave (truth_or_false (faults.BadField places.Whole) (get_member (codes "keep_faults") top)) _ _ fields.2 in
     let key_places = both_gave (key_places_or_64 (faults.BadField places.Whole) (get_member (codes "keys") top)) _ _ keep_faults.2 in
     let key_tables = both_gave (tables_or_none (faults.BadField places.Whole) (get_member (codes "key") top)) _ _ key_places.2 in
     let node_tables = both_gave (tables_or_none (faults.BadField places.Whole) (get_member (codes "node") top)) _ _ key_tables.2 in
     let keys = both_gave (keys_after [] key_tables.0) _ _ node_tables.2 in
-    let nodes = both_gave (nodes_of_tables (labels_of keys.0) node_tables.0) _ _ keys.2 in
+    let nodes = both_gave (nodes_of_tables size (labels_of keys.0) node_tables.0) _ _ keys.2 in
     let sketches = both_gave (sketches_after [] node_tables.0) _ _ nodes.1 in
-    let tree = both_gave (check faults.BadTree (is_tree (ids_of sketches.0))) _ _ sketches.2 in
+    let told = both_gave (check faults.BadTree (is_tree (most_contexts size) (ids_of sketches.0))) _ _ sketches.2 in
+    let tree = tree_within size (ids_of sketches.0) (passed _ (is_tree (most_contexts size) (ids_of sketches.0)) told.0 told.1) in
     let few = both_gave (check faults.TooMany (nat_le (length (different_keys keys.0)) key_places.0)) _ _ nodes.2 in
     let few_locks = both_gave (check faults.TooMany (nat_le (length (lock_names nodes.0)) lock_limit)) _ _ few.2 in
     let blocks = are_blocks (faults.BadField places.Whole) (get_member (codes "keys") top) key_places.0 key_places.1 in
     let own = keys_are_own [] key_tables.0 keys.0 keys.1 no_keys in
-    let read = nodes_are_read (labels_of keys.0) sketches.0 [] sketches.0 nodes.0 (All-nil (FitsIn (length (labels_of keys.0)) (outlines_of sketches.0))) (λ k less d. absurd (omega (arith, less))) tree.2 in
+    let read = nodes_are_read (labels_of keys.0) sketches.0 [] sketches.0 nodes.0 (All-nil (FitsIn (length (labels_of keys.0)) (outlines_of sketches.0))) (λ k less d. absurd (omega (arith, less))) told.2 in
     let count : length (labels_of keys.0) ≡ length keys.0 = length-map keys.0 (λ k. k.label) in
     let fit : All (FitsIn (length keys.0) (outlines_of_nodes nodes.0)) nodes.0 =
     subst (λ outlines. All (FitsIn (length keys.0) outlines) nodes.0) (sym read.of_sketches) (subst (λ n. All (FitsIn n (outlines_of sketches.0)) nodes.0) count read.fit) in
     let ids : ids_of_nodes nodes.0 ≡ ids_of sketches.0 = sym (ids_in-nodes nodes.0) ∙ ap (map (λ o. o.0)) read.of_sketches ∙ ids_in-sketches sketches.0 in
-    rw (← ok_value (record { keep_faults = keep_faults.0; key_places = key_places.0; keys = keys.0; nodes = nodes.0 }) plan _ refl few_locks.2) (record {
+    rw (← ok_value (record { keep_faults = keep_faults.0; key_places = key_places.0; size = size; keys = keys.0; nodes = nodes.0 }) plan _ refl few_locks.2) (record {
       runnable = record {
-        tree = subst IsTree (sym ids) ((test_tells (ids_of sketches.0)).0 (passed _ (is_tree (ids_of sketches.0)) tree.0 tree.1));
+        tree = subst IsTree (sym ids) tree.tree;
         tests = λ k less d. in_test _ (λ _. IsAlone (has_children (ids_of sketches.0) k) (get_or nodes.0 k d)) (λ _. children_of (ids_of_nodes nodes.0) k ≡ []) (λ steps alone. subst (λ ids. children_of ids k ≡ []) (sym ids) (childless (ids_of sketches.0) k alone.childless)) (read.alone k less d);
         places = record { whole = blocks.whole; some = blocks.some; few = blocks.few };
         locks = leb-true _ _ (passed _ (nat_le (length (lock_names nodes.0)) lock_limit) few_locks.0 few_locks.1);
@@ -134,14 +137,15 @@ is_read top plan h =
         short = λ k d less. of_all_steps (λ steps. length steps ≤ step_limit) _ _ _ (fit k d less) (λ depth steps fits. fits.short);
         few = λ k d less kind. few_of_kind _ _ _ (fit k d less) kind;
       };
+      nodes = omega (arith, tree.few, length-map nodes.0 (λ n. n.id), ap length ids);
       containers = λ k d less. in_test _ (λ _. IsAlone (has_children (ids_of sketches.0) k) (get_or nodes.0 k d)) (λ _. HasNoContainerCallbacks (get_or nodes.0 k d)) (λ steps alone. alone.callbacks) (read.alone k less d);
       different = leb-true _ _ (passed _ (nat_le (length (different_keys keys.0)) key_places.0) few.0 few.1);
       labels = record { words = own.words; different = own.different };
       keys = λ k d less. of_all_steps (All (NamesLabelBelow (length keys.0))) _ _ _ (fit k d less) (λ depth steps fits. fits.names);
-      up = stays_below_root (length keys.0) (record { keep_faults = keep_faults.0; key_places = key_places.0; keys = keys.0; nodes = nodes.0 }) fit;
+      up = stays_below_root (length keys.0) (record { keep_faults = keep_faults.0; key_places = key_places.0; size = size; keys = keys.0; nodes = nodes.0 }) fit;
     })
 
 -- it holds of what a function returned that reads
-pub if_read : (read : Result Plan PlanFault) (top : Members) → Gives plan_view read (plan_of top) → IfOk read (λ p. IsReadPlan (plan_view p))
-if_read (Ok p) top h = is_read top (plan_view p) h
-if_read (Err e) top h = tt
+pub if_read : (size : Size) (read : Result Plan PlanFault) (top : Members) → Gives plan_view read (plan_of size top) → IfOk read (λ p. IsReadPlan (plan_view p))
+if_read size (Ok p) top h = is_read size top (plan_view p) h
+if_read size (Err e) top h = tt

@@ -5,6 +5,8 @@ use Rattle.toml.specs.Data.{Members, get_member}
 use Rattle.ext_ids.specs.declared.fault.IdFault.{IdFault}
 use Rattle.ext_ids.specs.Grammar.{Pair}
 use Rattle.ext_ids.specs.Reading.{read_id}
+use Rattle.ext_model.specs.Sizes.{most_contexts}
+use Rattle.ext_model.specs.declared.size.Size.{Size}
 use Rattle.ext_tree.specs.Decided.{is_tree}
 use Rattle.ext_tree.specs.Trees.{children_of, Id}
 use Rattle.ext_plan.specs.Plans.{StepText, NodeText}
@@ -112,9 +114,9 @@ nodes_after labels all before (sketch ∷ more) = do
   node ← node_at labels (length before) (has_children (ids_of all) (length before)) (least_test_depth (outlines_of all) sketch.id) sketch
   nodes_after labels all (before ++ node ∷ []) more
 
--- The nodes of tables: the fields and the id of each, then the tree of the ids, then the rest of each.
-unfoldable pub nodes_of_tables : List (List ℕ) → List Members → Result (List NodeText) PlanFault
-nodes_of_tables labels tables = do
+-- The nodes of tables in a plan of this size: the fields and the id of each, then the tree of the ids, then the rest of each.
+unfoldable pub nodes_of_tables : Size → List (List ℕ) → List Members → Result (List NodeText) PlanFault
+nodes_of_tables size labels tables = do
   sketches ← sketches_after [] tables
-  _ ← check faults.BadTree (is_tree (ids_of sketches))
+  _ ← check faults.BadTree (is_tree (most_contexts size) (ids_of sketches))
   nodes_after labels sketches [] sketches

@@ -2,6 +2,7 @@
 use Rattle.std.specs.Prelude.{ℕ, nat_le, Bool, codes, List, [], ◌∷◌, length, Result, Ok}
 use Rattle.toml.specs.Data.{Members, get_member}
 use Rattle.toml.specs.Parse.{parse_document}
+use Rattle.ext_model.specs.declared.size.Size.{Size}
 use Rattle.ext_plan.specs.Plans.{PlanText}
 use Rattle.ext_plan.specs.Labels.{labels_of}
 use Rattle.ext_plan.specs.StoreKeys.{different_keys}
@@ -17,27 +18,28 @@ use Rattle.ext_plan_reading.specs.NodeReading.{nodes_of_tables}
 abbrev pub top_fields : List (List ℕ)
 top_fields = codes "keep_faults" ∷ codes "keys" ∷ codes "key" ∷ codes "node" ∷ []
 
--- The plan with these tables of keys and nodes, whose store keeps faults or not and has this many places for keys.
-unfoldable pub plan_of_tables : Bool → ℕ → List Members → List Members → Result PlanText PlanFault
-plan_of_tables keep_faults key_places key_tables node_tables = do
+-- The plan of this size with these tables of keys and nodes, whose store keeps faults or not and has this many places
+-- for keys.
+unfoldable pub plan_of_tables : Size → Bool → ℕ → List Members → List Members → Result PlanText PlanFault
+plan_of_tables size keep_faults key_places key_tables node_tables = do
   keys ← keys_after [] key_tables
-  nodes ← nodes_of_tables (labels_of keys) node_tables
+  nodes ← nodes_of_tables size (labels_of keys) node_tables
   _ ← check faults.TooMany (nat_le (length (different_keys keys)) key_places)
   _ ← check faults.TooMany (nat_le (length (lock_names nodes)) lock_limit)
-  Ok (record { keep_faults = keep_faults; key_places = key_places; keys = keys; nodes = nodes })
+  Ok (record { keep_faults = keep_faults; key_places = key_places; size = size; keys = keys; nodes = nodes })
 
--- The plan of a document.
-unfoldable pub plan_of : Members → Result PlanText PlanFault
-plan_of top = do
+-- The plan of a document, which may be as large as this.
+unfoldable pub plan_of : Size → Members → Result PlanText PlanFault
+plan_of size top = do
   _ ← check (faults.UnknownField places.Whole) (has_only top_fields top)
   keep_faults ← truth_or_false (faults.BadField places.Whole) (get_member (codes "keep_faults") top)
   key_places ← key_places_or_64 (faults.BadField places.Whole) (get_member (codes "keys") top)
   key_tables ← tables_or_none (faults.BadField places.Whole) (get_member (codes "key") top)
   node_tables ← tables_or_none (faults.BadField places.Whole) (get_member (codes "node") top)
-  plan_of_tables keep_faults key_places key_tables node_tables
+  plan_of_tables size keep_faults key_places key_tables node_tables
 
--- The plan of a text.
-unfoldable pub plan_of_text : List ℕ → Result PlanText PlanFault
-plan_of_text text = do
+-- The plan of a text, which may be as large as this.
+unfoldable pub plan_of_text : Size → List ℕ → Result PlanText PlanFault
+plan_of_text size text = do
   top ← some_or faults.NotToml (parse_document text)
-  plan_of top
+  plan_of size top

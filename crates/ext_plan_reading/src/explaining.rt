@@ -13,6 +13,7 @@ mod words;
 
 use crate::fault::{Place, PlanFault};
 use ends::with_end;
+use ext_model::Size;
 use fields::{bad_field, bad_label, unknown_field};
 use headers::hint_at;
 pub use ids::explain_id;
@@ -31,15 +32,21 @@ use words::said;
 /// where the table of the key or node begins, if the table has a header of its own, and the node's
 /// id, if it has one. The contract covers only the place that the fault names.
 ///
-/// The fault is the answer of `read_plan` to this text, or `NotUtf8` if the bytes are no text. For
-/// any other fault the line says that another one comes before, or that there is no such fault.
+/// The fault is the answer of `read_plan_within` to this text and size, or `NotUtf8` if the bytes
+/// are no text. For any other fault the line says that another one comes before, or that there is no
+/// such fault.
 ///
-/// Takes memory for the line, and for what `read_plan` takes it for; fails with `AllocError` only
+/// Takes memory for the line, and for what `read_plan_within` takes it for; fails with `AllocError` only
 /// if that is refused.
-pub fn explain(alloc: Global, input: &[u8], fault: PlanFault) -> Result<String, AllocError>
+pub fn explain(
+    alloc: Global,
+    input: &[u8],
+    size: Size,
+    fault: PlanFault,
+) -> Result<String, AllocError>
     ensures { IfOk result (λ line. Explains fault (string_bytes line)) }
 {
-    let meaning = told(alloc, input, fault)?;
+    let meaning = told(alloc, input, size, fault)?;
     line_of(alloc, fault, meaning.as_str())
 }
 
@@ -66,8 +73,8 @@ fn write_place(line: &mut String, place: Place) -> Result<(), AllocError>
 }
 
 /// The meaning of a fault of these bytes, or that they do not have it.
-fn told(alloc: Global, input: &[u8], fault: PlanFault) -> Result<String, AllocError> {
-    match meaning(alloc, input, fault) {
+fn told(alloc: Global, input: &[u8], size: Size, fault: PlanFault) -> Result<String, AllocError> {
+    match meaning(alloc, input, size, fault) {
         Ok(Some(meaning)) => Ok(meaning),
         Ok(None) => String::from_str(alloc, "it has no such fault"),
         Err(PlanFault::Memory) => Err(AllocError),
@@ -77,13 +84,18 @@ fn told(alloc: Global, input: &[u8], fault: PlanFault) -> Result<String, AllocEr
 
 /// The meaning of a fault of these bytes, if they have it. Another fault that comes before it is an
 /// error.
-fn meaning(alloc: Global, input: &[u8], fault: PlanFault) -> Result<Option<String>, PlanFault> {
+fn meaning(
+    alloc: Global,
+    input: &[u8],
+    size: Size,
+    fault: PlanFault,
+) -> Result<Option<String>, PlanFault> {
     let text = match std::str::from_utf8(input) {
         Ok(text) => text,
         Err(e) => return no_utf8(alloc, e.valid_up_to()),
     };
     match toml::table_from_str(alloc, text) {
-        Ok(top) => meaning_with_end(alloc, text, &top, fault),
+        Ok(top) => meaning_with_end(alloc, text, &top, size, fault),
         Err(e) => no_toml(alloc, text, &e),
     }
 }
@@ -121,25 +133,31 @@ fn meaning_with_end(
     alloc: Global,
     text: &str,
     top: &Table,
+    size: Size,
     fault: PlanFault,
 ) -> Result<Option<String>, PlanFault> {
-    match meaning_in(alloc, top, fault)? {
+    match meaning_in(alloc, top, size, fault)? {
         None => Ok(None),
         Some(meaning) => { Ok(Some(with_end(alloc, text, top, fault, meaning.as_str())?)) }
     }
 }
 
 /// The meaning of a fault of a document, if it has it.
-fn meaning_in(alloc: Global, top: &Table, fault: PlanFault) -> Result<Option<String>, PlanFault> {
+fn meaning_in(
+    alloc: Global,
+    top: &Table,
+    size: Size,
+    fault: PlanFault,
+) -> Result<Option<String>, PlanFault> {
     match fault {
         PlanFault::NotUtf8 | PlanFault::NotToml => Ok(None),
         PlanFault::UnknownField(place) => unknown_field(alloc, top, place),
         PlanFault::BadField(place) => bad_field(alloc, top, place),
         PlanFault::BadLabel(key) => bad_label(alloc, top, key),
         PlanFault::BadId(node) => bad_id(alloc, top, node),
-        PlanFault::BadStep(node) => bad_step(alloc, top, node),
+        PlanFault::BadStep(node) => bad_step(alloc, top, size, node),
         PlanFault::BadTree | PlanFault::BadLock(_) | PlanFault::BadTest(_) => {
-            bad_nodes(alloc, top, fault)
+            bad_nodes(alloc, top, size, fault)
         }
         PlanFault::TooMany => too_many(alloc, top),
         PlanFault::Memory => said(alloc, "memory was refused while it was read"),

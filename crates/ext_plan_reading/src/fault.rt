@@ -50,8 +50,8 @@ impl fmt::Display for Place {
 /// `plan: P5 key 1`.
 #[derive(Clone, Copy, Debug, PartialEq, Eq, Error)]
 pub enum PlanFault {
-    /// P1: the bytes are not UTF-8. This is for callers that hold bytes: `read_plan` takes text and
-    /// never answers it.
+    /// P1: the bytes are not UTF-8. This is for callers that hold bytes: `read_plan_within` takes
+    /// text and never answers it.
     NotUtf8,
     /// P2: the text is no TOML document.
     NotToml,
@@ -69,8 +69,9 @@ pub enum PlanFault {
     BadLabel(usize),
     /// P6: the id of a node is no unique id, or has more than 16 segments.
     BadId(usize),
-    /// P7: the ids do not form a tree. There is none or more than 256, the first has more than one
-    /// segment, or another one is repeated, has one segment or has no parent before it.
+    /// P7: the ids do not form a tree. There is none, or more than a plan of its size may have
+    /// (`Size::contexts`); the first has more than one segment; or another one is repeated, has one
+    /// segment or has no parent before it.
     BadTree,
     /// P8: a text in the `test` or in a callback of a node is no step, or goes up past the root
     /// from a test or container in which it will run. Or a test or callback has 2^32 steps or more,

@@ -1,8 +1,8 @@
 //! Reads plans of test runs from TOML documents, or reports the first fault of the text.
 //!
-//! `read_plan` reads, `Plan` is the result, and `PlanFault` is why a text was refused. `explain`
-//! explains such a fault, and `explain_id` the fault of an id. What a plan is stands in `ext_plan`,
-//! whose types of a plan's data this crate exports too.
+//! `read_plan` and `read_plan_within` read, `Plan` is the result, and `PlanFault` is why a text was
+//! refused. `explain` explains such a fault, and `explain_id` the fault of an id. What a plan is
+//! stands in `ext_plan`, whose types of a plan's data this crate exports too.
 //!
 //! JUnit has no plans.
 #![tactic(auto)]
@@ -28,4 +28,4 @@ pub(crate) use keys::{Keys, keys_of};
 pub(crate) use labels::Labels;
 pub(crate) use locks::locks_are_few;
 pub(crate) use nodes::nodes_of_tables;
-pub use read::read_plan;
+pub use read::{read_plan, read_plan_within};

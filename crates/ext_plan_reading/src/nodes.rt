@@ -2,6 +2,7 @@
 ghost use Rattle.std.specs.Prelude.{◌≡◌, ◌≤◌, [], length, map, option_map, IfOk};
 ghost use Rattle.toml.specs.View.{table_view};
 ghost use Rattle.ext_ids.specs.Reading.{read_id};
+ghost use Rattle.ext_model.specs.Sizes.{most_contexts};
 ghost use Rattle.ext_tree.specs.Decided.{is_tree};
 ghost use Rattle.ext_plan.specs.Plans.{node_view, nodes_view, steps_view};
 ghost use Rattle.ext_plan_reading.specs.InnerSketches.{sketch_view};
@@ -17,6 +18,7 @@ use crate::locks::locks_of;
 use crate::modes::mode_at;
 use crate::steps::steps_of;
 use ext_ids::{IdFault, UniqueId};
+use ext_model::Size;
 use ext_plan::{PlanNode, Step};
 use ext_tree::{Tree, TreeFault};
 use std::alloc::{AllocError, Global};
@@ -47,18 +49,19 @@ pub(crate) struct NodeSketch<'a> {
     pub test: Option<Vec<&'a str>>,
 }
 
-/// The nodes in the tables, in order.
+/// The nodes in the tables, in order, of a plan of this size.
 #[tactic(auto, unfolding(crate::specs::NodeReading::nodes_of_tables))]
 pub(crate) fn nodes_of_tables(
     alloc: Global,
+    size: Size,
     labels: &Labels<'_>,
     tables: &[&Table],
 ) -> Result<Vec<PlanNode>, PlanFault>
-    ensures exact { Gives (λ v. nodes_view v.items) result (nodes_of_tables labels.now (map (λ t. table_view t.now) tables.now)) }
-    ensures few { IfOk result (λ v. length v.items ≤ 256) }
+    ensures exact { Gives (λ v. nodes_view v.items) result (nodes_of_tables size labels.now (map (λ t. table_view t.now) tables.now)) }
+    ensures few { IfOk result (λ v. length v.items ≤ most_contexts size) }
 {
     let sketches = sketches_of(alloc, tables)?;
-    let tree = tree_of(alloc, sketches.as_slice())?;
+    let tree = tree_of(alloc, size, sketches.as_slice())?;
     nodes_of(alloc, labels, &tree, sketches.as_slice())
 }
 
@@ -116,13 +119,17 @@ fn id_of(alloc: Global, node: usize, text: &str) -> Result<UniqueId, PlanFault>
     }
 }
 
-pub(crate) fn tree_of(alloc: Global, sketches: &[NodeSketch<'_>]) -> Result<Tree, PlanFault>
-    ensures exact { Gives (λ _. tt) result (check PlanFault.BadTree (is_tree (ids_of (map sketch_view sketches.now)))) }
+pub(crate) fn tree_of(
+    alloc: Global,
+    size: Size,
+    sketches: &[NodeSketch<'_>],
+) -> Result<Tree, PlanFault>
+    ensures exact { Gives (λ _. tt) result (check PlanFault.BadTree (is_tree (most_contexts size) (ids_of (map sketch_view sketches.now)))) }
     ensures ids { IfOk result (λ tree. tree ≡ ids_of (map sketch_view sketches.now)) }
-    ensures few { IfOk result (λ _. length sketches.now ≤ 256) }
+    ensures few { IfOk result (λ _. length sketches.now ≤ most_contexts size) }
 {
     let ids = ids_of(alloc, sketches)?;
-    match Tree::build(alloc, ids.as_slice()) {
+    match Tree::build_within(alloc, ids.as_slice(), size.contexts()) {
         Ok(tree) => Ok(tree),
         Err(fault) => match fault {
             TreeFault::Memory => Err(PlanFault::Memory),

@@ -1,6 +1,7 @@
 //! Reading a plan from its text.
 ghost use Rattle.std.specs.Prelude.{◌≡◌, ◌≢◌, ◌≤◌, Err, map, IfOk};
 ghost use Rattle.toml.specs.View.{table_view};
+ghost use Rattle.ext_model.specs.declared.size.Size.TheVariants as sizes;
 ghost use Rattle.ext_plan.specs.Plans.{plan_view};
 ghost use Rattle.ext_plan.specs.ReadPlans.{IsReadPlan};
 ghost use Rattle.ext_plan_reading.specs.Faults.{Gives};
@@ -10,11 +11,12 @@ use crate::{
     Place, PlanFault, TOP_FIELDS, has_only, key_places_at, keys_of, locks_are_few, nodes_of_tables,
     tables_at, truth_at,
 };
+use ext_model::Size;
 use ext_plan::{Plan, keys_are_few};
 use std::alloc::Global;
 use toml::Table;
 
-/// Reads the plan in the text of a TOML document.
+/// Reads the plan of usual size, at most 256 nodes, in the text of a TOML document.
 ///
 /// The plan has the keys, nodes, callbacks and steps of the text, in its order. The document may
 /// have `keep_faults`, true or by default false, and two arrays of tables, `key` and `node`. It may
@@ -53,24 +55,36 @@ use toml::Table;
 ///
 /// Takes memory for the document, the lists of its tables and texts, the set of labels, the tree of
 /// the ids, the different keys and the plan, all in proportion to the text. All but the plan's is given back.
-#[tactic(auto, unfolding(crate::specs::Reading::plan_of_text))]
 pub fn read_plan(alloc: Global, text: &str) -> Result<Plan, PlanFault>
-    ensures exact { Gives plan_view result (plan_of_text text.now) }
+    ensures exact { Gives plan_view result (plan_of_text sizes.Usual text.now) }
+    ensures utf8 { result ≢ Err PlanFault.NotUtf8 }
+
+    // This holds of every plan, whatever the text was.
+    ensures plan { IfOk result (λ p. IsReadPlan (plan_view p)) }
+{
+    read_plan_within(alloc, text, Size::Usual)
+}
+
+/// Reads a plan like `read_plan`, which may be as large as `size` says: it has at most
+/// `size.contexts()` nodes, and a run of it draws at most `size.numbers()` numbers.
+#[tactic(auto, unfolding(crate::specs::Reading::plan_of_text))]
+pub fn read_plan_within(alloc: Global, text: &str, size: Size) -> Result<Plan, PlanFault>
+    ensures exact { Gives plan_view result (plan_of_text size text.now) }
     ensures utf8 { result ≢ Err PlanFault.NotUtf8 }
 
     // This holds of every plan, whatever the text was.
     ensures plan { IfOk result (λ p. IsReadPlan (plan_view p)) }
 {
     match toml::table_from_str(alloc, text) {
-        Ok(top) => plan_of(alloc, &top),
+        Ok(top) => plan_of(alloc, &top, size),
         Err(fault) if fault.is_memory() => Err(PlanFault::Memory),
         Err(_) => Err(PlanFault::NotToml),
     }
 }
 
 #[tactic(auto, unfolding(crate::specs::Reading::plan_of))]
-fn plan_of(alloc: Global, top: &Table) -> Result<Plan, PlanFault>
-    ensures { Gives plan_view result (plan_of (table_view top.now)) }
+fn plan_of(alloc: Global, top: &Table, size: Size) -> Result<Plan, PlanFault>
+    ensures { Gives plan_view result (plan_of size (table_view top.now)) }
 {
     if !has_only(&TOP_FIELDS, top) {
         return Err(PlanFault::UnknownField(Place::Whole));
@@ -81,6 +95,7 @@ fn plan_of(alloc: Global, top: &Table) -> Result<Plan, PlanFault>
     let node_tables = tables_at(alloc, top, "node", PlanFault::BadField(Place::Whole))?;
     plan_of_tables(
         alloc,
+        size,
         keep_faults,
         key_places,
         key_tables.as_slice(),
@@ -88,20 +103,22 @@ fn plan_of(alloc: Global, top: &Table) -> Result<Plan, PlanFault>
     )
 }
 
-/// The plan with the keys and nodes in these tables, with places for at most 1,024 keys.
+/// The plan of this size with the keys and nodes in these tables, with places for at most 1,024
+/// keys.
 #[tactic(auto, unfolding(crate::specs::Reading::plan_of_tables))]
 fn plan_of_tables(
     alloc: Global,
+    size: Size,
     keep_faults: bool,
     key_places: usize,
     key_tables: &[&Table],
     node_tables: &[&Table],
 ) -> Result<Plan, PlanFault>
     requires { key_places ≤ 1024 }
-    ensures { Gives plan_view result (plan_of_tables keep_faults key_places (map (λ t. table_view t.now) key_tables.now) (map (λ t. table_view t.now) node_tables.now)) }
+    ensures { Gives plan_view result (plan_of_tables size keep_faults key_places (map (λ t. table_view t.now) key_tables.now) (map (λ t. table_view t.now) node_tables.now)) }
 {
     let keys = keys_of(alloc, key_tables)?;
-    let nodes = nodes_of_tables(alloc, &keys.labels, node_tables)?;
+    let nodes = nodes_of_tables(alloc, size, &keys.labels, node_tables)?;
     if !keys_are_few(alloc, keys.keys.as_slice(), key_places)? {
         return Err(PlanFault::TooMany);
     }
@@ -111,6 +128,7 @@ fn plan_of_tables(
     Ok(Plan {
         keep_faults,
         key_places,
+        size,
         keys: keys.keys,
         nodes,
     })

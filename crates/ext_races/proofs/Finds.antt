@@ -4,6 +4,7 @@ use Rattle.std.specs.Borrow.{Bor}
 use Rattle.std.specs.List.{count_by, flat_map}
 use Rattle.std.proofs.lemmas.List.{length-map}
 use Rattle.std.proofs.lemmas.List.Elements.{All-weaker}
+use Rattle.ext_model.specs.Sizes.{most_numbers}
 use Rattle.ext_tree.specs.Keys.{KeyValue}
 use Rattle.ext_tree.specs.Trees.{Id}
 use Rattle.ext_plan.specs.Plans.{KeyText, PlanText}
@@ -17,7 +18,7 @@ use Rattle.ext_races.specs.InnerGroups.{IsGrouped}
 use Rattle.ext_races.specs.InnerNaming.{keys_of, keys_told}
 use Rattle.ext_races.specs.InnerTold.{groups_told}
 use Rattle.ext_races.specs.MadeSteps.{MadeText, made_view, steps_made}
-use Rattle.ext_races.specs.Races.{AreRaces, keys_of_names, number_limit}
+use Rattle.ext_races.specs.Races.{AreRaces, keys_of_names}
 use Rattle.ext_races.specs.Touches.{TouchText, keys_named, numbers_drawn, touches_of}
 use Rattle.ext_races.proofs.Exact.{are_races}
 use Rattle.ext_races.proofs.Within.{nodes_within}
@@ -32,8 +33,8 @@ module _ (plan : PlanText) (made : List MadeText) (steps : made ≡ steps_made p
 
   pub finds : (most : ℕ) (declared : List KeyText) (directory : List KeyValue) (names : List (Bor StepKey)) (drawn : ℕ) (ids : List Id) (groups : List (List TouchText)) (told : List Race)
       → declared ≡ plan.keys → ids ≡ ids_of_nodes plan.nodes → directory ≡ keys_told declared made → length directory ≤ plan.key_places → keys_of declared names ≡ directory
-      → drawn ≡ count_by (λ m. draws plan.keep_faults m.step) made → drawn ≤ 65535 → IsGrouped (length directory) (flat_map (touches_of ids declared directory) made) groups → told ≡ groups_told plan most groups
-      → (length (keys_named plan) ≤ plan.key_places) × (numbers_drawn plan ≤ number_limit) × AreRaces plan most told × (keys_of_names plan names ≡ keys_named plan)
+      → drawn ≡ count_by (λ m. draws plan.keep_faults m.step) made → drawn ≤ most_numbers plan.size → IsGrouped (length directory) (flat_map (touches_of ids declared directory) made) groups → told ≡ groups_told plan most groups
+      → (length (keys_named plan) ≤ plan.key_places) × (numbers_drawn plan ≤ most_numbers plan.size) × AreRaces plan most told × (keys_of_names plan names ≡ keys_named plan)
   finds most declared directory names drawn ids groups told keys nodes is few words count fits grouped tells =
       let named = named_is declared directory keys is in
       let long = ap length named in

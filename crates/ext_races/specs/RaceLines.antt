@@ -11,6 +11,7 @@ use Rattle.std.specs.Borrow.{Bor}
 use Rattle.std.specs.Fmt.{decimal}
 use Rattle.std.specs.List.{flat_map, slice_get}
 use Rattle.ext_ids.specs.Grammar.{id_text}
+use Rattle.ext_model.specs.Sizes.{most_numbers}
 use Rattle.ext_plan.specs.Plans.{NodeText, PlanText, step_key_view}
 use Rattle.ext_plan.specs.StepCalls.{label_of}
 use Rattle.ext_plan.specs.declared.plan.StepKey.{StepKey}
@@ -55,5 +56,5 @@ module _ (plan : PlanText) where
   -- What is written, by what was found.
   abbrev pub found_text : Found → List ℕ
   found_text found.TooManyKeys = codes "the steps name more than " ++ decimal plan.key_places ++ codes " keys\n"
-  found_text found.TooManyNumbers = codes "the steps may draw more than 65535 numbers\n"
+  found_text found.TooManyNumbers = codes "the steps may draw more than " ++ decimal (most_numbers plan.size) ++ codes " numbers\n"
   found_text (found.Races races names) = race_lines names.items races.items

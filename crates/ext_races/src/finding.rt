@@ -2,7 +2,7 @@
 ghost use Rattle.std.specs.Prelude.{◌≡◌, IfOk};
 ghost use Rattle.ext_plan.specs.Plans.{plan_view};
 ghost use Rattle.ext_plan.specs.ReadPlans.{IsRunnablePlan};
-ghost use Rattle.ext_races.specs.Races.{IsFound, number_limit};
+ghost use Rattle.ext_races.specs.Races.{IsFound};
 
 use crate::Found;
 use crate::groups::groups_of;
@@ -13,9 +13,6 @@ use ext_plan::{Plan, StepKeys};
 use ext_tree::TreeFault;
 use std::alloc::{AllocError, Global};
 
-/// How many numbers a run can draw.
-const NUMBERS: usize = 65_535;
-
 /// Lists at most `most` races of a plan, without repetition, or reports a limit that its steps
 /// exceed. A race is of two nodes that may run beside one another, each with a step. Both steps
 /// touch one place that one of them may change, and do not compute the same result there; or both
@@ -24,8 +21,8 @@ const NUMBERS: usize = 65_535;
 /// plan has no race.
 ///
 /// `TooManyKeys` reports that the steps name more keys than `Plan::key_places`, and otherwise
-/// `TooManyNumbers` that they may draw more than 65,535 numbers. Such a plan has no one report,
-/// whatever its nodes touch.
+/// `TooManyNumbers` that they may draw more numbers than a plan of this size may. Such a plan has no
+/// one report, whatever its nodes touch.
 ///
 /// Takes memory for the steps that the plan may make, 32 bytes each, for what they touch, and for a
 /// list for each key that they name in each context; fails with `AllocError` only if that is
@@ -44,7 +41,8 @@ pub fn races<'p>(alloc: Global, plan: &'p Plan, most: usize) -> Result<Found<'p>
         Err(TreeFault::TooMany) => return Ok(Found::TooManyKeys),
         Err(_) => return Err(AllocError),
     };
-    if numbers_drawn(plan, made.as_slice()) > NUMBERS {
+    let numbers = plan.size.numbers() as usize;
+    if numbers_drawn(plan, made.as_slice()) > numbers {
         return Ok(Found::TooManyNumbers);
     }
     let groups = groups_of(alloc, &keys, &directory, &tree, made.as_slice())?;

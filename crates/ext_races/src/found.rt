@@ -13,6 +13,7 @@ pub enum Found<'p> {
     /// The steps name more different keys than a run has places for (`Plan::key_places`): which of
     /// them get a place depends on the schedule.
     TooManyKeys,
-    /// The steps may draw more than 65,535 numbers: which of them get one depends on the schedule.
+    /// The steps may draw more numbers than a run has (`Plan::size`): which of them get one depends
+    /// on the schedule.
     TooManyNumbers,
 }

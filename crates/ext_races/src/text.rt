@@ -2,6 +2,7 @@
 ghost use Rattle.std.specs.Prelude.{◌≡◌, ◌++◌, codes, string_bytes, take, IfOk, OnOk};
 ghost use Rattle.std.specs.Fmt.{decimal};
 ghost use Rattle.std.specs.List.{flat_map, slice_get};
+ghost use Rattle.ext_model.specs.Sizes.{most_numbers};
 ghost use Rattle.ext_plan.specs.Plans.{plan_view, step_key_view};
 ghost use Rattle.ext_plan.specs.StepCalls.{label_of};
 ghost use Rattle.ext_races.specs.RaceLines.{found_text, id_of_node, line_limit, name_if, race_line, race_lines, side_text};
@@ -26,7 +27,7 @@ pub fn races_text(alloc: Global, plan: &Plan, found: &Found<'_>) -> Result<Strin
     let mut text = String::new(alloc);
     match found {
         Found::TooManyKeys => push_places(&mut text, plan)?,
-        Found::TooManyNumbers => text.push_str("the steps may draw more than 65535 numbers\n")?,
+        Found::TooManyNumbers => push_numbers(&mut text, plan)?,
         Found::Races { races, names } => {
             push_races(&mut text, plan, races.as_slice(), names.as_slice())?;
         }
@@ -39,6 +40,17 @@ fn push_places(text: &mut String, plan: &Plan) -> Result<(), AllocError>
     ensures { OnOk result (string_bytes text.new ≡ string_bytes text.old ++ codes "the steps name more than " ++ decimal (plan_view plan.now).key_places ++ codes " keys\n") }
 {
     write!(text, "the steps name more than {} keys\n", plan.key_places)
+}
+
+/// Adds the line that tells how many numbers a run draws at most.
+fn push_numbers(text: &mut String, plan: &Plan) -> Result<(), AllocError>
+    ensures { OnOk result (string_bytes text.new ≡ string_bytes text.old ++ codes "the steps may draw more than " ++ decimal (most_numbers (plan_view plan.now).size) ++ codes " numbers\n") }
+{
+    write!(
+        text,
+        "the steps may draw more than {} numbers\n",
+        plan.size.numbers()
+    )
 }
 
 fn push_races(

@@ -1,12 +1,15 @@
 -- The word of a row, as marks lay it out, and one cell of it.
-use Rattle.std.proofs.Common.{◌≡◌, ◌≢◌, ℕ, ◌^◌, ◌⊎◌, inl, inr, Bool, true, false, List, get_or, refl, ap, sym, arith, nat_eq, eq-eqb}
-use Rattle.std.specs.Prelude.{if◌then◌else◌}
+use Rattle.std.proofs.Common.{◌≡◌, ◌≢◌, ℕ, suc, ◌+◌, ◌*◌, ◌/◌, ◌%◌, ◌^◌, ◌<◌, ◌⊎◌, inl, inr, Bool, true, false, List, get_or, refl, ap, sym, subst, ◌∙◌, arith, nat_eq, eq-eqb}
+use Rattle.std.proofs.Math.Nat.{mul_assoc, pow-suc}
+use Rattle.std.specs.Prelude.{◌↔◌, if◌then◌else◌, nat_lt}
 use Rattle.std.specs.Int.{bit_at}
-use Rattle.std.specs.Int.Bits.{bit_or}
-use Rattle.std.proofs.lemmas.Nat.Bits.{bit_at_or, bit_at-lt, bit_at-pow_same, bit_at-pow_other}
+use Rattle.std.specs.Int.Bits.{bit_and, bit_or}
+use Rattle.std.proofs.lemmas.Nat.{and_shr, pow_pos}
+use Rattle.std.proofs.lemmas.Nat.Bits.{and_pow, bit_at_and, bit_at_lowest, bit_at_or, bit_at-lt, bit_at-pow_same, bit_at-pow_other, bit_at-suc}
+use Rattle.std.proofs.lemmas.Bool.{eqb-true, le-ltb, lt-ltb, ne_eqb}
 use Rattle.std.proofs.lemmas.Bool.Decides.{eqb_tells}
 use Rattle.ext_rows.specs.Standings.{Standing, At, Open, Ended}
-use Rattle.ext_rows.specs.Marks.{row_place, is_ended, end_of, mark_of, has_mark, with_mark, standing_by, standing_in, stands}
+use Rattle.ext_rows.specs.Marks.{row_place, is_ended, end_of, mark_of, bits_of, has_mark, with_mark, standing_by, standing_in, stands}
 use Rattle.ext_rows.proofs.Passing.{not_both}
 
 -- ---- bits
@@ -22,6 +25,46 @@ set_elsewhere n k i ne =
     let all = bit_at_or n (2 ^ k) i in
     let none = bit_at-pow_other k i ne in omega (arith, all, none)
 
+-- one bit behind the first, and the first
+both_bits : (n k : ℕ) → bit_and n (2 ^ suc k + 1) ≡ bit_at n (suc k) * 2 ^ suc k + bit_at n 0
+both_bits n k =
+    let mask = 2 ^ suc k + 1 in
+    let twice : 2 ^ suc k ≡ 2 ^ k * 2 = pow-suc 2 k in
+    let half : mask / 2 ≡ 2 ^ k = omega (arith, twice) in
+    let high : bit_and n mask / 2 ≡ bit_at n (suc k) * 2 ^ k =
+    and_shr n mask 1 ∙ (ap (bit_and (n / 2)) half ∙ (and_pow (n / 2) k ∙ ap (λ b. b * 2 ^ k) (sym (bit_at-suc n k)))) in
+    let odd : bit_at mask 0 ≡ 1 = bit_at_lowest mask ∙ omega (arith, twice) in
+    let low : bit_and n mask % 2 ≡ bit_at n 0 =
+    sym (bit_at_lowest (bit_and n mask)) ∙ (bit_at_and n mask 0 ∙ (let few = bit_at-lt n 0 in omega (arith, odd, few))) in
+    let product : bit_at n (suc k) * 2 ^ suc k ≡ bit_at n (suc k) * 2 ^ k * 2 = ap (λ p. bit_at n (suc k) * p) twice ∙ sym (mul_assoc (bit_at n (suc k)) (2 ^ k) 2) in
+    omega (arith, high, low, product)
+
+bits_told : (row cell : ℕ) → bit_and row (bits_of cell) ≡ bit_at row (mark_of cell) * 2 ^ mark_of cell + bit_at row 0
+bits_told row cell =
+    let one_more : suc (cell % 32) ≡ mark_of cell = omega arith in
+    subst (λ k. bit_and row (2 ^ k + 1) ≡ bit_at row k * 2 ^ k + bit_at row 0) one_more (both_bits row (cell % 32))
+
+-- a cell's bits in its row's word: more than the end's if it has a mark, else the end's
+bits_cases : (row cell : ℕ) → ((has_mark row cell ≡ true) × (1 < bit_and row (bits_of cell))) ⊎ ((has_mark row cell ≡ false) × (bit_and row (bits_of cell) ≡ bit_at row 0))
+bits_cases row cell =
+    let told = bits_told row cell in
+    let twice : 2 ^ mark_of cell ≡ 2 ^ (cell % 32) * 2 = ap (λ k. 2 ^ k) (omega arith) ∙ pow-suc 2 (cell % 32) in
+    let some = pow_pos (cell % 32) in
+    elim (eqb_tells (bit_at row (mark_of cell)) 1) [
+      | inl t ↦ let product = ap (λ b. b * 2 ^ mark_of cell) t.1 in inl (t.0, omega (arith, told, twice, some, product))
+      | inr t ↦
+          let few = bit_at-lt row (mark_of cell) in
+          let ne = t.1 in
+          let none : bit_at row (mark_of cell) ≡ 0 = omega (arith, few, ne) in
+          let product = ap (λ b. b * 2 ^ mark_of cell) none in inr (t.0, omega (arith, told, product))
+    ]
+
+pub mark_told : (row cell : ℕ) → nat_lt 1 (bit_and row (bits_of cell)) ≡ has_mark row cell
+mark_told row cell = elim (bits_cases row cell) [
+  | inl t ↦ lt-ltb 1 (bit_and row (bits_of cell)) t.1 ∙ sym t.0
+  | inr t ↦ let few = bit_at-lt row 0 in let is = t.1 in le-ltb 1 (bit_and row (bits_of cell)) (omega (arith, is, few)) ∙ sym t.0
+]
+
 -- ---- one cell and its row's word
 
 one_place : {a b : ℕ} → At a ≡ At b → a ≡ b
@@ -36,6 +79,32 @@ pub when_open : (marked ended : Bool) (cell : ℕ) → standing_by marked ended 
 when_open true ended cell is = absurd (cc is)
 when_open false true cell is = absurd (cc is)
 when_open false false cell is = (refl, refl)
+
+open_if_clear : (row cell : ℕ) → bit_and row (bits_of cell) ≡ 0 → standing_in row cell ≡ Open
+open_if_clear row cell clear = elim (bits_cases row cell) [
+  | inl t ↦ let more = t.1 in absurd (omega (arith, more, clear))
+  | inr t ↦
+      let same = t.1 in
+      let going : is_ended row ≡ false = ne_eqb (bit_at row 0) 1 (λ e. absurd (omega (arith, same, clear, e))) in
+      (λ i. standing_by (t.0 i) (going i) cell)
+]
+
+clear_if_open : (row cell : ℕ) → standing_in row cell ≡ Open → bit_and row (bits_of cell) ≡ 0
+clear_if_open row cell open_now =
+    let clear = when_open (has_mark row cell) (is_ended row) cell open_now in
+    elim (bits_cases row cell) [
+      | inl t ↦ absurd (not_both clear.0 t.0)
+      | inr t ↦ elim (eqb_tells (bit_at row 0) 1) [
+        | inl e ↦ absurd (not_both clear.1 e.0)
+        | inr e ↦ let same = t.1 in let ne = e.1 in let few = bit_at-lt row 0 in omega (arith, same, ne, few)
+      ]
+    ]
+
+pub open_told : (row cell : ℕ) → (nat_eq (bit_and row (bits_of cell)) 0 ≡ true) ↔ (standing_in row cell ≡ Open)
+open_told row cell = (
+  λ is. open_if_clear row cell (eqb-true (bit_and row (bits_of cell)) 0 is),
+  λ is. eq-eqb (bit_and row (bits_of cell)) 0 (clear_if_open row cell is),
+)
 
 -- a cell stands where its own number is, alone
 pub own_place : (cells : ℕ) (words : List ℕ) (cell at : ℕ) → stands cells words cell ≡ At at → (at ≡ cell) × (has_mark (get_or words (row_place cells cell) 0) cell ≡ true)

@@ -27,6 +27,10 @@ end_of row = bit_or row 1
 abbrev pub mark_of : ℕ → ℕ
 mark_of cell = cell % 32 + 1
 
+-- this bit and that of the end
+abbrev pub bits_of : ℕ → ℕ
+bits_of cell = 2 ^ mark_of cell + 1
+
 abbrev pub has_mark : ℕ → ℕ → Bool
 has_mark row cell = nat_eq (bit_at row (mark_of cell)) 1
 

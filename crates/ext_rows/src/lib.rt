@@ -15,6 +15,7 @@ mod view;
 pub use laws::{mark_laws, seat_laws, step_laws, word_laws};
 pub use limits::CellLimits;
 pub use marks::{
-    END, ENDED_WORD, has_mark, is_ended, is_marked, mark_of, row_count, row_place, with_mark,
+    END, ENDED_WORD, bits_of, has_mark, is_ended, is_marked, is_open, row_count, row_place,
+    with_mark,
 };
 pub use view::View;

@@ -1,7 +1,8 @@
 //! The word of a row: which of its cells have a mark, and whether it has ended. No other module
 //! takes one apart.
-ghost use Rattle.std.specs.Prelude.{ℕ, ◌≡◌, ◌<◌, ◌^◌};
-ghost use Rattle.ext_rows.specs.Marks.{row_count as row_count_of, row_place as row_place_of, is_ended as is_ended_of, mark_of as mark_of_cell, has_mark as has_mark_of, with_mark as with_mark_of};
+ghost use Rattle.std.specs.Prelude.{ℕ, ◌≡◌, ◌<◌, ◌^◌, ◌↔◌, IsTrue};
+ghost use Rattle.ext_rows.specs.Standings.{Open};
+ghost use Rattle.ext_rows.specs.Marks.{row_count as row_count_of, row_place as row_place_of, is_ended as is_ended_of, mark_of as mark_of_cell, bits_of as bits_of_cell, has_mark as has_mark_of, with_mark as with_mark_of, standing_in};
 
 use ext_model::CellNo;
 
@@ -37,21 +38,36 @@ pub fn is_ended(row: u64) -> bool
     row & END == 1
 }
 
-/// The bit of a cell's mark in the word of its row.
+// The bit of a cell's mark in the word of its row.
 #[inline(always)]
-pub fn mark_of(cell: CellNo) -> u32
+fn mark_of(cell: CellNo) -> u32
     ensures bit { result ≡ mark_of_cell cell }
 {
     (cell % 32) as u32 + 1
 }
 
-/// Whether a cell with this bit has a mark in the word of its row.
+/// What a row's word tells of a cell is in these bits: its mark, and the row's end.
 #[inline(always)]
-pub fn is_marked(row: u64, mark: u32) -> bool
-    requires { mark < 64 }
-    ensures mark { (cell : ℕ) → mark ≡ mark_of_cell cell → result ≡ has_mark_of row cell }
+pub fn bits_of(cell: CellNo) -> u64
+    ensures bits { result ≡ bits_of_cell cell }
 {
-    row >> mark & 1 == 1
+    (1 << mark_of(cell)) + END
+}
+
+/// Whether a cell with these bits is open: its row has not ended, and it has no mark there.
+#[inline(always)]
+pub fn is_open(row: u64, bits: u64) -> bool
+    ensures told { (cell : ℕ) → bits ≡ bits_of_cell cell → IsTrue result ↔ (standing_in row cell ≡ Open) }
+{
+    row & bits == 0
+}
+
+/// Whether a cell with these bits has a mark in the word of its row.
+#[inline(always)]
+pub fn is_marked(row: u64, bits: u64) -> bool
+    ensures mark { (cell : ℕ) → bits ≡ bits_of_cell cell → result ≡ has_mark_of row cell }
+{
+    row & bits > END
 }
 
 /// Whether the cell has a mark in the word of its row.
@@ -59,7 +75,7 @@ pub fn is_marked(row: u64, mark: u32) -> bool
 pub fn has_mark(row: u64, cell: CellNo) -> bool
     ensures mark { result ≡ has_mark_of row cell }
 {
-    is_marked(row, mark_of(cell))
+    is_marked(row, bits_of(cell))
 }
 
 /// The word of the cell's row with the cell's mark.

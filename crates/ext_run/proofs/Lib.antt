@@ -2,4 +2,5 @@ pub mod ReadBytes
 pub mod Elements
 pub mod RunReports
 mod CheckCounts
+mod KeyLines
 mod Drawn

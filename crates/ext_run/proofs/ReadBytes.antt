@@ -42,6 +42,6 @@ fault_is P (Err x) e errs h = subst P (sym errs) h
 pub fault_same : {A E : Type 0} (r : Result A E) (e f : E) → IsErrAnd r (λ x. x ≡ e) → r ≡ Err f → e ≡ f
 fault_same r e f errs is = sym (subst (λ r. IsErrAnd r (λ x. x ≡ e)) is errs)
 
-pub stops_at : (before after : Option (List ℕ)) (old new : List ℕ) (r : Result ℕ RunFault) (fault : RunFault) → IsErrAnd r (λ e. e ≡ fault) → StopsReading before after old fault → Reads before after old new r
-stops_at before after old new (Ok count) fault errs stops = absurd errs
-stops_at before after old new (Err e) fault errs stops = subst (StopsReading before after old) (sym errs) stops
+pub stops_at : (limit : ℕ) (before after : Option (List ℕ)) (old new : List ℕ) (r : Result ℕ RunFault) (fault : RunFault) → IsErrAnd r (λ e. e ≡ fault) → StopsReading limit before after old fault → Reads limit before after old new r
+stops_at limit before after old new (Ok count) fault errs stops = absurd errs
+stops_at limit before after old new (Err e) fault errs stops = subst (StopsReading limit before after old) (sym errs) stops

@@ -8,6 +8,7 @@ use Rattle.std.proofs.lemmas.Str.{IsUtf8-from_is_utf8, is_utf8-from_IsUtf8}
 use Rattle.ext_lifecycle.specs.declared.node_result.NodeResult.{NodeResult}
 use Rattle.ext_lifecycle.specs.FaultTexts.{fault_text, result_view, results_view}
 use Rattle.ext_lifecycle.specs.Results.{told, with_fault_told}
+use Rattle.ext_model.specs.declared.size.Size.{Size}
 use Rattle.ext_plan_reading.specs.declared.fault.PlanFault.{PlanFault}
 use Rattle.ext_plan_reading.specs.declared.fault.PlanFault.TheVariants as plan
 use Rattle.ext_plan_reading.specs.Plans.{PlanText}
@@ -17,35 +18,35 @@ use Rattle.ext_run.specs.declared.fault.RunFault.{RunFault}
 use Rattle.ext_run.specs.declared.fault.RunFault.TheVariants as faults
 use Rattle.ext_run.specs.declared.options.Options.{Options}
 use Rattle.ext_run.specs.declared.runs.Output.{Output}
-use Rattle.ext_run.specs.Reports.{IsReportOf, Reports, RunReport, input_limit, plan_of_bytes, plan_of_input, plan_or_fault, RefusedAs}
+use Rattle.ext_run.specs.Reports.{IsReportOf, Reports, RunReport, input_limit, plan_of_bytes, plan_of_input, plan_or_fault, RefusedAs, RefusedBy}
 use Rattle.ext_run.specs.InnerOutputs.{output_view, ReportsAs, IsPlanFault}
 
-pub plan_of_utf8 : (input : List ℕ) → IsUtf8 input → plan_of_bytes input ≡ plan_or_fault (plan_of_text input)
+pub plan_of_utf8 : (size : Size) (input : List ℕ) → IsUtf8 input → plan_of_bytes size input ≡ plan_or_fault (plan_of_text size input)
 unfolding plan_of_bytes
-plan_of_utf8 input h = rw (is_utf8-from_IsUtf8 input h) refl
+plan_of_utf8 size input h = rw (is_utf8-from_IsUtf8 input h) refl
 
 not_true : (b : Bool) → (b ≡ true → ⊥) → b ≡ false
 not_true true h = absurd (h refl)
 not_true false h = refl
 
-pub plan_of_others : (input : List ℕ) → (IsUtf8 input → ⊥) → plan_of_bytes input ≡ Err (faults.Plan plan.NotUtf8)
+pub plan_of_others : (size : Size) (input : List ℕ) → (IsUtf8 input → ⊥) → plan_of_bytes size input ≡ Err (faults.Plan plan.NotUtf8)
 unfolding plan_of_bytes
-plan_of_others input h = rw (not_true (is_utf8 input) (λ e. h (IsUtf8-from_is_utf8 input e))) refl
+plan_of_others size input h = rw (not_true (is_utf8 input) (λ e. h (IsUtf8-from_is_utf8 input e))) refl
 
 -- a refused plan is refused with its fault
-pub RefusedAs-plan : (options : Options) (fault : PlanFault) (read : Result PlanText PlanFault) → Fails fault read → RefusedAs options (faults.Plan fault) (plan_or_fault read)
-RefusedAs-plan options plan.Memory read h = tt
-RefusedAs-plan options plan.NotUtf8 read h = rw h refl
-RefusedAs-plan options plan.NotToml read h = rw h refl
-RefusedAs-plan options (plan.UnknownField place) read h = rw h refl
-RefusedAs-plan options (plan.BadField place) read h = rw h refl
-RefusedAs-plan options (plan.BadLabel key) read h = rw h refl
-RefusedAs-plan options (plan.BadId node) read h = rw h refl
-RefusedAs-plan options plan.BadTree read h = rw h refl
-RefusedAs-plan options (plan.BadStep node) read h = rw h refl
-RefusedAs-plan options (plan.BadLock node) read h = rw h refl
-RefusedAs-plan options (plan.BadTest node) read h = rw h refl
-RefusedAs-plan options plan.TooMany read h = rw h refl
+pub RefusedBy-plan : (plain : Bool) (lanes : ℕ) (fault : PlanFault) (read : Result PlanText PlanFault) → Fails fault read → RefusedBy plain lanes (faults.Plan fault) (plan_or_fault read)
+RefusedBy-plan plain lanes plan.Memory read h = tt
+RefusedBy-plan plain lanes plan.NotUtf8 read h = rw h refl
+RefusedBy-plan plain lanes plan.NotToml read h = rw h refl
+RefusedBy-plan plain lanes (plan.UnknownField place) read h = rw h refl
+RefusedBy-plan plain lanes (plan.BadField place) read h = rw h refl
+RefusedBy-plan plain lanes (plan.BadLabel key) read h = rw h refl
+RefusedBy-plan plain lanes (plan.BadId node) read h = rw h refl
+RefusedBy-plan plain lanes plan.BadTree read h = rw h refl
+RefusedBy-plan plain lanes (plan.BadStep node) read h = rw h refl
+RefusedBy-plan plain lanes (plan.BadLock node) read h = rw h refl
+RefusedBy-plan plain lanes (plan.BadTest node) read h = rw h refl
+RefusedBy-plan plain lanes plan.TooMany read h = rw h refl
 
 -- a fault of the run of a plan that was read
 RefusedAs-read : (options : Options) (text : PlanText) (fault : RunFault) → IsPlanFault options text fault → RefusedAs options fault (Ok text)
@@ -72,17 +73,17 @@ with_texts (r ∷ results) = ap (λ l. result_view r ∷ l) (with_texts results)
 
 -- ---- an input that was read whole
 
-plan_of_short : (input : List ℕ) → length input ≤ input_limit → plan_of_input input ≡ plan_of_bytes input
+plan_of_short : (size : Size) (input : List ℕ) → length input ≤ input_limit size → plan_of_input size input ≡ plan_of_bytes size input
 unfolding plan_of_input
-plan_of_short input short = rw (le-ltb input_limit (length input) short) refl
+plan_of_short size input short = rw (le-ltb (input_limit size) (length input) short) refl
 
 -- the report that was written of it
 pub written : (options : Options) (whole : Option (List ℕ)) (items bytes : List ℕ) (report wrote : List ℕ) (failed lacked : Bool) (Written : List ℕ → Type 0) → IfSome whole (λ input. items ≡ input)
-    → length items ≤ input_limit → bytes ≡ items → Reports options (plan_of_bytes bytes) (record { report = report; failed = failed; lacked = lacked }) → wrote ≡ report → Written wrote
-    → IfSome whole (λ input. (x : List ℕ) × Reports options (plan_of_input input) (record { report = x; failed = failed; lacked = lacked }) × Written x)
+    → length items ≤ input_limit options.size → bytes ≡ items → Reports options (plan_of_bytes options.size bytes) (record { report = report; failed = failed; lacked = lacked }) → wrote ≡ report → Written wrote
+    → IfSome whole (λ input. (x : List ℕ) × Reports options (plan_of_input options.size input) (record { report = x; failed = failed; lacked = lacked }) × Written x)
 written options None items bytes report wrote failed lacked Written same short read given is done = tt
 written options (Some input) items bytes report wrote failed lacked Written same short read given is done =
-    let plan_is : plan_of_input input ≡ plan_of_bytes bytes = ap plan_of_input (sym same) ∙ plan_of_short items short ∙ ap plan_of_bytes (sym read) in
+    let plan_is : plan_of_input options.size input ≡ plan_of_bytes options.size bytes = ap (plan_of_input options.size) (sym same) ∙ plan_of_short options.size items short ∙ ap (plan_of_bytes options.size) (sym read) in
     (report, subst (λ p. Reports options p (record { report = report; failed = failed; lacked = lacked })) (sym plan_is) given, subst Written is done)
 
 reported : (options : Options) (read : Result PlanText RunFault) (given : RunReport) → Reports options read given → IsOk read
@@ -91,10 +92,10 @@ reported options (Err fault) given h = absurd h
 
 -- the write of its report failed
 pub unwritten : {A : Type 0} (options : Options) (whole : Option (List ℕ)) (items bytes : List ℕ) (given : RunReport) (r : Result A RunFault) (told : RunFault) → IfSome whole (λ input. items ≡ input)
-    → length items ≤ input_limit → bytes ≡ items → Reports options (plan_of_bytes bytes) given → IsErrAnd r (λ e. e ≡ told) → told ≡ faults.Write
-    → IfErr r (λ fault. IfSome whole (λ input. RefusedAs options fault (plan_of_input input)))
+    → length items ≤ input_limit options.size → bytes ≡ items → Reports options (plan_of_bytes options.size bytes) given → IsErrAnd r (λ e. e ≡ told) → told ≡ faults.Write
+    → IfErr r (λ fault. IfSome whole (λ input. RefusedAs options fault (plan_of_input options.size input)))
 unwritten options whole items bytes given (Ok x) told same short read reports errs is = tt
 unwritten options None items bytes given (Err e) told same short read reports errs is = tt
 unwritten options (Some input) items bytes given (Err e) told same short read reports errs is =
-    let plan_is : plan_of_input input ≡ plan_of_bytes bytes = ap plan_of_input (sym same) ∙ plan_of_short items short ∙ ap plan_of_bytes (sym read) in
-    subst (λ fault. RefusedAs options fault (plan_of_input input)) (sym (errs ∙ is)) (subst IsOk (sym plan_is) (reported options (plan_of_bytes bytes) given reports))
+    let plan_is : plan_of_input options.size input ≡ plan_of_bytes options.size bytes = ap (plan_of_input options.size) (sym same) ∙ plan_of_short options.size items short ∙ ap (plan_of_bytes options.size) (sym read) in
+    subst (λ fault. RefusedAs options fault (plan_of_input options.size input)) (sym (errs ∙ is)) (subst IsOk (sym plan_is) (reported options (plan_of_bytes options.size bytes) given reports))

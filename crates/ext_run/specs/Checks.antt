@@ -1,6 +1,6 @@
 -- What is written of a plan that is read but not run: how many nodes it has, how many of them are tests, how many
 -- different keys its steps name, and for how many keys there are places. Numbers are decimal.
-use Rattle.std.specs.Prelude.{◌≡◌, ℕ, Bool, true, false, not, ◌==◌, nat_le, codes, List, ◌++◌, length, is_some, if◌then◌else◌, Result, Ok, Err}
+use Rattle.std.specs.Prelude.{◌≡◌, ℕ, Bool, true, false, not, ◌==◌, nat_le, codes, List, ◌++◌, length, is_some, if◌then◌else◌, Option, Some, None, Result, Ok, Err}
 use Rattle.ext_races.specs.declared.found.Found.{Found}
 use Rattle.ext_races.specs.declared.found.Found.TheVariants as found
 use Rattle.ext_races.specs.RaceLines.{found_text}
@@ -10,8 +10,7 @@ use Rattle.std.specs.Fmt.{decimal}
 use Rattle.std.specs.List.{count_by}
 use Rattle.ext_plan_reading.specs.Plans.{NodeText, PlanText}
 use Rattle.ext_run.specs.declared.fault.RunFault.{RunFault}
-use Rattle.ext_report.specs.declared.form.ReportForm.TheVariants as forms
-use Rattle.ext_run.specs.Reports.{RefusedAs}
+use Rattle.ext_run.specs.Reports.{RefusedBy}
 
 -- How many of the nodes are tests.
 abbrev pub test_count : List NodeText → ℕ
@@ -33,7 +32,7 @@ IsCountsOf (Err fault) line = ⊥
 
 -- It is refused as a plain run of the plan would be.
 abbrev pub RefusedUnrun : RunFault → Result PlanText RunFault → Type 0
-RefusedUnrun fault read = RefusedAs (record { lanes = 1; plain = true; form = forms.Text }) fault read
+RefusedUnrun fault read = RefusedBy true 1 fault read
 
 -- How many races are looked for: one more than are listed.
 abbrev pub race_limit : ℕ
@@ -56,3 +55,23 @@ pub record TellsRaces (plan : PlanText) (text : List ℕ) (failed : Bool) : Type
 abbrev pub IsRacesOf : Result PlanText RunFault → List ℕ → Bool → Type 0
 IsRacesOf (Ok plan) text failed = TellsRaces plan text failed
 IsRacesOf (Err fault) text failed = ⊥
+
+-- ---- why keys have no place
+
+-- The line where so many keys are named, and there are so many places.
+unfoldable pub raise_line : ℕ → ℕ → List ℕ
+raise_line keys places =
+    codes "the plan: its steps name " ++ decimal keys ++ codes " different keys, and there are places for " ++ decimal places ++ codes ". Write keys = " ++ decimal keys ++ codes " at the top of the plan"
+
+-- The same of more keys than a plan can have places for.
+abbrev pub too_many_line : List ℕ
+too_many_line = codes "the plan: its steps name more than 1024 different keys, for which no plan has places"
+
+-- There is a line exactly where more keys are named than there are places.
+unfoldable pub line_of_keys : ℕ → ℕ → Option (List ℕ)
+line_of_keys keys places = if nat_le keys places then None else Some (if nat_le keys 1024 then raise_line keys places else too_many_line)
+
+-- The line of the plan that was read. A refused plan has none.
+abbrev pub keys_explained : Result PlanText RunFault → Option (List ℕ)
+keys_explained (Ok plan) = line_of_keys (length (keys_named plan)) plan.key_places
+keys_explained (Err fault) = None

@@ -8,30 +8,30 @@ use Rattle.ext_run.specs.declared.fault.RunFault.TheVariants as faults
 use Rattle.ext_run.specs.declared.options.Options.{Options}
 use Rattle.ext_run.specs.declared.runs.Output.{Output}
 use Rattle.ext_run.specs.Checks.{IsCountsOf, RefusedUnrun}
-use Rattle.ext_run.specs.Reports.{IsReadFault, RefusedAs, Reports, RunReport, input_limit}
+use Rattle.ext_run.specs.Reports.{IsReadFault, RefusedAs, Reports, RunReport}
 
 -- ---- the input
 
--- `count` more bytes were read, 0 only at the end, and the input stays within its limit.
-pub record ReadsMore (before after : Option (List ℕ)) (old new : List ℕ) (count : ℕ) : Type 0 where
+-- `count` more bytes were read, 0 only at the end, and the input stays within this limit.
+pub record ReadsMore (limit : ℕ) (before after : Option (List ℕ)) (old new : List ℕ) (count : ℕ) : Type 0 where
   pub bytes : List ℕ
   pub taken : Consumes before after bytes
   pub kept : new ≡ old ++ bytes
   pub counted : length bytes ≡ count
-  pub short : length new ≤ input_limit
+  pub short : length new ≤ limit
   pub ended : count ≡ 0 → IsAtEnd after
 
 -- These bytes were read, and then reading stopped for this fault.
-pub record StopsReading (before after : Option (List ℕ)) (old : List ℕ) (fault : RunFault) : Type 0 where
+pub record StopsReading (limit : ℕ) (before after : Option (List ℕ)) (old : List ℕ) (fault : RunFault) : Type 0 where
   pub bytes : List ℕ
   pub taken : Consumes before after bytes
-  pub short : length (old ++ bytes) ≤ input_limit + 1
+  pub short : length (old ++ bytes) ≤ limit + 1
   pub known : IsReadFault fault
-  pub long : fault ≡ faults.TooLong → input_limit < length (old ++ bytes)
+  pub long : fault ≡ faults.TooLong → limit < length (old ++ bytes)
 
-abbrev pub Reads : Option (List ℕ) → Option (List ℕ) → List ℕ → List ℕ → Result ℕ RunFault → Type 0
-Reads before after old new (Ok count) = ReadsMore before after old new count
-Reads before after old new (Err fault) = StopsReading before after old fault
+abbrev pub Reads : ℕ → Option (List ℕ) → Option (List ℕ) → List ℕ → List ℕ → Result ℕ RunFault → Type 0
+Reads limit before after old new (Ok count) = ReadsMore limit before after old new count
+Reads limit before after old new (Err fault) = StopsReading limit before after old fault
 
 -- ---- the run
 

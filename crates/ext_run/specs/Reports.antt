@@ -5,6 +5,8 @@ use Rattle.std.specs.Str.{is_utf8}
 use Rattle.ext_parallel.specs.Fault.{Fault}
 use Rattle.ext_lifecycle.specs.FaultTexts.{NodeOutcome, fault_text}
 use Rattle.ext_lifecycle.specs.Results.{ResultOf, with_fault_told}
+use Rattle.ext_model.specs.declared.size.Size.{Size}
+use Rattle.ext_model.specs.declared.size.Size.TheVariants as sizes
 use Rattle.ext_plan_reading.specs.declared.fault.PlanFault.{PlanFault}
 use Rattle.ext_plan_reading.specs.declared.fault.PlanFault.TheVariants as plan
 use Rattle.ext_plan_reading.specs.Plans.{PlanText}
@@ -21,9 +23,10 @@ use Rattle.ext_run.specs.declared.fault.RunFault.{RunFault}
 use Rattle.ext_run.specs.declared.fault.RunFault.TheVariants as faults
 use Rattle.ext_run.specs.declared.options.Options.{Options}
 
--- How many bytes a plan has at most: 1 MiB.
-abbrev pub input_limit : ℕ
-input_limit = 1048576
+-- How many bytes a plan of this size has at most: 1 MiB, or 64 MiB.
+abbrev pub input_limit : Size → ℕ
+input_limit sizes.Usual = 1048576
+input_limit sizes.Large = 67108864
 
 -- ---- the plan that is read
 
@@ -32,13 +35,13 @@ abbrev pub plan_or_fault : Result PlanText PlanFault → Result PlanText RunFaul
 plan_or_fault (Ok read) = Ok read
 plan_or_fault (Err fault) = Err (faults.Plan fault)
 
--- The plan that these bytes write.
-unfoldable pub plan_of_bytes : List ℕ → Result PlanText RunFault
-plan_of_bytes input = if is_utf8 input then plan_or_fault (plan_of_text input) else Err (faults.Plan plan.NotUtf8)
+-- The plan that these bytes write, which may be as large as this.
+unfoldable pub plan_of_bytes : Size → List ℕ → Result PlanText RunFault
+plan_of_bytes size input = if is_utf8 input then plan_or_fault (plan_of_text size input) else Err (faults.Plan plan.NotUtf8)
 
 -- The plan that an input writes. An input that is too long is refused as such, whatever its bytes.
-unfoldable pub plan_of_input : List ℕ → Result PlanText RunFault
-plan_of_input input = if nat_lt input_limit (length input) then Err faults.TooLong else plan_of_bytes input
+unfoldable pub plan_of_input : Size → List ℕ → Result PlanText RunFault
+plan_of_input size input = if nat_lt (input_limit size) (length input) then Err faults.TooLong else plan_of_bytes size input
 
 -- ---- its run, and the report
 
@@ -99,16 +102,19 @@ RefusedPlan plan.Memory read = Unit {0}
 RefusedPlan fault read = read ≡ Err (faults.Plan fault)
 
 -- The plan was read, and its run on several lanes was refused with this fault.
-abbrev pub RefusedRun : Options → EngineFault → Result PlanText RunFault → Type 0
-RefusedRun options fault (Ok plan) = (options.plain ≡ false) × IsRefusedRun plan options.lanes fault
-RefusedRun options fault (Err other) = ⊥
+abbrev pub RefusedRun : Bool → ℕ → EngineFault → Result PlanText RunFault → Type 0
+RefusedRun plain lanes fault (Ok plan) = (plain ≡ false) × IsRefusedRun plan lanes fault
+RefusedRun plain lanes fault (Err other) = ⊥
 
 -- A plan that is too long or refused is answered as such, and so is a plan whose run was refused. If a write failed
 -- there was a report to write. A failed read and a lack of memory say nothing of the plan.
+abbrev pub RefusedBy : Bool → ℕ → RunFault → Result PlanText RunFault → Type 0
+RefusedBy plain lanes faults.Read read = Unit {0}
+RefusedBy plain lanes faults.Write read = IsOk read
+RefusedBy plain lanes faults.TooLong read = read ≡ Err faults.TooLong
+RefusedBy plain lanes (faults.Plan fault) read = RefusedPlan fault read
+RefusedBy plain lanes (faults.Engine fault) read = RefusedRun plain lanes fault read
+RefusedBy plain lanes faults.Memory read = Unit {0}
+
 abbrev pub RefusedAs : Options → RunFault → Result PlanText RunFault → Type 0
-RefusedAs options faults.Read read = Unit {0}
-RefusedAs options faults.Write read = IsOk read
-RefusedAs options faults.TooLong read = read ≡ Err faults.TooLong
-RefusedAs options (faults.Plan fault) read = RefusedPlan fault read
-RefusedAs options (faults.Engine fault) read = RefusedRun options fault read
-RefusedAs options faults.Memory read = Unit {0}
+RefusedAs options fault read = RefusedBy options.plain options.lanes fault read

@@ -1,17 +1,19 @@
 //! Reading a plan without running it.
-ghost use Rattle.std.specs.Prelude.{◌≡◌, ◌≢◌, ◌≤◌, ◌+◌, ℕ, List, false, length, string_bytes, IfOk, IfErr, IfSome, OnOk};
+ghost use Rattle.std.specs.Prelude.{◌≡◌, ◌≢◌, ◌≤◌, ◌+◌, ℕ, List, None, false, length, option_map, string_bytes, IfOk, IfErr, IfSome, OnOk};
 ghost use Rattle.std.specs.Io.KnownBytes.{Consumes, Appends};
 ghost use Rattle.ext_plan_reading.specs.Plans.{nodes_view, plan_view};
 ghost use Rattle.ext_run.specs.Reports.{input_limit, plan_of_bytes, plan_of_input};
 ghost use Rattle.ext_plan_reading.specs.ReadPlans.{IsRunnablePlan};
-ghost use Rattle.ext_run.specs.Checks.{counts_line, IsCountsOf, IsRacesOf, RefusedUnrun, TellsRaces, is_free, test_count};
+ghost use Rattle.ext_races.specs.Touches.{keys_named};
+ghost use Rattle.ext_run.specs.Checks.{counts_line, IsCountsOf, IsRacesOf, RefusedUnrun, TellsRaces, is_free, keys_explained, line_of_keys, raise_line, test_count};
 ghost use Rattle.ext_run.specs.InnerOutputs.{ChecksAs};
 
 use crate::fault::RunFault;
 use crate::input::read_input;
 use crate::options::Summary;
 use crate::runs::write_whole;
-use ext_plan_reading::{Plan, PlanFault, PlanNode, read_plan};
+use ext_model::Size;
+use ext_plan_reading::{Plan, PlanFault, PlanNode, read_plan_within};
 use ext_races::{Found, count_keys, races, races_text};
 use std::alloc::{AllocError, Global};
 use std::io::{Read, Write};
@@ -19,7 +21,7 @@ use std::io::{Read, Write};
 /// How many races are looked for: one more than the text lists.
 const RACES: usize = 21;
 
-/// Reads a plan and writes how many nodes and tests it has, and how many different keys its steps
+/// Reads a plan of at most this size and writes how many nodes and tests it has, and how many different keys its steps
 /// name of those that there are places for, without running it. The line is `ok, 7 nodes, 3 tests,
 /// 2 of 64 keys`. If the steps name more keys than there are places, some of them may fail with
 /// `directory full` in a run. More than 1,024 keys are not counted.
@@ -34,25 +36,26 @@ pub fn check<I: Read, W: Write>(
     alloc: Global,
     reader: &mut I,
     writer: &mut W,
+    size: Size,
 ) -> Result<(), RunFault>
     ensures written { OnOk result (IfSome (I.remaining reader.old) (λ input. (line : List ℕ)
-        × IsCountsOf (plan_of_input input) line
+        × IsCountsOf (plan_of_input size input) line
         × Appends (W.contents writer.old) (W.contents writer.new) line)) }
     ensures refused { IfErr result (λ fault. IfSome (I.remaining reader.old)
-        (λ input. RefusedUnrun fault (plan_of_input input))) }
+        (λ input. RefusedUnrun fault (plan_of_input size input))) }
     ensures unwritten { IfErr result (λ fault. fault ≢ RunFault.Write → writer.new ≡ writer.old) }
-    ensures taken { (bytes : List ℕ) × (length bytes ≤ input_limit + 1)
+    ensures taken { (bytes : List ℕ) × (length bytes ≤ input_limit size + 1)
         × Consumes (I.remaining reader.old) (I.remaining reader.new) bytes }
 {
-    let input = read_input(alloc, reader)?;
-    let line = line_of(alloc, input.as_slice())?;
+    let input = read_input(alloc, reader, size)?;
+    let line = line_of(alloc, input.as_slice(), size)?;
     write_whole(writer, line.as_bytes())
 }
 
-/// Reads a plan and writes its races, without running it. Each of the first 20 races has a line,
+/// Reads a plan of at most this size and writes its races, without running it. Each of the first 20 races has a line,
 /// and `and more` follows if there are others. `no races` stands alone if there are none, and so
 /// does a line that names the limit if the steps name more keys than there are places, or may draw
-/// more than 65,535 numbers (`ext_races::races_text`). In the summary, `failed` tells whether there
+/// more numbers than there are (`ext_races::races_text`). In the summary, `failed` tells whether there
 /// is a race or a limit is exceeded.
 ///
 /// It reads like `run`, and is refused like `check`.
@@ -64,19 +67,20 @@ pub fn check_races<I: Read, W: Write>(
     alloc: Global,
     reader: &mut I,
     writer: &mut W,
+    size: Size,
 ) -> Result<Summary, RunFault>
     ensures written { IfOk result (λ summary. IfSome (I.remaining reader.old) (λ input. (text : List ℕ)
-        × IsRacesOf (plan_of_input input) text summary.failed
+        × IsRacesOf (plan_of_input size input) text summary.failed
         × Appends (W.contents writer.old) (W.contents writer.new) text)) }
     ensures unrun { IfOk result (λ summary. summary.lacked ≡ false) }
     ensures refused { IfErr result (λ fault. IfSome (I.remaining reader.old)
-        (λ input. RefusedUnrun fault (plan_of_input input))) }
+        (λ input. RefusedUnrun fault (plan_of_input size input))) }
     ensures unwritten { IfErr result (λ fault. fault ≢ RunFault.Write → writer.new ≡ writer.old) }
-    ensures taken { (bytes : List ℕ) × (length bytes ≤ input_limit + 1)
+    ensures taken { (bytes : List ℕ) × (length bytes ≤ input_limit size + 1)
         × Consumes (I.remaining reader.old) (I.remaining reader.new) bytes }
 {
-    let input = read_input(alloc, reader)?;
-    let (text, failed) = races_of(alloc, input.as_slice())?;
+    let input = read_input(alloc, reader, size)?;
+    let (text, failed) = races_of(alloc, input.as_slice(), size)?;
     write_whole(writer, text.as_bytes())?;
     Ok(Summary {
         failed,
@@ -87,15 +91,15 @@ pub fn check_races<I: Read, W: Write>(
 /// The text of the races of the plan in these bytes, and whether there is one or a limit is
 /// exceeded.
 #[tactic(auto, unfolding(crate::specs::Reports::plan_of_bytes))]
-fn races_of(alloc: Global, input: &[u8]) -> Result<(String, bool), RunFault>
-    ensures told { IfOk result (λ told. IsRacesOf (plan_of_bytes input.now) (string_bytes told.0) told.1) }
-    ensures refused { IfErr result (λ fault. RefusedUnrun fault (plan_of_bytes input.now)) }
+fn races_of(alloc: Global, input: &[u8], size: Size) -> Result<(String, bool), RunFault>
+    ensures told { IfOk result (λ told. IsRacesOf (plan_of_bytes size input.now) (string_bytes told.0) told.1) }
+    ensures refused { IfErr result (λ fault. RefusedUnrun fault (plan_of_bytes size input.now)) }
     ensures unwritten { IfErr result (λ fault. fault ≢ RunFault.Write) }
 {
     let Ok(text) = std::str::from_utf8(input) else {
         return Err(RunFault::Plan(PlanFault::NotUtf8));
     };
-    let plan = match read_plan(alloc, text) {
+    let plan = match read_plan_within(alloc, text, size) {
         Ok(plan) => plan,
         Err(fault) => return Err(RunFault::Plan(fault)),
     };
@@ -123,13 +127,13 @@ fn is_free(found: &Found<'_>) -> bool
 
 /// The line of the plan in these bytes.
 #[tactic(auto, unfolding(crate::specs::Reports::plan_of_bytes))]
-fn line_of(alloc: Global, input: &[u8]) -> Result<String, RunFault>
-    ensures { ChecksAs string_bytes result (plan_of_bytes input.now) }
+fn line_of(alloc: Global, input: &[u8], size: Size) -> Result<String, RunFault>
+    ensures { ChecksAs string_bytes result (plan_of_bytes size input.now) }
 {
     let Ok(text) = std::str::from_utf8(input) else {
         return Err(RunFault::Plan(PlanFault::NotUtf8));
     };
-    match read_plan(alloc, text) {
+    match read_plan_within(alloc, text, size) {
         Ok(plan) => Ok(counts_line(alloc, &plan)?),
         Err(fault) => Err(RunFault::Plan(fault)),
     }
@@ -156,35 +160,64 @@ fn counts_line(alloc: Global, plan: &Plan) -> Result<String, AllocError>
 /// Explains why steps may fail with `directory full`, in a line without its line feed: the steps of
 /// the plan in these bytes name more different keys than there are places. The line says how many,
 /// and which field of the plan raises the limit. There is none if the steps name no more, or if the
-/// bytes are no plan. No contract covers the line.
+/// bytes are no plan.
 ///
 /// Takes memory for the plan, its keys and the line; fails with `AllocError` only if that is
 /// refused.
-pub fn explain_keys(alloc: Global, input: &[u8]) -> Result<Option<String>, AllocError> {
+pub fn explain_keys(alloc: Global, input: &[u8], size: Size) -> Result<Option<String>, AllocError>
+    ensures explained { IfOk result (λ line. option_map string_bytes line ≡ keys_explained (plan_of_bytes size input.now)) }
+{
     let Ok(text) = std::str::from_utf8(input) else {
         return Ok(None);
     };
-    match read_plan(alloc, text) {
-        Ok(plan) => keys_explained(alloc, &plan),
-        Err(PlanFault::Memory) => Err(AllocError),
-        Err(_) => Ok(None),
+    match read_plan_within(alloc, text, size) {
+        Ok(plan) => line_of_plan(alloc, &plan),
+        Err(fault) => no_line(fault),
     }
 }
 
-/// What `explain_keys` says of this plan.
-fn keys_explained(alloc: Global, plan: &Plan) -> Result<Option<String>, AllocError>
-    requires { IsRunnablePlan (plan_view plan.now) }
+/// No line, since the plan is refused with this fault.
+fn no_line(fault: PlanFault) -> Result<Option<String>, AllocError>
+    ensures { IfOk result (λ line. (line ≡ None) × (fault ≢ PlanFault.Memory)) }
 {
-    let places = plan.key_places;
+    if fault == PlanFault::Memory {
+        return Err(AllocError);
+    }
+    Ok(None)
+}
+
+/// What `explain_keys` says of this plan.
+fn line_of_plan(alloc: Global, plan: &Plan) -> Result<Option<String>, AllocError>
+    requires { IsRunnablePlan (plan_view plan.now) }
+    ensures { IfOk result (λ line. option_map string_bytes line
+        ≡ line_of_keys (length (keys_named (plan_view plan.now))) plan.now.key_places) }
+{
     match count_keys(alloc, plan)? {
-        Some(keys) if keys <= places => Ok(None),
-        Some(keys) => Ok(Some(format!(in alloc;
-            "the plan: its steps name {keys} different keys, and there are places for {places}. Write keys = {keys} at the top of the plan"
-        )?)),
+        Some(keys) => line_of_keys(alloc, keys, plan.key_places),
         None => Ok(Some(format!(in alloc;
             "the plan: its steps name more than 1024 different keys, for which no plan has places"
         )?)),
     }
+}
+
+/// What it says where so many keys are named, and there are so many places.
+fn line_of_keys(alloc: Global, keys: usize, places: usize) -> Result<Option<String>, AllocError>
+    requires { keys ≤ 1024 }
+    ensures { IfOk result (λ line. option_map string_bytes line ≡ line_of_keys keys places) }
+{
+    if keys <= places {
+        return Ok(None);
+    }
+    Ok(Some(raise_line(alloc, keys, places)?))
+}
+
+/// The line where more keys are named than there are places.
+fn raise_line(alloc: Global, keys: usize, places: usize) -> Result<String, AllocError>
+    ensures { IfOk result (λ line. string_bytes line ≡ raise_line keys places) }
+{
+    format!(in alloc;
+        "the plan: its steps name {keys} different keys, and there are places for {places}. Write keys = {keys} at the top of the plan"
+    )
 }
 
 /// Counts the nodes that are tests.

@@ -11,12 +11,13 @@ ghost use Rattle.ext_run.specs.Drawings.{IsTextOf, TextAs, drawing_of, drawn_lin
 use crate::fault::RunFault;
 use crate::input::read_input;
 use crate::runs::write_whole;
-use ext_plan_reading::{Plan, PlanFault, PlanLock, PlanNode, Step, read_plan};
+use ext_model::Size;
+use ext_plan_reading::{Plan, PlanFault, PlanLock, PlanNode, Step, read_plan_within};
 use ext_report::{depth_first, write_head};
 use std::alloc::{AllocError, Global};
 use std::io::{Read, Write};
 
-/// Reads a plan and draws its nodes as a tree, one line each, depth first, without running it. A
+/// Reads a plan of at most this size and draws its nodes as a tree, one line each, depth first, without running it. A
 /// line is, for example, `  class:A, concurrent, READ db`.
 ///
 /// It reads like `run`, and is refused like `check`. Takes memory for the input, the plan and the
@@ -26,30 +27,31 @@ pub fn draw<I: Read, W: Write>(
     alloc: Global,
     reader: &mut I,
     writer: &mut W,
+    size: Size,
 ) -> Result<(), RunFault>
     ensures written { OnOk result (IfSome (I.remaining reader.old) (λ input. (text : List ℕ)
-        × IsTextOf drawing_of (plan_of_input input) text
+        × IsTextOf drawing_of (plan_of_input size input) text
         × Appends (W.contents writer.old) (W.contents writer.new) text)) }
     ensures refused { IfErr result (λ fault. IfSome (I.remaining reader.old)
-        (λ input. RefusedUnrun fault (plan_of_input input))) }
+        (λ input. RefusedUnrun fault (plan_of_input size input))) }
     ensures unwritten { IfErr result (λ fault. fault ≢ RunFault.Write → writer.new ≡ writer.old) }
-    ensures taken { (bytes : List ℕ) × (length bytes ≤ input_limit + 1)
+    ensures taken { (bytes : List ℕ) × (length bytes ≤ input_limit size + 1)
         × Consumes (I.remaining reader.old) (I.remaining reader.new) bytes }
 {
-    let input = read_input(alloc, reader)?;
-    let text = text_of(alloc, input.as_slice())?;
+    let input = read_input(alloc, reader, size)?;
+    let text = text_of(alloc, input.as_slice(), size)?;
     write_whole(writer, text.as_bytes())
 }
 
 /// The drawing of the plan in these bytes.
 #[tactic(auto, unfolding(crate::specs::Reports::plan_of_bytes))]
-fn text_of(alloc: Global, input: &[u8]) -> Result<String, RunFault>
-    ensures { TextAs string_bytes drawing_of result (plan_of_bytes input.now) }
+fn text_of(alloc: Global, input: &[u8], size: Size) -> Result<String, RunFault>
+    ensures { TextAs string_bytes drawing_of result (plan_of_bytes size input.now) }
 {
     let Ok(text) = std::str::from_utf8(input) else {
         return Err(RunFault::Plan(PlanFault::NotUtf8));
     };
-    match read_plan(alloc, text) {
+    match read_plan_within(alloc, text, size) {
         Ok(plan) => Ok(drawing_of(alloc, &plan)?),
         Err(fault) => Err(RunFault::Plan(fault)),
     }

@@ -10,8 +10,8 @@ ghost use Rattle.ext_run.specs.Drawings.{TextAs};
 use crate::fault::RunFault;
 use ext_ids::UniqueId;
 use ext_lifecycle::RunListener;
-use ext_model::{ContextNo, Fault};
-use ext_plan_reading::{Plan, PlanFault, read_plan};
+use ext_model::{ContextNo, Fault, Size};
+use ext_plan_reading::{Plan, PlanFault, read_plan_within};
 use ext_tree::Tree;
 use std::alloc::{AllocError, Global};
 use std::sync::{Mutex, Wait};
@@ -124,15 +124,20 @@ impl<R: Wait, L: RunListener> RunListener for Failures<'_, R, L> {
 
 /// Returns the faults that were reported of a plan's nodes, as lines `ID: FAULT`. The nodes are in
 /// the order of the plan, and the faults of each node in the order in which they were reported. A
-/// last line says that faults were lost, if some were. The bytes are the plan's, as a run reads
-/// them.
+/// last line says that faults were lost, if some were. The bytes are the plan's, which is of at most
+/// this size, as a run reads them.
 ///
 /// Refused as `Plan` if the plan is refused, and as `Memory` if memory for the plan's tree or for
 /// the text is. Takes memory for these and for the plan.
-pub fn failures_text(alloc: Global, input: &[u8], told: &ToldFaults) -> Result<String, RunFault>
-    ensures { TextAs string_bytes (told_in told.now) result (plan_of_bytes input.now) }
+pub fn failures_text(
+    alloc: Global,
+    input: &[u8],
+    size: Size,
+    told: &ToldFaults,
+) -> Result<String, RunFault>
+    ensures { TextAs string_bytes (told_in told.now) result (plan_of_bytes size input.now) }
 {
-    let mut text = failure_lines(alloc, input, told.faults.as_slice())?;
+    let mut text = failure_lines(alloc, input, size, told.faults.as_slice())?;
     write_lost(&mut text, told.lost)?;
     Ok(text)
 }
@@ -149,13 +154,18 @@ fn write_lost(text: &mut String, lost: bool) -> Result<(), AllocError>
 
 /// The lines of the faults of a plan's nodes.
 #[tactic(auto, unfolding(crate::specs::Reports::plan_of_bytes))]
-fn failure_lines(alloc: Global, input: &[u8], faults: &[NodeFault]) -> Result<String, RunFault>
-    ensures { TextAs string_bytes (failures_in faults.now) result (plan_of_bytes input.now) }
+fn failure_lines(
+    alloc: Global,
+    input: &[u8],
+    size: Size,
+    faults: &[NodeFault],
+) -> Result<String, RunFault>
+    ensures { TextAs string_bytes (failures_in faults.now) result (plan_of_bytes size input.now) }
 {
     let Ok(text) = std::str::from_utf8(input) else {
         return Err(RunFault::Plan(PlanFault::NotUtf8));
     };
-    match read_plan(alloc, text) {
+    match read_plan_within(alloc, text, size) {
         Ok(plan) => Ok(failures_of_plan(alloc, &plan, faults)?),
         Err(fault) => Err(RunFault::Plan(fault)),
     }

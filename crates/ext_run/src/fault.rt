@@ -19,7 +19,8 @@ pub enum RunFault {
     Read,
     /// Z2, printed as `write failed`: a write of the report failed, or took no byte.
     Write,
-    /// Z3, printed as `plan too long`: the input has more than 1,048,576 bytes.
+    /// Z3, printed as `plan too long`: the input has more bytes than a plan of its size may have.
+    /// `read_input` says how many.
     TooLong,
     /// Z4, printed as the line of the plan's fault, such as `plan: P5 key 1`: the plan is refused.
     Plan(PlanFault),
@@ -28,9 +29,9 @@ pub enum RunFault {
     /// not be closed (E3). `run: E2` would say that a thread was refused (`EngineFault::NoThread`),
     /// which no call answers.
     Engine(EngineFault),
-    /// Z6, printed as `run: no memory`: memory was refused outside `read_plan`, where it is `Plan`
-    /// with `PlanFault::Memory`, and outside a run on several lanes, where it is `Engine` with
-    /// `EngineFault::Memory`.
+    /// Z6, printed as `run: no memory`: memory was refused outside `read_plan_within`, where it is
+    /// `Plan` with `PlanFault::Memory`, and outside a run on several lanes, where it is `Engine`
+    /// with `EngineFault::Memory`.
     Memory,
 }
 

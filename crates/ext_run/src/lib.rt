@@ -9,8 +9,8 @@
 //! run reports, and `failures_text` repeats them. `read_input`, `explain` and `explain_keys` serve
 //! callers that explain why a plan was refused, or a key had no place. `read_id` writes the lines
 //! of an id, and `status_of` is the exit status of a program for any of these requests. This crate
-//! also exports the names of `ext_plan_reading`, `ext_plain`, `ext_lifecycle` and `ext_report` that
-//! its callers need.
+//! also exports the names of `ext_model`, `ext_plan_reading`, `ext_plain`, `ext_lifecycle` and
+//! `ext_report` that its callers need.
 //!
 //! JUnit has no plans.
 #![tactic(auto)]
@@ -30,10 +30,11 @@ pub use checks::{check, check_races, explain_keys};
 pub use drawing::draw;
 pub use ext_ids::IdFault;
 pub use ext_lifecycle::{NoListener, NodeResult, RunListener, Status};
+pub use ext_model::Size;
 pub use ext_plain::plain_run_laws;
 pub use ext_plan_reading::{
     LabelNo, Place, Plan, PlanFault, PlanKey, PlanLock, PlanNode, Step, explain, explain_id,
-    read_plan,
+    read_plan_within,
 };
 pub use ext_report::ReportForm;
 pub use ext_tree::Tree;

@@ -1,6 +1,7 @@
 //! How a plan is run, and the outcome of a request.
 ghost use Rattle.std.specs.Prelude.{◌≡◌, false};
 
+use ext_model::Size;
 use ext_report::ReportForm;
 
 /// How a plan is run.
@@ -13,6 +14,9 @@ pub struct Options {
     pub plain: bool,
     /// How its report is written.
     pub form: ReportForm,
+    /// How large the plan may be: how many bytes, nodes and numbers it may have (`read_input`,
+    /// `ext_plan_reading::read_plan_within`).
+    pub size: Size,
 }
 
 /// The outcome of a request that was done: of a run whose report was written, or of another

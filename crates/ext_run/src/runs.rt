@@ -13,7 +13,7 @@ use crate::input::read_input;
 use crate::options::{Options, Summary};
 use crate::results::results_of;
 use ext_lifecycle::{NoListener, NodeResult, RunListener};
-use ext_plan_reading::{Plan, PlanFault, read_plan};
+use ext_plan_reading::{Plan, PlanFault, read_plan_within};
 use ext_report::{any_failed, report_in};
 use ext_tree::Tree;
 use std::alloc::Global;
@@ -47,14 +47,14 @@ struct Output {
 /// this exactly, with its conditions on the plan, and `told_lack_laws` that `Summary::lacked`
 /// identifies such a run.
 ///
-/// It reads the input to its end, at most 1,048,577 bytes, and the first read that fails ends the
-/// run. The report is complete before its first byte is written, and at last the writer is flushed.
+/// It reads the input to its end, like `read_input`, and the first read that fails ends the run. The
+/// report is complete before its first byte is written, and at last the writer is flushed.
 ///
 /// Refused, with nothing written:
 /// - `Read` if a read failed.
-/// - `TooLong` if the input has more than 1,048,576 bytes.
-/// - `Plan` if the plan is refused: with `NotUtf8`, or else with the fault of `read_plan`, which
-///   may be `Memory`.
+/// - `TooLong` if the input has more bytes than a plan of this size may have.
+/// - `Plan` if the plan is refused: with `NotUtf8`, or else with the fault of `read_plan_within`,
+///   which may be `Memory`.
 /// - `Engine` if the run on several lanes was refused: with `Memory`, or with `Unjoined` if a
 ///   context could not be closed, for which no plan is known.
 /// - `Memory` if memory was refused for the input, for a plain run outside its steps, or for the
@@ -75,12 +75,12 @@ pub fn run<R: Threads + Wait + Sync, I: Read, W: Write>(
 ) -> Result<Summary, RunFault>
     requires lanes { options.plain ≡ false → (1 ≤ options.lanes) × (options.lanes ≤ 16) }
     ensures written { IfOk result (λ summary. IfSome (I.remaining reader.old) (λ input. (report : List ℕ)
-        × Reports options (plan_of_input input) (record { report = report; failed = summary.failed; lacked = summary.lacked })
+        × Reports options (plan_of_input options.size input) (record { report = report; failed = summary.failed; lacked = summary.lacked })
         × Appends (W.contents writer.old) (W.contents writer.new) report)) }
     ensures refused { IfErr result (λ fault. IfSome (I.remaining reader.old)
-        (λ input. RefusedAs options fault (plan_of_input input))) }
+        (λ input. RefusedAs options fault (plan_of_input options.size input))) }
     ensures unwritten { IfErr result (λ fault. fault ≢ RunFault.Write → writer.new ≡ writer.old) }
-    ensures taken { (bytes : List ℕ) × (length bytes ≤ input_limit + 1)
+    ensures taken { (bytes : List ℕ) × (length bytes ≤ input_limit options.size + 1)
         × Consumes (I.remaining reader.old) (I.remaining reader.new) bytes }
 {
     run_with_listener(rt, alloc, reader, writer, options, &NoListener)
@@ -101,15 +101,15 @@ pub fn run_with_listener<R: Threads + Wait + Sync, I: Read, W: Write, L: RunList
 ) -> Result<Summary, RunFault>
     requires lanes { options.plain ≡ false → (1 ≤ options.lanes) × (options.lanes ≤ 16) }
     ensures written { IfOk result (λ summary. IfSome (I.remaining reader.old) (λ input. (report : List ℕ)
-        × Reports options (plan_of_input input) (record { report = report; failed = summary.failed; lacked = summary.lacked })
+        × Reports options (plan_of_input options.size input) (record { report = report; failed = summary.failed; lacked = summary.lacked })
         × Appends (W.contents writer.old) (W.contents writer.new) report)) }
     ensures refused { IfErr result (λ fault. IfSome (I.remaining reader.old)
-        (λ input. RefusedAs options fault (plan_of_input input))) }
+        (λ input. RefusedAs options fault (plan_of_input options.size input))) }
     ensures unwritten { IfErr result (λ fault. fault ≢ RunFault.Write → writer.new ≡ writer.old) }
-    ensures taken { (bytes : List ℕ) × (length bytes ≤ input_limit + 1)
+    ensures taken { (bytes : List ℕ) × (length bytes ≤ input_limit options.size + 1)
         × Consumes (I.remaining reader.old) (I.remaining reader.new) bytes }
 {
-    let input = read_input(alloc, reader)?;
+    let input = read_input(alloc, reader, options.size)?;
     let output = output_for(rt, alloc, input.as_slice(), options, listener)?;
     write_whole(writer, output.report.as_slice())?;
     Ok(Summary {
@@ -151,12 +151,12 @@ fn output_for<R: Threads + Wait + Sync, L: RunListener + Sync>(
     listener: &L,
 ) -> Result<Output, RunFault>
     requires lanes { options.plain ≡ false → (1 ≤ options.lanes) × (options.lanes ≤ 16) }
-    ensures { ReportsAs options result (plan_of_bytes input.now) }
+    ensures { ReportsAs options result (plan_of_bytes options.size input.now) }
 {
     let Ok(text) = std::str::from_utf8(input) else {
         return Err(RunFault::Plan(PlanFault::NotUtf8));
     };
-    match read_plan(alloc, text) {
+    match read_plan_within(alloc, text, options.size) {
         Ok(plan) => output_of(rt, alloc, &plan, options, listener),
         Err(fault) => Err(RunFault::Plan(fault)),
     }

@@ -2,6 +2,7 @@
 -- and `places_for`.
 use Rattle.std.specs.Prelude.{ℕ, ◌≡◌, ◌+◌, ◌*◌, ◌/◌, Bool, if◌then◌else◌, List, length, map}
 use Rattle.ext_cells.specs.Lanes.{CellsView, fresh_lanes}
+use Rattle.ext_model.specs.declared.size.Size.{Size}
 use Rattle.ext_store.specs.declared.limits.StoreFault.{StoreFault}
 use Rattle.ext_store.specs.declared.limits.StoreFault.TheVariants.{BadLimit, Memory}
 use Rattle.ext_store.specs.Stores.{StoreLane, CloserView, AreStoreLimits, closers_below, fresh_store_lane}
@@ -25,11 +26,11 @@ pub record AreParts {V : Type 0} (contexts key_count lane_count exchanges number
   pub closers : store_closers ≡ closers_below cells.id contexts
 
 -- The same, with the limits in their ranges.
-pub record AreOpened {V : Type 0} (contexts keys lanes tries numbers : ℕ) (keeps : Bool) (cells : CellsView) (places fault_names key_places : List ℕ) (store_lanes : List (StoreLane V)) (closers : List CloserView) : Type 0 where
-  pub within : AreStoreLimits keys lanes tries numbers
+pub record AreOpened {V : Type 0} (size : Size) (contexts keys lanes tries numbers : ℕ) (keeps : Bool) (cells : CellsView) (places fault_names key_places : List ℕ) (store_lanes : List (StoreLane V)) (closers : List CloserView) : Type 0 where
+  pub within : AreStoreLimits size keys lanes tries numbers
   pub parts : AreParts contexts keys lanes tries numbers keeps cells places fault_names key_places store_lanes closers
 
 -- A limit is out of its range, or memory is refused.
-abbrev pub IsNotOpened : ℕ → ℕ → ℕ → ℕ → StoreFault → Type 0
-IsNotOpened keys lanes tries numbers BadLimit = ¬ AreStoreLimits keys lanes tries numbers
-IsNotOpened keys lanes tries numbers Memory = AreStoreLimits keys lanes tries numbers
+abbrev pub IsNotOpened : Size → ℕ → ℕ → ℕ → ℕ → StoreFault → Type 0
+IsNotOpened size keys lanes tries numbers BadLimit = ¬ AreStoreLimits size keys lanes tries numbers
+IsNotOpened size keys lanes tries numbers Memory = AreStoreLimits size keys lanes tries numbers

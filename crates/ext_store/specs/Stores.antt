@@ -3,6 +3,7 @@
 use Rattle.std.specs.Prelude.{ℕ, zero, suc, ◌≡◌, ◌≢◌, ◌<◌, ◌≤◌, IsTrue, IsFalse, List, [], ◌∷◌, ◌++◌, length, Some}
 use Rattle.ext_model.specs.declared.look.Fault.{Fault}
 use Rattle.ext_model.specs.CallActs.{MayStoreNow}
+use Rattle.ext_model.specs.declared.size.Size.{Size}
 use Rattle.ext_tree.specs.Keys as keys
 use Rattle.ext_values.specs.Known.{Known, AreNotesOf, known_at, nothing_known}
 use Rattle.ext_cells.specs.Lanes.{CellsId, Lane, AreLimits}
@@ -99,7 +100,7 @@ abbrev pub closers_below : CellsId → ℕ → List CloserView
 closers_below cells zero = []
 closers_below cells (suc n) = closers_below cells n ++ record { cells = cells; context = n } ∷ []
 
--- The limits are in their ranges, however many contexts there are.
-pub record AreStoreLimits (keys lanes tries numbers : ℕ) : Type 0 where
+-- The limits of a store of this size are in their ranges, however many contexts there are.
+pub record AreStoreLimits (size : Size) (keys lanes tries numbers : ℕ) : Type 0 where
   pub keys_fit : (1 ≤ keys) × (keys ≤ 1024)
-  pub others_fit : AreLimits 0 lanes tries numbers
+  pub others_fit : AreLimits size 0 lanes tries numbers

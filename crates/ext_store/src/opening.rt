@@ -28,9 +28,10 @@ fn places_for(keys: KeyNo) -> usize
 
 // Whether a store may be opened with these limits.
 fn are_store_limits(limits: &Limits) -> bool
-    ensures { IsTrue result ↔ AreStoreLimits limits.now.keys limits.now.lanes limits.now.tries limits.now.numbers }
+    ensures { IsTrue result ↔ AreStoreLimits limits.now.size limits.now.keys limits.now.lanes limits.now.tries limits.now.numbers }
 {
-    (1..=1024).contains(&limits.keys) && are_limits(0, limits.lanes, limits.tries, limits.numbers)
+    (1..=1024).contains(&limits.keys)
+        && are_limits(limits.size, 0, limits.lanes, limits.tries, limits.numbers)
 }
 
 // The parts of a store with so many contexts: the cells, the places of values, of kept faults and
@@ -51,10 +52,10 @@ pub(crate) fn open_parts<V: Drop>(
     ),
     StoreFault,
 >
-    requires { contexts ≤ 256 }
+    requires { contexts ≤ 65536 }
     ensures { MatchResult result
-        (λ r. AreOpened contexts limits.keys limits.lanes limits.tries limits.numbers limits.keep_faults r.0 r.1 r.2 r.3 r.4.items r.5.items)
-        (IsNotOpened limits.keys limits.lanes limits.tries limits.numbers) }
+        (λ r. AreOpened limits.size contexts limits.keys limits.lanes limits.tries limits.numbers limits.keep_faults r.0 r.1 r.2 r.3 r.4.items r.5.items)
+        (IsNotOpened limits.size limits.keys limits.lanes limits.tries limits.numbers) }
 {
     if !are_store_limits(&limits) {
         return Err(StoreFault::BadLimit);
@@ -81,8 +82,8 @@ fn parts_of<V: Drop>(
     ),
     AllocError,
 >
-    requires contexts { contexts ≤ 256 }
-    requires limits { AreStoreLimits limits.keys limits.lanes limits.tries limits.numbers }
+    requires contexts { contexts ≤ 65536 }
+    requires limits { AreStoreLimits limits.size limits.keys limits.lanes limits.tries limits.numbers }
     ensures { IfOk result (λ r. AreParts contexts limits.keys limits.lanes limits.tries limits.numbers limits.keep_faults r.0 r.1 r.2 r.3 r.4.items r.5.items) }
 {
     let Limits {
@@ -91,6 +92,7 @@ fn parts_of<V: Drop>(
         keys,
         numbers,
         keep_faults,
+        ..
     } = limits;
     let places = places_for(keys);
     let count = contexts * places;

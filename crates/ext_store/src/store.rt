@@ -107,7 +107,8 @@ impl<V: StoreValue + Drop> Store<V> {
     /// empty (`no_lane` of `history_laws` in ext_model).
     ///
     /// Refused, in this order, as `BadLimit` unless there are 1 to 16 lanes, 1 to 64 tries, 1 to
-    /// 1,024 keys and 1 to 65,535 numbers, and as `Memory`. A refused call drops the tree.
+    /// 1,024 keys and 1 to `limits.size.numbers()` numbers, and as `Memory`. A refused call drops
+    /// the tree.
     pub fn open(
         alloc: Global,
         tree: Tree,
@@ -128,8 +129,8 @@ impl<V: StoreValue + Drop> Store<V> {
         ensures own_closers { IfOk result (λ r. All (IsCloserOf r.0) r.2.items) }
 
         // When it is refused.
-        ensures within { IfOk result (λ _. AreStoreLimits limits.keys limits.lanes limits.tries limits.numbers) }
-        ensures bad_limit { (result ≡ Err store_fault.BadLimit) ↔ (¬ AreStoreLimits limits.keys limits.lanes limits.tries limits.numbers) }
+        ensures within { IfOk result (λ _. AreStoreLimits limits.size limits.keys limits.lanes limits.tries limits.numbers) }
+        ensures bad_limit { (result ≡ Err store_fault.BadLimit) ↔ (¬ AreStoreLimits limits.size limits.keys limits.lanes limits.tries limits.numbers) }
     {
         let contexts = tree.len();
         let (cells, values, faults, keys, lanes, closers) = open_parts(alloc, contexts, limits)?;

@@ -37,7 +37,7 @@ pub record AreBlocks (keys : List ℕ) : Type 0 where
 pub record IsWell (tree : List Id) (keys : List ℕ) (limits : Limits) : Type 0 where
   pub cells : limits.cells ≡ length tree * length keys
   pub key_places : AreBlocks keys
-  pub few : limits.numbers ≤ 65535
+  pub few : limits.numbers ≤ 1048575
 
 -- The cell of a context and a place of a key, by their numbers.
 abbrev pub cell_in : ContextCells → ℕ → ℕ → ℕ

@@ -108,7 +108,7 @@ impl StoreCore {
         ensures steps { steps_of lane.old lane.new ≤ 2 * self.now.cells.limits.numbers + self.now.tries + 1 }
     {
         self.recall();
-        for _ in 0..65_535_u32 {
+        for _ in 0..1_048_575_u32 {
             let why = match self.keep(lane) {
                 Ok(number) => return Ok(number),
                 Err(why) => why,

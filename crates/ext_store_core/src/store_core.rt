@@ -34,7 +34,7 @@ impl Model for StoreCore {
 
 impl StoreCore {
     /// Puts together what the lanes of a store share; nobody waits yet. There must be a cell for
-    /// each context and key, and at most 65,535 numbers.
+    /// each context and key, and at most 1,048,575 numbers.
     pub fn new(tree: Tree, keys: KeyPlaces, cells: Cells) -> StoreCore
         requires { IsWell tree keys cells.id.limits }
         ensures { result ≡ record { cells = cells.id; keys = keys; tree = tree; tries = cells.tries } }
@@ -78,12 +78,12 @@ impl StoreCore {
     }
 
     /// Tells a proof what holds of everything that lanes share. There is a cell for each context
-    /// and place of a key, there are 32 to 1,024 such places, in blocks of 32, at most 65,535
+    /// and place of a key, there are 32 to 1,024 such places, in blocks of 32, at most 1,048,575
     /// numbers, and at least one try. It does nothing when it runs.
     pub fn recall(&self)
         ensures cells { self.now.cells.limits.cells ≡ length self.now.tree * length self.now.keys }
         ensures keys { AreBlocks self.now.keys }
-        ensures few { self.now.cells.limits.numbers ≤ 65535 }
+        ensures few { self.now.cells.limits.numbers ≤ 1048575 }
         ensures tries { 1 ≤ self.now.tries }
     {
         let _tries = self.cells.tries();

@@ -78,31 +78,31 @@ follow_all ids (suc n) = ⊎_elim
     (λ w. inr (record { place = w.place; what = w.what; some = w.some; less = (let l = w.less in omega (arith, l)); before = w.before; wrong = w.wrong }))
     (follow_all ids n)
 
-rooted : (ids : List Id) → HasRoot ids → IsTreeOrFaulty ids
-rooted ids root = ⊎_elim
-    (λ all. inl (record { first = root; later = all }))
-    (λ w. inr (w.what, later root w.place w.what w.some w.less w.before w.wrong))
+rooted : (most : ℕ) (ids : List Id) → HasRoot ids → length ids ≤ most → IsTreeOrFaulty most ids
+rooted most ids root fits = ⊎_elim
+    (λ all. inl (record { tree = record { first = root; later = all }; few = fits }))
+    (λ w. inr (w.what, later root fits w.place w.what w.some w.less w.before w.wrong))
     (follow_all ids (length ids))
 
 some_or_none : (n : ℕ) → (n ≡ 0) ⊎ (0 < n)
 some_or_none zero = inl refl
 some_or_none (suc n) = inr (omega arith)
 
-few_or_many : (n : ℕ) → (n ≤ 256) ⊎ (256 < n)
-few_or_many n = elim (cases_order n 256) [
+few_or_many : (most n : ℕ) → (n ≤ most) ⊎ (most < n)
+few_or_many most n = elim (cases_order n most) [
   | inl same ↦ inl (omega (arith, same))
   | inr (inl less) ↦ inl (omega (arith, less))
   | inr (inr more) ↦ inr more
 ]
 
-pub tree_or_faulty : (ids : List Id) → IsTreeOrFaulty ids
-tree_or_faulty ids = ⊎_elim
+pub tree_or_faulty : (most : ℕ) (ids : List Id) → most ≤ 65536 → IsTreeOrFaulty most ids
+tree_or_faulty most ids within = ⊎_elim
     (λ none_there. inr (faults.NoRoot, none_at_all none_there))
     (λ some. ⊎_elim
     (λ few. ⊎_elim
-    (λ root. rooted ids (record { some = some; few = few; root = root }))
+    (λ root. rooted most ids (record { some = some; few = omega (arith, few, within); root = root }) few)
     (λ other. inr (faults.NoRoot, no_root some few other))
     (cases_eq (length (id_at ids 0)) 1))
     (λ many. inr (faults.TooMany, too_many many))
-    (few_or_many (length ids)))
+    (few_or_many most (length ids)))
     (some_or_none (length ids))

@@ -8,7 +8,7 @@ use Rattle.std.proofs.lemmas.List.{get_or_append_left, get_or_default, get_or_at
 use Rattle.std.proofs.lemmas.List.Folds.{Any-from_list_any, list_any_at}
 use Rattle.ext_ids.specs.Ids.{pair_eq, is_parent}
 use Rattle.ext_ids.proofs.Pairs.{ids_Decides}
-use Rattle.ext_tree.specs.Trees.{Id, id_at, MayFollow, IsTree}
+use Rattle.ext_tree.specs.Trees.{Id, id_at, MayFollow, IsTreeWithin}
 use Rattle.ext_tree.specs.Decided.{may_follow, each_may_follow, is_tree}
 use Rattle.ext_tree.specs.TreeLaws.{TestTells}
 use Rattle.ext_tree.proofs.Children.{is_parent_Decides}
@@ -86,22 +86,26 @@ all_from before (id ∷ more) h =
 
 -- ---- whole lists
 
-tree_to : (ids : List Id) → is_tree ids ≡ true → IsTree ids
-tree_to [] h = absurd (true≢false (sym h))
-tree_to (root ∷ more) h =
-    let outer = and_parts (nat_le (length (root ∷ more)) 256 && (length root == 1)) (each_may_follow (root ∷ []) more) h in
-    let inner = and_parts (nat_le (length (root ∷ more)) 256) (length root == 1) outer.0 in
+tree_to : (most : ℕ) (ids : List Id) → most ≤ 65536 → is_tree most ids ≡ true → IsTreeWithin most ids
+tree_to most [] within h = absurd (true≢false (sym h))
+tree_to most (root ∷ more) within h =
+    let outer = and_parts (nat_le (length (root ∷ more)) most && (length root == 1)) (each_may_follow (root ∷ []) more) h in
+    let inner = and_parts (nat_le (length (root ∷ more)) most) (length root == 1) outer.0 in
     let later = all_to (root ∷ []) more outer.1 in
+    let fits : length (root ∷ more) ≤ most = leb-true _ _ inner.0 in
     record {
-      first = record { some = omega arith; few = leb-true _ _ inner.0; root = eqb-true (length root) 1 inner.1 };
-      later = record { each = λ k some less. later k (omega (arith, some)) less };
+      tree = record {
+        first = record { some = omega arith; few = omega (arith, fits, within); root = eqb-true (length root) 1 inner.1 };
+        later = record { each = λ k some less. later k (omega (arith, some)) less };
+      };
+      few = fits;
     }
 
-tree_from : (ids : List Id) → IsTree ids → is_tree ids ≡ true
-tree_from [] tree = let some = tree.first.some in absurd (omega (arith, some))
-tree_from (root ∷ more) tree =
-    and_from _ _ (and_from _ _ (le-leb _ _ tree.first.few) (eq-eqb (length root) 1 tree.first.root))
-    (all_from (root ∷ []) more (λ k low high. tree.later.each k (omega (arith, low)) high))
+tree_from : (most : ℕ) (ids : List Id) → IsTreeWithin most ids → is_tree most ids ≡ true
+tree_from most [] t = let some = t.tree.first.some in absurd (omega (arith, some))
+tree_from most (root ∷ more) t =
+    and_from _ _ (and_from _ _ (le-leb _ _ t.few) (eq-eqb (length root) 1 t.tree.first.root))
+    (all_from (root ∷ []) more (λ k low high. t.tree.later.each k (omega (arith, low)) high))
 
 pub test_tells : TestTells
-test_tells ids = (tree_to ids, tree_from ids)
+test_tells most ids within = (tree_to most ids within, tree_from most ids)

@@ -4,8 +4,8 @@ use Rattle.std.proofs.lemmas.Bool.{cases_order, cases_eq}
 use Rattle.std.proofs.lemmas.List.{get_or_default, get_or_push, get_or_append_left, same_from_push, length_push}
 use Rattle.ext_tree.specs.declared.fault.TreeFault.{TreeFault}
 use Rattle.ext_tree.specs.declared.fault.TreeFault.TheVariants as faults
-use Rattle.ext_tree.specs.Trees.{Id, id_at, IsParent, MayFollow, IsWrong, twice, second_root, without_parent, HasRoot, FollowBelow, IsTree, HasFault, none_at_all, too_many, no_root, later, IsParentOf, IsPathOf}
-use Rattle.ext_tree.specs.InnerBuilding.{Follows, AreParents, ArePaths}
+use Rattle.ext_tree.specs.Trees.{Id, id_at, IsParent, MayFollow, IsWrong, twice, second_root, without_parent, HasRoot, FollowBelow, IsTree, IsTreeWithin, HasFault, none_at_all, too_many, no_root, later, IsParentOf, IsPathOf}
+use Rattle.ext_tree.specs.InnerBuilding.{Follows, IsFirstWrong, AreParents, ArePaths}
 
 -- what an index reads
 pub read_id : (ids : List Id) (at : ℕ) (x : Id) → at < length ids → x ≡ get_or ids at x → x ≡ id_at ids at
@@ -23,11 +23,11 @@ wrong_or_right ids k e may (twice s) = may.fresh s
 wrong_or_right ids k e may (second_root s one) = may.below one
 wrong_or_right ids k e may (without_parent s one missing) = missing may.parent
 
-pub has_no_fault : (ids : List Id) (e : TreeFault) → IsTree ids → HasFault ids e → ⊥
-has_no_fault ids e tree (none_at_all h) = let s = tree.first.some in omega (arith, s, h)
-has_no_fault ids e tree (too_many h) = let s = tree.first.few in omega (arith, s, h)
-has_no_fault ids e tree (no_root some few h) = h tree.first.root
-has_no_fault ids e tree (later root k what some less before wrong) = wrong_or_right ids k what (tree.later.each k some less) wrong
+pub has_no_fault : (most : ℕ) (ids : List Id) (e : TreeFault) → IsTreeWithin most ids → HasFault most ids e → ⊥
+has_no_fault most ids e t (none_at_all h) = let s = t.tree.first.some in omega (arith, s, h)
+has_no_fault most ids e t (too_many h) = let s = t.few in omega (arith, s, h)
+has_no_fault most ids e t (no_root some few h) = h t.tree.first.root
+has_no_fault most ids e t (later root few k what some less before wrong) = wrong_or_right ids k what (t.tree.later.each k some less) wrong
 
 pub memory_or_not : (e : TreeFault) → (e ≡ faults.Memory) ⊎ (e ≢ faults.Memory)
 memory_or_not faults.Memory = inl refl
@@ -55,23 +55,23 @@ first_wrong ids k j e f k_some j_some below_k below_j wrong_k wrong_j = elim (ca
   | inr (inr less) ↦ absurd (wrong_or_right ids j f (below_k.each j j_some less) wrong_j)
 ]
 
-pub one_fault : (ids : List Id) (e f : TreeFault) → HasFault ids e → HasFault ids f → e ≡ f
-one_fault ids e f (none_at_all h) (none_at_all g) = refl
-one_fault ids e f (none_at_all h) (too_many g) = absurd (omega (arith, h, g))
-one_fault ids e f (none_at_all h) (no_root some few g) = refl
-one_fault ids e f (none_at_all h) (later root k what some less before wrong) = absurd (omega (arith, h, less))
-one_fault ids e f (too_many h) (none_at_all g) = absurd (omega (arith, h, g))
-one_fault ids e f (too_many h) (too_many g) = refl
-one_fault ids e f (too_many h) (no_root some few g) = absurd (omega (arith, h, few))
-one_fault ids e f (too_many h) (later root k what some less before wrong) = absurd (let few = root.few in omega (arith, h, few))
-one_fault ids e f (no_root some few h) (none_at_all g) = refl
-one_fault ids e f (no_root some few h) (too_many g) = absurd (omega (arith, few, g))
-one_fault ids e f (no_root some few h) (no_root some' few' g) = refl
-one_fault ids e f (no_root some few h) (later root k what some' less before wrong) = absurd (h root.root)
-one_fault ids e f (later root k what some less before wrong) (none_at_all g) = absurd (omega (arith, g, less))
-one_fault ids e f (later root k what some less before wrong) (too_many g) = absurd (let few = root.few in omega (arith, g, few))
-one_fault ids e f (later root k what some less before wrong) (no_root some' few g) = absurd (g root.root)
-one_fault ids e f (later root k what some less before wrong) (later root' j what' some' less' before' wrong') =
+pub one_fault : (most : ℕ) (ids : List Id) (e f : TreeFault) → HasFault most ids e → HasFault most ids f → e ≡ f
+one_fault most ids e f (none_at_all h) (none_at_all g) = refl
+one_fault most ids e f (none_at_all h) (too_many g) = absurd (omega (arith, h, g))
+one_fault most ids e f (none_at_all h) (no_root some few g) = refl
+one_fault most ids e f (none_at_all h) (later root fits k what some less before wrong) = absurd (omega (arith, h, less))
+one_fault most ids e f (too_many h) (none_at_all g) = absurd (omega (arith, h, g))
+one_fault most ids e f (too_many h) (too_many g) = refl
+one_fault most ids e f (too_many h) (no_root some few g) = absurd (omega (arith, h, few))
+one_fault most ids e f (too_many h) (later root fits k what some less before wrong) = absurd (omega (arith, h, fits))
+one_fault most ids e f (no_root some few h) (none_at_all g) = absurd (omega (arith, some, g))
+one_fault most ids e f (no_root some few h) (too_many g) = absurd (omega (arith, few, g))
+one_fault most ids e f (no_root some few h) (no_root some' few' g) = refl
+one_fault most ids e f (no_root some few h) (later root fits k what some' less before wrong) = absurd (h root.root)
+one_fault most ids e f (later root fits k what some less before wrong) (none_at_all g) = absurd (omega (arith, g, less))
+one_fault most ids e f (later root fits k what some less before wrong) (too_many g) = absurd (omega (arith, g, fits))
+one_fault most ids e f (later root fits k what some less before wrong) (no_root some' few g) = absurd (g root.root)
+one_fault most ids e f (later root fits k what some less before wrong) (later root' fits' j what' some' less' before' wrong') =
     first_wrong ids k j what what' some some' before before' wrong wrong'
 
 -- ids with places for all parents are a tree
@@ -80,6 +80,12 @@ tree_by_parents ids parents root are = record {
   first = root;
   later = record { each = λ k some less. let f = are.each k some less in f.may };
 }
+
+pub tree_within : (most : ℕ) (ids : List Id) (parents : List ℕ) → HasRoot ids → length ids ≤ most → AreParents ids (length ids) parents → IsTreeWithin most ids
+tree_within most ids parents root few are = record { tree = tree_by_parents ids parents root are; few = few }
+
+pub first_fault : (most : ℕ) (ids : List Id) (e : TreeFault) → HasRoot ids → length ids ≤ most → IsFirstWrong ids e → HasFault most ids e
+first_fault most ids e root few w = later root few w.place e w.some w.less w.before w.wrong
 
 module _ (ids : List Id) (tree : IsTree ids) where
   -- each id has a segment

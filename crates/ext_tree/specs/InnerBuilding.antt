@@ -2,7 +2,7 @@
 use Rattle.std.specs.Prelude.{ℕ, ◌≡◌, ◌<◌, ◌≤◌, List, length, slice_index, HoldsAt, Option, Some, None, Result, Ok, Err}
 use Rattle.std.specs.Global.{Vec}
 use Rattle.ext_tree.specs.declared.fault.TreeFault.{TreeFault}
-use Rattle.ext_tree.specs.Trees.{Id, id_at, IsParent, HasParentBefore, MayFollow, IsWrong, IsTree, children_below, IsPathOf}
+use Rattle.ext_tree.specs.Trees.{Id, id_at, IsParent, HasParentBefore, FollowBelow, MayFollow, IsWrong, IsTree, children_below, IsPathOf}
 
 -- The id at `k` may come where it does, and its parent is the id at `parent`.
 pub record Follows (ids : List Id) (k parent : ℕ) : Type 0 where
@@ -19,6 +19,14 @@ IsParentBefore ids k (Some parent) = (parent < k) × IsParent (id_at ids parent)
 abbrev pub IsJudged : List Id → ℕ → Result ℕ TreeFault → Type 0
 IsJudged ids k (Ok parent) = Follows ids k parent
 IsJudged ids k (Err e) = IsWrong ids k e
+
+-- The first id, from the left, that may not come where it does, and what is wrong with it.
+pub record IsFirstWrong (ids : List Id) (what : TreeFault) : Type 0 where
+  pub place : ℕ
+  pub some : 0 < place
+  pub less : place < length ids
+  pub before : FollowBelow ids place
+  pub wrong : IsWrong ids place what
 
 -- The places of the parents of the first `n` ids. The entry for the root may be anything.
 pub record AreParents (ids : List Id) (n : ℕ) (parents : List ℕ) : Type 0 where

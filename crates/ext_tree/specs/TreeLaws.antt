@@ -1,23 +1,23 @@
 -- Laws of trees and of keys, by which a reader may judge the definitions.
-use Rattle.std.specs.Prelude.{ℕ, true, ◌≡◌, ◌≢◌, ◌<◌, ◌+◌, ◌*◌, ◌++◌, ◌⊎◌, ◌↔◌, List, length, Contains, AllPairs}
+use Rattle.std.specs.Prelude.{ℕ, true, ◌≡◌, ◌≢◌, ◌<◌, ◌≤◌, ◌+◌, ◌*◌, ◌++◌, ◌⊎◌, ◌↔◌, List, length, Contains, AllPairs}
 use Rattle.ext_tree.specs.declared.fault.TreeFault.{TreeFault}
 use Rattle.ext_tree.specs.Decided.{is_tree}
 use Rattle.ext_tree.specs.Keys.{NamespaceValue, KeyValue, global_namespace, created_namespace, appended, AreDifferent, HasNumber}
-use Rattle.ext_tree.specs.Trees.{IsPathOf, IsParentOf, children_of, Id, IsTree, HasFault}
+use Rattle.ext_tree.specs.Trees.{IsPathOf, IsParentOf, children_of, Id, IsTree, IsTreeWithin, HasFault}
 
--- The list of ids is a tree, or it has a fault.
-abbrev pub IsTreeOrFaulty : List Id → Type 0
-IsTreeOrFaulty ids = IsTree ids ⊎ ((fault : TreeFault) × HasFault ids fault)
+-- The list of ids is a tree of at most `most` contexts, or it has a fault.
+abbrev pub IsTreeOrFaulty : ℕ → List Id → Type 0
+IsTreeOrFaulty most ids = IsTreeWithin most ids ⊎ ((fault : TreeFault) × HasFault most ids fault)
 
--- A list of ids is a tree or has a fault, never both and never two faults.
+-- For each limit, a list of ids is a tree or has a fault, never both and never two faults.
 pub record FaultsTell : Type 0 where
-  pub one_of_both : (ids : List Id) → IsTreeOrFaulty ids
-  pub not_both : (ids : List Id) (fault : TreeFault) → IsTree ids → HasFault ids fault → ⊥
-  pub one_fault : (ids : List Id) (fault second : TreeFault) → HasFault ids fault → HasFault ids second → fault ≡ second
+  pub one_of_both : (most : ℕ) (ids : List Id) → most ≤ 65536 → IsTreeOrFaulty most ids
+  pub not_both : (most : ℕ) (ids : List Id) (fault : TreeFault) → IsTreeWithin most ids → HasFault most ids fault → ⊥
+  pub one_fault : (most : ℕ) (ids : List Id) (fault second : TreeFault) → HasFault most ids fault → HasFault most ids second → fault ≡ second
 
--- The test for trees accepts exactly the trees.
+-- The test for trees accepts exactly the trees of at most `most` contexts.
 abbrev pub TestTells : Type 0
-TestTells = (ids : List Id) → (is_tree ids ≡ true) ↔ IsTree ids
+TestTells = (most : ℕ) (ids : List Id) → most ≤ 65536 → (is_tree most ids ≡ true) ↔ IsTreeWithin most ids
 
 -- A context of a tree has at most one parent, which comes before it, and at most one path.
 pub record PathsAreUnique : Type 0 where

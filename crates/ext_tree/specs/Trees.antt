@@ -1,7 +1,7 @@
 -- Which lists of ids are trees of contexts, what is wrong with the others, and the path from a context to the root.
--- Contexts form a tree as in JUnit (User Guide, "Keeping State in Extensions"). The limit of 256, the order of the list
--- and the order of the faults are not from JUnit. A context is its place in the list, from 0. A path is the context,
--- its parent, and so on to the root: the order in which JUnit asks.
+-- Contexts form a tree as in JUnit (User Guide, "Keeping State in Extensions"). The limits, the order of the list and
+-- the order of the faults are not from JUnit. A context is its place in the list, from 0. A path is the context, its
+-- parent, and so on to the root: the order in which JUnit asks.
 use Rattle.std.specs.Prelude.{ℕ, ◌≡◌, ◌≢◌, ◌<◌, ◌≤◌, List, [], ◌∷◌, ◌++◌, length, slice_index_or, zero, suc, if◌then◌else◌}
 use Rattle.ext_ids.specs.Grammar.{Pair}
 use Rattle.ext_tree.specs.declared.fault.TreeFault.{TreeFault}
@@ -38,10 +38,10 @@ pub data IsWrong (ids : List Id) (k : ℕ) : TreeFault → Type 0 where
   second_root : ¬ StandsBefore ids k → length (id_at ids k) ≡ 1 → IsWrong ids k (faults.TwoRoots k)
   without_parent : ¬ StandsBefore ids k → length (id_at ids k) ≢ 1 → ¬ HasParentBefore ids k → IsWrong ids k (faults.NoParent k)
 
--- There are 1 to 256 ids, and the first is a root.
+-- There are 1 to 65,536 ids, and the first is a root.
 pub record HasRoot (ids : List Id) : Type 0 where
   pub some : 0 < length ids
-  pub few : length ids ≤ 256
+  pub few : length ids ≤ 65536
   pub root : length (id_at ids 0) ≡ 1
 
 -- The ids before `n`, except the first, may come where they do.
@@ -53,12 +53,18 @@ pub record IsTree (ids : List Id) : Type 0 where
   pub first : HasRoot ids
   pub later : FollowBelow ids (length ids)
 
--- The first fault of a list of ids, from the left.
-pub data HasFault (ids : List Id) : TreeFault → Type 0 where
-  none_at_all : length ids ≡ 0 → HasFault ids faults.NoRoot
-  too_many : 256 < length ids → HasFault ids faults.TooMany
-  no_root : 0 < length ids → length ids ≤ 256 → length (id_at ids 0) ≢ 1 → HasFault ids faults.NoRoot
-  later : HasRoot ids → (k : ℕ) (what : TreeFault) → 0 < k → k < length ids → FollowBelow ids k → IsWrong ids k what → HasFault ids what
+-- The ids make a tree of at most `most` contexts.
+pub record IsTreeWithin (most : ℕ) (ids : List Id) : Type 0 where
+  pub tree : IsTree ids
+  pub few : length ids ≤ most
+
+-- The first fault of a list of ids, from the left, where a tree may have `most` contexts.
+pub data HasFault (most : ℕ) (ids : List Id) : TreeFault → Type 0 where
+  none_at_all : length ids ≡ 0 → HasFault most ids faults.NoRoot
+  too_many : most < length ids → HasFault most ids faults.TooMany
+  no_root : 0 < length ids → length ids ≤ most → length (id_at ids 0) ≢ 1 → HasFault most ids faults.NoRoot
+  later : HasRoot ids → length ids ≤ most → (k : ℕ) (what : TreeFault) → 0 < k → k < length ids → FollowBelow ids k → IsWrong ids k what
+      → HasFault most ids what
 
 -- ---- paths and children
 

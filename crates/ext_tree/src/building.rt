@@ -1,7 +1,7 @@
 //! Works out the parents, children and paths of a list of ids, or what is wrong with the list.
 ghost use Rattle.std.specs.Prelude.{ℕ, ◌≡◌, ◌≢◌, ◌+◌, ◌<◌, ◌≤◌, ◌↔◌, IsTrue, IfOk, IfErr, OnOk, MatchResult, length, take, []};
 ghost use Rattle.ext_tree.specs.Trees.{StandsBefore, HasRoot, IsTree, HasFault, IsWrong, IsPathOf};
-ghost use Rattle.ext_tree.specs.InnerBuilding.{IsParentBefore, IsJudged, AreParents, AreChildren, ArePaths, Follows};
+ghost use Rattle.ext_tree.specs.InnerBuilding.{IsFirstWrong, IsParentBefore, IsJudged, AreParents, AreChildren, ArePaths, Follows};
 ghost use Rattle.ext_tree.specs.declared.fault.TreeFault.TheVariants.{Memory};
 
 use crate::path::MAX_DEPTH;
@@ -12,18 +12,16 @@ use ext_model::ContextNo;
 use indexmap::IndexSet;
 use std::alloc::{AllocError, Global};
 
-/// The greatest number of contexts of a tree.
-const MAX_CONTEXTS: usize = 256;
-
-/// Checks that the list begins with a root, and that it is not too long.
-pub fn check_root(ids: &[UniqueId]) -> Result<(), TreeFault>
-    ensures ok { OnOk result (HasRoot ids.now) }
-    ensures err { IfErr result (HasFault ids.now) }
+/// Checks that the list begins with a root, and that it has at most `most` ids.
+pub fn check_root(ids: &[UniqueId], most: usize) -> Result<(), TreeFault>
+    requires { most ≤ 65536 }
+    ensures ok { OnOk result (HasRoot ids.now × (length ids.now ≤ most)) }
+    ensures err { IfErr result (HasFault most ids.now) }
 {
     if ids.is_empty() {
         return Err(TreeFault::NoRoot);
     }
-    if ids.len() > MAX_CONTEXTS {
+    if ids.len() > most {
         return Err(TreeFault::TooMany);
     }
     if ids[0].len() != 1 {
@@ -36,7 +34,7 @@ pub fn check_root(ids: &[UniqueId]) -> Result<(), TreeFault>
 /// ids.
 pub fn parents_of(alloc: Global, ids: &[UniqueId]) -> Result<Vec<ContextNo>, TreeFault>
     requires { HasRoot ids.now }
-    ensures { MatchResult result (λ v. AreParents ids.now (length ids.now) v.items) (λ e. e ≢ Memory → HasFault ids.now e) }
+    ensures { MatchResult result (λ v. AreParents ids.now (length ids.now) v.items) (λ e. e ≢ Memory → IsFirstWrong ids.now e) }
 {
     let mut table = IndexSet::new(alloc);
     let mut parents = Vec::new(alloc);
@@ -53,7 +51,7 @@ fn parents_by(
 ) -> Result<(), TreeFault>
     requires root { HasRoot ids.now }
     requires empty { (table.old.keys ≡ []) × (parents.old.items ≡ []) }
-    ensures { MatchResult result (λ _. AreParents ids.now (length ids.now) parents.new.items) (λ e. e ≢ Memory → HasFault ids.now e) }
+    ensures { MatchResult result (λ _. AreParents ids.now (length ids.now) parents.new.items) (λ e. e ≢ Memory → IsFirstWrong ids.now e) }
 {
     enter_root(alloc, table, ids)?;
     parents.push(0)?;
@@ -128,7 +126,7 @@ fn judge(
 fn check(ids: &[UniqueId]) -> Result<(), TreeFault>
     requires { HasRoot ids.now }
     ensures ok { OnOk result (IsTree ids.now) }
-    ensures err { IfErr result (HasFault ids.now) }
+    ensures err { IfErr result (IsFirstWrong ids.now) }
 {
     for i in 1..ids.len() {
         let _parent = judge(ids, i, stands_before(ids, i), parent_before(ids, i))?;
@@ -140,8 +138,8 @@ fn check(ids: &[UniqueId]) -> Result<(), TreeFault>
 /// memory.
 pub fn refusal(ids: &[UniqueId], fault: TreeFault) -> TreeFault
     requires root { HasRoot ids.now }
-    requires fault { fault ≢ Memory → HasFault ids.now fault }
-    ensures fault { result ≢ Memory → HasFault ids.now result }
+    requires fault { fault ≢ Memory → IsFirstWrong ids.now fault }
+    ensures fault { result ≢ Memory → IsFirstWrong ids.now result }
     ensures memory { result ≡ Memory → IsTree ids.now }
 {
     match fault {

@@ -99,14 +99,14 @@ impl Directory {
         self.keys.is_empty()
     }
 
-    /// The cell of a context, 0 to 255, and a declared key: the context times the number of keys,
-    /// plus the key. Different pairs have different cells. Declaring a further key changes the
+    /// The cell of a context, 0 to 65,535, and a declared key: the context times the number of
+    /// keys, plus the key. Different pairs have different cells. Declaring a further key changes the
     /// cells.
     pub fn cell(&self, context: ContextNo, key: KeyNo) -> CellNo
-        requires context { context < 256 }
+        requires context { context < 65536 }
         requires key { key < length self.now }
         ensures cell { result ≡ context * length self.now + key }
-        ensures within { result < 256 * length self.now }
+        ensures within { result < 65536 * length self.now }
     {
         context * self.len() + key
     }

@@ -22,7 +22,7 @@ pub enum TreeFault {
     /// This id also stands earlier in the list.
     #[error("id {0} stands twice")]
     Twice(usize),
-    /// More than 256 ids, or more than 64 keys.
+    /// There are more ids, or keys, than the call allows.
     #[error("too many contexts or keys")]
     TooMany,
     /// An allocation failed.

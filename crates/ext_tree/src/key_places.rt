@@ -136,13 +136,13 @@ impl KeyPlaces {
         agree_all(notes.entries.as_mut_slice(), others.entries.as_mut_slice());
     }
 
-    /// The cell of a context, 0 to 255, and the number of a place: the context times the number of
-    /// places, plus the key. Different pairs have different cells.
+    /// The cell of a context, 0 to 65,535, and the number of a place: the context times the number
+    /// of places, plus the key. Different pairs have different cells.
     pub fn cell(&self, context: ContextNo, key: KeyNo) -> CellNo
-        requires context { context < 256 }
+        requires context { context < 65536 }
         requires key { key < length self.now }
         ensures cell { result ≡ context * length self.now + key }
-        ensures within { result < 262144 }
+        ensures within { result < 65536 * length self.now }
     {
         context * self.len() + key
     }

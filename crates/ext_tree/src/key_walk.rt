@@ -35,7 +35,9 @@ pub fn number_of(
 
 /// Tries the places from the index's next one on, in order, until one holds the key: one that is
 /// known to hold another is passed, and a free one is offered a copy of the key, which takes
-/// memory. All of them are added to the index, so no later walk reads them again.
+/// memory. All of them are added to the index, so no later walk reads them again. It is not inlined,
+/// so that a key that is known costs no registers of it.
+#[inline(never)]
 fn walk(
     alloc: Global,
     places: &[OnceBox<Key>],

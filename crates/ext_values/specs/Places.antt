@@ -5,7 +5,7 @@ use Rattle.std.specs.Prelude.{ℕ, ◌≡◌, ◌-◌, ◌<◌, ◌≤◌, List,
 
 -- How many places there may be; 0 is allowed.
 abbrev pub IsCapacity : ℕ → Type 0
-IsCapacity capacity = capacity ≤ 65535
+IsCapacity capacity = capacity ≤ 1048575
 
 -- Numbers begin at 1. Places are listed by their names, in the order of their numbers.
 abbrev pub IsNumber : List ℕ → ℕ → Type 0

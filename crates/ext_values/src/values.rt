@@ -32,7 +32,7 @@ impl<V> Model for Values<V> {
 }
 
 impl<V> Values<V> {
-    /// Makes `capacity` free places, at most 65,535. Takes memory, unless the capacity is 0.
+    /// Makes `capacity` free places, at most 1,048,575. Takes memory, unless the capacity is 0.
     ///
     /// Refused as `Memory`, only if its one allocation fails.
     pub fn new(alloc: Global, capacity: u32) -> Result<Values<V>, ValuesFault>
@@ -46,7 +46,7 @@ impl<V> Values<V> {
         Ok(Values { places })
     }
 
-    /// The number of places, which is the last number: at most 65,535.
+    /// The number of places, which is the last number: at most 1,048,575.
     pub fn capacity(&self) -> u32
         ensures count { result ≡ length self.now }
         ensures within { IsCapacity result }

@@ -1,7 +1,7 @@
 -- The command `run` with one argument more, and that the parser knows the matches of the program's command line.
 use Rattle.std.proofs.Common.{◌≡◌, true, false, List, [], ◌∷◌, ◌++◌, ap, refl, ◌∙◌}
 use Rattle.std.specs.Prelude.{◌||◌}
-use Rattle.clap.specs.Words.{AddsArg, App, Rule, Shape, Text, is_simple, rule_of, shape_of}
+use Rattle.clap.specs.Words.{AddsArg, App, Rule, Shape, Text, app_of, is_simple, new_app, rule_of, shape_of}
 use Rattle.clap.specs.declared.builder.arg.Arg.{Arg}
 use Rattle.clap.specs.declared.builder.command.Command.{Command}
 use Rattle.clap.specs.declared.builder.command.Command.TheViews.{out-Command}
@@ -13,6 +13,11 @@ use Rattle.extrun.specs.CommandLine.{IsCommandLine, check, command, id, program,
 pub record Takes (made : Command) (name : Text) (rules : List Rule) : Type 0 where
   pub shape : shape_of made ≡ command name rules
   pub local : (out-Command made).has_globals ≡ false
+
+-- a new command that says something of itself takes nothing yet
+pub takes_nothing : (old new : Command) (name : Text) → app_of old ≡ new_app name → (out-Command old).has_globals ≡ false → shape_of new ≡ shape_of old
+    → (out-Command new).has_globals ≡ (out-Command old).has_globals → Takes new name []
+takes_nothing old new name app local shape globals = record { shape = shape ∙ ap (λ a. a.top) app; local = globals ∙ local }
 
 abbrev more : Shape → Rule → Shape
 more shape rule = record shape { rules = shape.rules ++ rule ∷ [] }

@@ -55,7 +55,7 @@ command name rules = record (new_app name).top { rules = rules }
 abbrev pub run_of : ValueParser → ValueParser → Shape
 run_of store form = command (codes "run")
     (plan_file ∷ lanes ∷ option (codes "store") store (codes "cells") ∷ option (codes "report") form (codes "text") ∷ tree
-    ∷ flag (codes "progress") ∷ flag (codes "failures") ∷ flag (codes "explain") ∷ [])
+    ∷ flag (codes "progress") ∷ flag (codes "failures") ∷ flag (codes "large") ∷ flag (codes "explain") ∷ [])
 
 -- The shape of `run`: its stores are `plain` and `cells`, its forms `text`, `json` and `junit`.
 pub record IsRun (shape : Shape) : Type 0 where
@@ -66,7 +66,8 @@ pub record IsRun (shape : Shape) : Type 0 where
   pub shape_is : shape ≡ run_of store form
 
 abbrev pub check : Shape
-check = command (codes "check") (plan_file ∷ flag (codes "tree") ∷ flag (codes "races") ∷ flag (codes "explain") ∷ [])
+check = command (codes "check")
+    (plan_file ∷ flag (codes "tree") ∷ flag (codes "races") ∷ flag (codes "large") ∷ flag (codes "explain") ∷ [])
 
 abbrev pub id : Shape
 id = command (codes "id") (record (word (codes "TEXT")) { required = true } ∷ flag (codes "explain") ∷ [])

@@ -3,6 +3,8 @@
 use Rattle.std.specs.Prelude.{◌≡◌, ◌≢◌, ◌↔◌, ◌<◌, ℕ, Bool, true, false, codes, List, [], Option, Some, None, IsTrue, if◌then◌else◌, option_map, string_bytes, unwrap_or}
 use Rattle.std.specs.Str.Parse.{IsNumeral, digits_value, without_leading_plus}
 use Rattle.clap.specs.Walk.{Row, first_of, one_of}
+use Rattle.ext_model.specs.declared.size.Size.{Size}
+use Rattle.ext_model.specs.declared.size.Size.TheVariants as sizes
 use Rattle.ext_report.specs.declared.form.ReportForm.{ReportForm}
 use Rattle.ext_report.specs.declared.form.ReportForm.TheVariants as forms
 use Rattle.ext_run.specs.declared.options.Options.{Options}
@@ -36,32 +38,44 @@ pub record IsForm (rows : List Row) (form : ReportForm) : Type 0 where
   pub by_suites : IsTrue junit ↔ (first_of (codes "report") rows ≡ Some (codes "junit"))
   pub form_is : form ≡ form_of tree json junit
 
--- A run on some number of lanes, or a plain run if the text after `--store` is `plain`; the form of its report; whether
--- its progress is shown; and whether its faults are listed once more.
+abbrev pub size_of : Bool → Size
+size_of large = if large then sizes.Large else sizes.Usual
+
+-- How large the plan may be: large if `--large` is set.
+pub record IsSize (rows : List Row) (size : Size) : Type 0 where
+  pub large : Bool
+  pub asked : IsFlag (one_of (codes "large") rows) large
+  pub size_is : size ≡ size_of large
+
+-- A run on some number of lanes, or a plain run if the text after `--store` is `plain`; the form of its report; how
+-- large the plan may be; whether its progress is shown; and whether its faults are listed once more.
 pub record AsksRunBy (rows : List Row) (options : Options) (progress failures : Bool) : Type 0 where
   pub lanes : IsLaneCount (one_of (codes "lanes") rows) options.lanes
   pub plain : IsTrue options.plain ↔ (first_of (codes "store") rows ≡ Some (codes "plain"))
   pub form : IsForm rows options.form
+  pub size : IsSize rows options.size
   pub told : IsFlag (one_of (codes "progress") rows) progress
   pub again : IsFlag (one_of (codes "failures") rows) failures
 
 abbrev pub AsksRun : List Row → Task → Type 0
 AsksRun rows (tasks.Run options progress failures) = AsksRunBy rows options progress failures
-AsksRun rows tasks.Check = ⊥
-AsksRun rows tasks.Draw = ⊥
-AsksRun rows tasks.CheckRaces = ⊥
+AsksRun rows (tasks.Check size) = ⊥
+AsksRun rows (tasks.Draw size) = ⊥
+AsksRun rows (tasks.CheckRaces size) = ⊥
 
--- What `check` does by its two flags: list the plan's races, draw it, or check it.
-abbrev pub check_as : Bool → Bool → Task
-check_as races tree = if races then tasks.CheckRaces else if tree then tasks.Draw else tasks.Check
+-- What `check` does by two of its flags: list the races of a plan of this size, draw it, or check it.
+abbrev pub check_as : Bool → Bool → Size → Task
+check_as races tree size = if races then tasks.CheckRaces size else if tree then tasks.Draw size else tasks.Check size
 
 -- To list the plan's races if `--races` is set, otherwise to draw it if `--tree` is set, otherwise to check it.
 pub record AsksCheck (rows : List Row) (task : Task) : Type 0 where
   pub races : Bool
   pub tree : Bool
+  pub size : Size
   pub told : IsFlag (one_of (codes "races") rows) races
   pub drawn : IsFlag (one_of (codes "tree") rows) tree
-  pub task_is : task ≡ check_as races tree
+  pub asked : IsSize rows size
+  pub task_is : task ≡ check_as races tree size
 
 -- To do such a task with the plan of the named file, or of standard input, explained or not.
 abbrev pub AsksOfPlan : List Row → (Task → Type 0) → Request → Type 0
@@ -87,7 +101,7 @@ pub record AsksCommand (name : List ℕ) (rows : List Row) (request : Request) :
   pub check : name ≡ codes "check" → AsksOfPlan rows (AsksCheck rows) request
   pub run : name ≢ codes "id" → name ≢ codes "check" → AsksOfPlan rows (AsksRun rows) request
 
--- Without a command: a run on four lanes, over the store for several threads.
+-- Without a command: a run on four lanes, over the store for several threads, of a plan of usual size.
 abbrev pub AsksFor : Option (List ℕ × List Row) → Request → Type 0
-AsksFor None request = request ≡ requests.Plan (tasks.Run (record { lanes = 4; plain = false; form = forms.Text }) false false) None false
+AsksFor None request = request ≡ requests.Plan (tasks.Run (record { lanes = 4; plain = false; form = forms.Text; size = sizes.Usual }) false false) None false
 AsksFor (Some command) request = AsksCommand command.0 command.1 request

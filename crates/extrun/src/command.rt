@@ -9,12 +9,12 @@ ghost use Rattle.clap.specs.Simple.{subcommand_rows_of};
 ghost use Rattle.clap.specs.Walk.{rows_of};
 ghost use Rattle.extrun.specs.CommandLine as line;
 ghost use Rattle.extrun.specs.CommandLine.{AsksBy, AsksNothing, IsCommandLine, IsOneOf, IsRun};
-ghost use Rattle.extrun.specs.CommandWords.{AsksCheck, AsksCommand, AsksFor, AsksId, AsksOfPlan, AsksRun, IsFlag, IsLaneCount, check_as, form_of};
+ghost use Rattle.extrun.specs.CommandWords.{AsksCheck, AsksCommand, AsksFor, AsksId, AsksOfPlan, AsksRun, IsFlag, IsLaneCount, IsSize, check_as, form_of, size_of};
 
 use crate::help::{AFTER_HELP, VERSION};
 use clap::error::ErrorKind;
 use clap::{Arg, ArgAction, ArgMatches, Command, Error, value_parser};
-use ext_run::{Options, ReportForm};
+use ext_run::{Options, ReportForm, Size};
 use std::alloc::{AllocError, Global};
 use std::io;
 use std::rt::Env;
@@ -57,12 +57,22 @@ pub(crate) enum Task {
         progress: bool,
         failures: bool,
     },
-    /// Writes how many nodes, tests and keys it has.
-    Check,
-    /// Draws its nodes as a tree.
-    Draw,
-    /// Writes its races.
-    CheckRaces,
+    /// Writes how many nodes, tests and keys it has, if it is no larger than this.
+    Check(Size),
+    /// Draws its nodes as a tree, if it is no larger than this.
+    Draw(Size),
+    /// Writes its races, if it is no larger than this.
+    CheckRaces(Size),
+}
+
+impl Task {
+    /// How large the plan may be.
+    pub(crate) fn size(self) -> Size {
+        match self {
+            Task::Run { options, .. } => options.size,
+            Task::Check(size) | Task::Draw(size) | Task::CheckRaces(size) => size,
+        }
+    }
 }
 
 /// Parses the command line. The commands are
@@ -72,9 +82,10 @@ pub(crate) enum Task {
 /// - `check`, with `--races` or else `--tree`;
 /// - `id`, with `--explain`.
 ///
-/// `run` and `check` take a file and `--explain`. No word at all is `run` on 4 lanes over the store
-/// for several threads. Prints the help and the version to standard output, and what is wrong with
-/// a command line to standard error. Takes memory for the words and for clap.
+/// `run` and `check` take a file, `--large` and `--explain`. No word at all is `run` on 4 lanes over
+/// the store for several threads, of a plan of usual size. Prints the help and the version to
+/// standard output, and what is wrong with a command line to standard error. Takes memory for the
+/// words and for clap.
 pub(crate) fn request_of<R: Env + AllocGlobal + Print + Eprint>(rt: &R) -> Request {
     match parsed(rt) {
         Ok(request) => request,
@@ -114,7 +125,7 @@ fn asked_for(alloc: Global, matches: &ArgMatches<'_>) -> Result<Request, AllocEr
     match matches.subcommand() {
         Some((name, words)) => asked_by(alloc, name, words),
         None => Ok(Request::Plan {
-            task: run_on(LANES, false, ReportForm::Text, false, false),
+            task: run_on(LANES, false, ReportForm::Text, Size::Usual, false, false),
             file: None,
             explain: false,
         }),
@@ -150,17 +161,25 @@ fn id_request(alloc: Global, words: &ArgMatches<'_>) -> Result<Request, AllocErr
 fn check_of(words: &ArgMatches<'_>) -> Task
     ensures { AsksCheck (rows_of (found_of words.now)) result }
 {
-    check_as(is_set(words, "races"), is_set(words, "tree"))
+    check_as(
+        is_set(words, "races"),
+        is_set(words, "tree"),
+        size_in(words),
+    )
 }
 
-/// The task of `check` with these flags. `--races` precedes `--tree`.
-fn check_as(races: bool, tree: bool) -> Task
-    ensures { result ≡ check_as races tree }
+/// The task of `check` with these flags, for a plan of this size. `--races` precedes `--tree`.
+fn check_as(races: bool, tree: bool, size: Size) -> Task
+    ensures { result ≡ check_as races tree size }
 {
     if races {
-        return Task::CheckRaces;
+        return Task::CheckRaces(size);
     }
-    if tree { Task::Draw } else { Task::Check }
+    if tree {
+        Task::Draw(size)
+    } else {
+        Task::Check(size)
+    }
 }
 
 fn run_of(words: &ArgMatches<'_>) -> Task
@@ -170,6 +189,7 @@ fn run_of(words: &ArgMatches<'_>) -> Task
         lanes_of(words),
         is_plain(words),
         form_of(is_set(words, "tree"), is_json(words), is_junit(words)),
+        size_in(words),
         is_set(words, "progress"),
         is_set(words, "failures"),
     )
@@ -218,6 +238,19 @@ fn form_of(tree: bool, json: bool, junit: bool) -> ReportForm
     }
 }
 
+/// How large the plan may be: by `--large` or as usual.
+fn size_in(words: &ArgMatches<'_>) -> Size
+    ensures { IsSize (rows_of (found_of words.now)) result }
+{
+    size_of(is_set(words, "large"))
+}
+
+fn size_of(large: bool) -> Size
+    ensures { result ≡ size_of large }
+{
+    if large { Size::Large } else { Size::Usual }
+}
+
 /// Tests whether the flag of this name is given.
 fn is_set(words: &ArgMatches<'_>, name: &str) -> bool
     ensures { IsFlag (one_text (found_of words.now) name.now) result }
@@ -226,13 +259,21 @@ fn is_set(words: &ArgMatches<'_>, name: &str) -> bool
 }
 
 /// The task to run the plan with these options.
-fn run_on(lanes: u8, plain: bool, form: ReportForm, progress: bool, failures: bool) -> Task
-    ensures { result ≡ Task.Run (record { lanes = lanes; plain = plain; form = form }) progress failures }
+fn run_on(
+    lanes: u8,
+    plain: bool,
+    form: ReportForm,
+    size: Size,
+    progress: bool,
+    failures: bool,
+) -> Task
+    ensures { result ≡ Task.Run (record { lanes = lanes; plain = plain; form = form; size = size }) progress failures }
 {
     let options = Options {
         lanes: usize::from(lanes),
         plain,
         form,
+        size,
     };
     Task::Run {
         options,
@@ -321,6 +362,7 @@ fn run_command<'a>(alloc: Global) -> Result<Command<'a>, AllocError>
         .arg(report_tree_flag(alloc)?)?
         .arg(progress_flag(alloc))?
         .arg(failures_flag(alloc))?
+        .arg(large_flag(alloc))?
         .arg(explain_flag(alloc))
 }
 
@@ -333,6 +375,7 @@ fn check_command<'a>(alloc: Global) -> Result<Command<'a>, AllocError>
         .arg(plan_file(alloc))?
         .arg(draw_flag(alloc))?
         .arg(races_flag(alloc))?
+        .arg(large_flag(alloc))?
         .arg(explain_flag(alloc))
 }
 
@@ -455,6 +498,19 @@ fn races_flag<'a>(alloc: Global) -> Arg<'a>
     Arg::new(alloc, "races")
         .long("races")
         .help("Says instead which nodes may get into each other's way, where they run at once")
+        .action(ArgAction::SetTrue)
+}
+
+/// The flag `--large` of `run` and `check`.
+fn large_flag<'a>(alloc: Global) -> Arg<'a>
+    ensures rule { rule_of result ≡ line.flag (codes "large") }
+    ensures local { result.global ≡ false }
+{
+    Arg::new(alloc, "large")
+        .long("large")
+        .help(
+            "Takes a plan of up to 65,536 nodes and 64 MiB, whose run keeps up to 1,048,575 values; without it 256 nodes, 1 MiB and 65,535",
+        )
         .action(ArgAction::SetTrue)
 }
 

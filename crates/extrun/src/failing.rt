@@ -4,7 +4,8 @@ ghost use Rattle.std.specs.Io.KnownBytes.{Appends};
 ghost use Rattle.extrun.specs.Tasks.{IsRefused, IsReported};
 
 use ext_run::{
-    Failures, Options, RunFault, RunListener, Summary, ToldFaults, failures_text, run_with_listener,
+    Failures, Options, RunFault, RunListener, Size, Summary, ToldFaults, failures_text,
+    run_with_listener,
 };
 use std::io::Write;
 use std::sync::Wait;
@@ -50,15 +51,15 @@ where
     let mut reader = input;
     let outcome = run_with_listener(rt, rt.alloc(), &mut reader, writer, options, &failures);
     if outcome.is_ok() {
-        tell_failures(rt, input, &failures.into_told());
+        tell_failures(rt, input, options.size, &failures.into_told());
     }
     outcome
 }
 
 /// Prints the faults of the plan's nodes, or that there is no memory for them. If that fails,
 /// nothing more can be done.
-fn tell_failures<R: AllocGlobal + Eprint>(rt: &R, input: &[u8], told: &ToldFaults) {
-    let _ = match failures_text(rt.alloc(), input, told) {
+fn tell_failures<R: AllocGlobal + Eprint>(rt: &R, input: &[u8], size: Size, told: &ToldFaults) {
+    let _ = match failures_text(rt.alloc(), input, size, told) {
         Ok(text) => eprint!(rt; "{}", text.as_str()),
         Err(_) => eprintln!(rt; "further faults were lost: no memory"),
     };

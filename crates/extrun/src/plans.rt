@@ -8,8 +8,8 @@ use crate::failing::run_plan;
 use crate::progress::run_told;
 use crate::telling::tell;
 use ext_run::{
-    NoListener, Options, PlanFault, RequestFault, RunFault, Summary, check, check_races, draw,
-    explain, explain_keys, read_input,
+    NoListener, Options, PlanFault, RequestFault, RunFault, Size, Summary, check, check_races,
+    draw, explain, explain_keys, read_input,
 };
 use std::fs;
 use std::io::{Input, Write};
@@ -32,8 +32,8 @@ where
     W: Write,
 {
     let input = match file {
-        None => told(rt, read_input(rt.alloc(), &mut rt.reader())),
-        Some(name) => input_of_file(rt, name.as_str()),
+        None => told(rt, read_input(rt.alloc(), &mut rt.reader(), task.size())),
+        Some(name) => input_of_file(rt, name.as_str(), task.size()),
     };
     match input {
         Err(fault) => Err(fault),
@@ -41,13 +41,14 @@ where
     }
 }
 
-/// The bytes of the file with this name. Prints why if they cannot be read.
+/// The bytes of the file with this name, of a plan of this size. Prints why if they cannot be read.
 fn input_of_file<R: Files + AllocGlobal + Eprint>(
     rt: &R,
     name: &str,
+    size: Size,
 ) -> Result<Vec<u8>, RequestFault> {
     match fs::open(rt, name) {
-        Ok(mut file) => told(rt, read_input(rt.alloc(), &mut file)),
+        Ok(mut file) => told(rt, read_input(rt.alloc(), &mut file, size)),
         Err(_) => {
             let _ = eprintln!(rt; "read failed: {name:?} can't be opened");
             Err(RequestFault::Run(RunFault::Read))
@@ -68,11 +69,12 @@ where
     W: Write,
 {
     let runs = matches!(task, Task::Run { .. });
+    let size = task.size();
     let outcome = told(rt, outcome_of_task(rt, input, writer, task));
     if explained {
         match outcome {
-            Err(RequestFault::Run(RunFault::Plan(fault))) => explain_fault(rt, input, fault),
-            Ok(summary) if runs && summary.failed => explain_full_keys(rt, input),
+            Err(RequestFault::Run(RunFault::Plan(fault))) => explain_fault(rt, input, size, fault),
+            Ok(summary) if runs && summary.failed => explain_full_keys(rt, input, size),
             _ => {}
         }
     }
@@ -80,15 +82,15 @@ where
 }
 
 /// Prints what a fault of the plan in these bytes means.
-fn explain_fault(rt: &(impl AllocGlobal + Eprint), input: &[u8], fault: PlanFault) {
-    if let Ok(line) = explain(rt.alloc(), input, fault) {
+fn explain_fault(rt: &(impl AllocGlobal + Eprint), input: &[u8], size: Size, fault: PlanFault) {
+    if let Ok(line) = explain(rt.alloc(), input, size, fault) {
         let _ = eprintln!(rt; "{}", line.as_str());
     }
 }
 
 /// Prints why keys of the plan in these bytes have no place, if there are any.
-fn explain_full_keys(rt: &(impl AllocGlobal + Eprint), input: &[u8]) {
-    if let Ok(Some(line)) = explain_keys(rt.alloc(), input) {
+fn explain_full_keys(rt: &(impl AllocGlobal + Eprint), input: &[u8], size: Size) {
+    if let Ok(Some(line)) = explain_keys(rt.alloc(), input, size) {
         let _ = eprintln!(rt; "{}", line.as_str());
     }
 }
@@ -127,15 +129,15 @@ fn outcome_of_task<R: Threads + Wait + Sync + Clock + AllocGlobal + Eprint, W: W
             }
             run_plan(rt, input, writer, options, &NoListener, failures)
         }
-        Task::Check => {
-            check(rt.alloc(), &mut reader, writer)?;
+        Task::Check(size) => {
+            check(rt.alloc(), &mut reader, writer, size)?;
             Ok(Summary::done())
         }
-        Task::Draw => {
-            draw(rt.alloc(), &mut reader, writer)?;
+        Task::Draw(size) => {
+            draw(rt.alloc(), &mut reader, writer, size)?;
             Ok(Summary::done())
         }
-        Task::CheckRaces => check_races(rt.alloc(), &mut reader, writer),
+        Task::CheckRaces(size) => check_races(rt.alloc(), &mut reader, writer, size),
     }
 }
 
@@ -150,5 +152,6 @@ fn in_range(options: Options) -> Options
         lanes: options.lanes.clamp(1, 16),
         plain: options.plain,
         form: options.form,
+        size: options.size,
     }
 }

@@ -6,7 +6,7 @@ ghost use denote.Param.Send.{IsSync};
 
 use crate::failing::run_plan;
 use crate::running::Running;
-use ext_run::{Options, RunFault, RunListener, Summary, read_plan};
+use ext_run::{Options, RunFault, RunListener, Size, Summary, read_plan_within};
 use std::alloc::{AllocError, Global};
 use std::io::Write;
 use std::sync::{Condvar, CondvarTimeouts, Mutex, Wait};
@@ -38,7 +38,7 @@ pub(crate) fn run_told<R: Threads + Wait + Sync + Clock + AllocGlobal + Eprint, 
     ensures done { IfOk result (λ summary. IsReported options input.now summary (Appends (W.contents writer.old) (W.contents writer.new))) }
     ensures refused { IfErr result (λ fault. IsRefused options input.now fault) }
 {
-    let progress = Progress::of(rt, input)?;
+    let progress = Progress::of(rt, input, options.size)?;
     run_beside(rt, input, writer, options, &progress, failures)
 }
 
@@ -103,8 +103,8 @@ struct State {
 
 impl<'a, R: Wait + Clock + AllocGlobal + Eprint> Progress<'a, R> {
     /// The progress of a run of the plan in these bytes that has not begun.
-    fn of(rt: &'a R, input: &[u8]) -> Result<Progress<'a, R>, AllocError> {
-        let ids = ids_of(rt.alloc(), input)?;
+    fn of(rt: &'a R, input: &[u8], size: Size) -> Result<Progress<'a, R>, AllocError> {
+        let ids = ids_of(rt.alloc(), input, size)?;
         let state = State {
             running: Running::new(rt.alloc(), ids)?,
             is_new: false,
@@ -175,12 +175,12 @@ impl<R: Wait> RunListener for Progress<'_, R> {
 }
 
 /// The ids of the nodes of the plan in these bytes. A plan that is refused has none.
-fn ids_of(alloc: Global, input: &[u8]) -> Result<Vec<String>, AllocError> {
+fn ids_of(alloc: Global, input: &[u8], size: Size) -> Result<Vec<String>, AllocError> {
     let mut ids = Vec::new(alloc);
     let Ok(text) = std::str::from_utf8(input) else {
         return Ok(ids);
     };
-    let Ok(plan) = read_plan(alloc, text) else {
+    let Ok(plan) = read_plan_within(alloc, text, size) else {
         return Ok(ids);
     };
     for node in plan.nodes.as_slice() {

@@ -8,7 +8,7 @@ ghost use Rattle.std.specs.Prelude.{◌≡◌, ◌<◌, ◌≤◌, length, All};
 use crate::gates::{LastGate, MeetingGate, OrderGate};
 use crate::same::same;
 use ext_crew::{CrewFault, Gate, OpenGate, run_children};
-use std::alloc::Global;
+use std::alloc::{AllocError, Global};
 use std::sync::Wait;
 use std::test::Fail;
 use std::thread::Threads;
@@ -20,7 +20,7 @@ fn squares<R: Threads + Wait + Sync, G: Gate + Sync>(
     items: Vec<u64>,
     gate: &G,
 ) -> Result<Vec<u64>, CrewFault>
-    requires { length items.items ≤ 256 }
+    requires { length items.items ≤ 65536 }
 {
     run_children(
         rt,
@@ -70,28 +70,29 @@ fn job_0_waits_for_all_others(rt: HostRuntime) -> Result<(), Fail> {
     Ok(())
 }
 
-/// The numbers from 0 to 255.
-fn numbers() -> [u64; 256] {
-    let mut numbers = [0u64; 256];
-    for i in 0..256 {
-        numbers[i] = i as u64;
+/// So many numbers, from 0.
+fn numbers(alloc: Global, count: u64) -> Result<Vec<u64>, AllocError> {
+    let mut numbers = Vec::new(alloc);
+    for number in 0..count {
+        numbers.push(number)?;
     }
-    numbers
+    Ok(numbers)
 }
 
 /// Tests `run_children`.
 #[test]
-fn jobs_0_and_1_meet_among_256(rt: HostRuntime) -> Result<(), Fail> {
-    let items = Vec::from_array(rt.alloc(), numbers())?;
+fn jobs_0_and_1_meet_among_65536(rt: HostRuntime) -> Result<(), Fail> {
+    let items = numbers(rt.alloc(), 65_536)?;
+    assert!(rt; items.len() == 65_536, "the items");
     let gate = MeetingGate::of(2);
-    let mut first = [0u16; 16];
+    let mut first = [0u32; 16];
     let squares = run_children(
         &rt,
         rt.alloc(),
         &mut first,
         &mut [0u8; 16],
         items,
-        &|_, item: u64, first: &mut [u16], _: &mut [u8]| {
+        &|_, item: u64, first: &mut [u32], _: &mut [u8]| {
             for runs in first {
                 *runs = runs.wrapping_add(1);
             }
@@ -104,9 +105,9 @@ fn jobs_0_and_1_meet_among_256(rt: HostRuntime) -> Result<(), Fail> {
     for runs in first {
         all = all.wrapping_add(u64::from(runs));
     }
-    same(&rt, all, 256, "the jobs of all workers");
-    let last = (squares.len(), squares.get(255).copied());
-    same(&rt, last, (256, Some(65_025)), "the last square");
+    same(&rt, all, 65_536, "the jobs of all workers");
+    let last = (squares.len(), squares.get(65_535).copied());
+    same(&rt, last, (65_536, Some(4_294_836_225)), "the last square");
     Ok(())
 }
 
@@ -176,7 +177,7 @@ fn all_stay_small<R: Threads + Wait + Sync>(
     items: Vec<u64>,
 ) -> Result<Vec<u64>, CrewFault>
     requires lengths { (0 < length first.old) × (length second.old ≡ length first.old) }
-    requires limits { (length first.old ≤ 16) × (length items.items ≤ 256) }
+    requires limits { (length first.old ≤ 16) × (length items.items ≤ 65536) }
     requires small { All (λ n. n ≤ 100) first.old }
     ensures small { All (λ n. n ≤ 100) first.new }
 {

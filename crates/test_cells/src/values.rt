@@ -297,10 +297,12 @@ fn last_number(alloc: Global, capacity: u32) -> Result<(u32, bool, bool), Fail>
 
 /// Tests `Values::new`, `Values::capacity` and `Notes::new`.
 #[test]
-fn capacities_from_1_to_65535(rt: HostRuntime) -> Result<(), Fail> {
+fn capacities_from_1_to_1048575(rt: HostRuntime) -> Result<(), Fail> {
     same(&rt, last_number(rt.alloc(), 1)?, (1, true, false), "1");
-    let largest = last_number(rt.alloc(), 65_535)?;
-    same(&rt, largest, (65_535, true, false), "65,535");
+    let usual = last_number(rt.alloc(), 65_535)?;
+    same(&rt, usual, (65_535, true, false), "65,535");
+    let largest = last_number(rt.alloc(), 1_048_575)?;
+    same(&rt, largest, (1_048_575, true, false), "1,048,575");
     Ok(())
 }
 

@@ -1,7 +1,7 @@
 //! Words at their limits, the limits of opening, and the printed texts of refusals.
 use crate::same::same;
-use ext_cells::{CellRefusal, CellState, Cells, after, parts, word};
-use ext_model::Act;
+use ext_cells::{CellRefusal, CellState, Cells, after, are_limits, parts, word};
+use ext_model::{Act, Size};
 use std::alloc::Global;
 use std::process::Abort;
 use std::test::Fail;
@@ -141,6 +141,41 @@ fn open_within_limits(rt: HostRuntime) {
     ] {
         let answer = opened(rt.alloc(), cells, lanes, tries, numbers);
         same(&rt, answer, wanted, "the lanes");
+    }
+}
+
+/// Tests `Cells::open_for`.
+#[test]
+fn open_for_within_limits(rt: HostRuntime) {
+    let bad = Err(CellRefusal::BadLimit);
+    for (cells, numbers, wanted) in [
+        (262_145, 8, Ok(2)),
+        (3, 65_536, Ok(2)),
+        (3, 1_048_575, Ok(2)),
+        (67_108_865, 8, bad),
+        (3, 1_048_576, bad),
+    ] {
+        let answer = match Cells::open_for(rt.alloc(), cells, 2, 1, numbers, true) {
+            Ok((_cells, lanes)) => Ok(lanes.len()),
+            Err(refusal) => Err(refusal),
+        };
+        same(&rt, answer, wanted, "the lanes");
+    }
+}
+
+/// Tests `are_limits`.
+#[test]
+fn limits_of_each_size(rt: HostRuntime) {
+    for (size, cells, numbers, wanted) in [
+        (Size::Usual, 262_144, 65_535, true),
+        (Size::Usual, 262_145, 1, false),
+        (Size::Usual, 0, 65_536, false),
+        (Size::Large, 67_108_864, 1_048_575, true),
+        (Size::Large, 67_108_865, 1, false),
+        (Size::Large, 0, 1_048_576, false),
+    ] {
+        let answer = are_limits(size, cells, 16, 64, numbers);
+        same(&rt, answer, wanted, "whether they are limits");
     }
 }
 

@@ -26,15 +26,8 @@ pub(crate) fn open_for_two<V: StoreValue + Drop>(alloc: Global) -> Result<Opened
     ensures lanes { IfOk result (λ o. All (IsLaneOf o.store.id) o.lanes.items) }
     ensures closers { IfOk result (λ o. All (IsCloserOf o.store) o.closers.items) }
 {
-    let limits = Limits {
-        lanes: 2,
-        tries: 64,
-        keys: 64,
-        numbers: 1_000,
-        keep_faults: false,
-    };
     let ids = read_ids(alloc, &CONTEXTS)?;
-    open_run(alloc, ids.as_slice(), &[], limits)
+    open_run(alloc, ids.as_slice(), &[], Limits::new(2))
 }
 
 /// A thread with a lane of its own: it makes the server and stores it in the engine's context.

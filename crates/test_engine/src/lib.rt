@@ -1,16 +1,8 @@
-//! Tests of resource locks, and of the engine that takes them: sets that are taken, waited for, refused and given back, and the
-//! refusals of opening and merging; and suites of their own over the engine's public calls: the engine of the guide, children that
-//! run at once, locks that are held until a context is closed.
+//! Tests of the engine: the code of the guide, refused openings, and suites of their own over its
+//! public calls: children that run at once, locks that are held until a context is closed, values
+//! of a lane that a run has not in hand.
 #![tactic(auto)]
 
-#[cfg(test)]
-mod alone;
-#[cfg(test)]
-mod apart;
-#[cfg(test)]
-mod asking;
-#[cfg(test)]
-mod counting;
 #[cfg(test)]
 mod ending;
 #[cfg(test)]
@@ -19,8 +11,6 @@ mod gates;
 mod held;
 #[cfg(test)]
 mod hour;
-#[cfg(test)]
-mod lock_opening;
 #[cfg(test)]
 mod locking;
 #[cfg(test)]
@@ -34,16 +24,8 @@ mod page;
 #[cfg(test)]
 mod run_opening;
 #[cfg(test)]
-mod scenario;
-#[cfg(test)]
 mod server;
-#[cfg(test)]
-mod sets;
-#[cfg(test)]
-mod taking;
 #[cfg(test)]
 mod texts;
 #[cfg(test)]
 mod threads;
-#[cfg(test)]
-mod waiting;

@@ -33,13 +33,7 @@ pub(crate) fn open_apart<V: StoreValue + Drop>(
     ensures closers { IfSome result (λ o. o.opened.closers.items ≡ closers_below o.opened.store.id.cells (length o.opened.store.tree)) }
     ensures names { IfSome result (λ o. IsPermutation (texts_of names.now) o.opened.locks.names) }
 {
-    let limits = Limits {
-        lanes: lanes + 1,
-        tries: 64,
-        keys: 64,
-        numbers: 100,
-        keep_faults: false,
-    };
+    let limits = Limits::new(lanes + 1);
     let ids = read_ids(alloc, texts).ok()?;
     let Ok(mut opened) = open_run(alloc, ids.as_slice(), names, limits) else {
         return None;

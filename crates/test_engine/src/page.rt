@@ -1,12 +1,12 @@
 //! An engine in a page: tests that need a server, which is made once, found by all of them, and stopped at the end of the run.
-ghost use Rattle.std.specs.Prelude.{◌<◌, IsFalse, length};
+ghost use Rattle.std.specs.Prelude.{◌<◌, All, IfOk, IsFalse, length};
 ghost use Rattle.ext_store.specs.Stores.{IsLaneOf};
 
 use crate::server::{Server, server_key};
 use ext_closing::CloseAction;
 use ext_engine::{
-    Call, Callbacks, EngineFault, Gate, Kind, Mode, OpenFault, OpenGate, Opened, Outcome, Suite,
-    Verdict, is_leaf, leaf_laws, open_run, read_ids, run_tree,
+    Call, Callbacks, EngineFault, Gate, Kind, Mode, NodeResult, OpenFault, OpenGate, Opened,
+    Outcome, Suite, Verdict, is_leaf, leaf_laws, open_run, read_ids, run_tree,
 };
 use ext_locks::{Held, LockRequest};
 use ext_model::{ContextNo, Fault};
@@ -193,19 +193,6 @@ const CONTEXTS: [&str; 7] = [
     "[engine:x]/[class:B]/[method:m2()]",
 ];
 
-/// The limits of a store for so many lanes, which keeps no faults.
-fn limits_for(lanes: usize) -> Limits
-    ensures { IsFalse result.keep_faults }
-{
-    Limits {
-        lanes,
-        tries: 64,
-        keys: 64,
-        numbers: 1_000,
-        keep_faults: false,
-    }
-}
-
 /// Runs the tests on so many lanes, and gives the report.
 pub(crate) fn run_page<R: Threads + Wait + Sync, G: Gate + Sync>(
     rt: &R,
@@ -216,7 +203,7 @@ pub(crate) fn run_page<R: Threads + Wait + Sync, G: Gate + Sync>(
     gate: &G,
 ) -> Result<String, PageFault> {
     let ids = read_ids(alloc, &CONTEXTS)?;
-    let opened = open_run(alloc, ids.as_slice(), &[], limits_for(lanes))?;
+    let opened = open_run(alloc, ids.as_slice(), &[], Limits::new(lanes))?;
     let Opened {
         store,
         mut lanes,
@@ -241,8 +228,19 @@ pub(crate) fn run_page<R: Threads + Wait + Sync, G: Gate + Sync>(
         lock_lanes.as_mut_slice(),
         closers,
         gate,
-    )?;
-    Ok(report_text(alloc, store.tree(), results.as_slice())?)
+    );
+    report_of(alloc, store.tree(), results)
+}
+
+/// The report of what a run over these contexts gave.
+fn report_of(
+    alloc: Global,
+    tree: &Tree,
+    results: Result<Vec<NodeResult>, EngineFault>,
+) -> Result<String, PageFault>
+    requires { IfOk results (λ r. All (λ it. it.node < length tree.now) r.items) }
+{
+    Ok(report_text(alloc, tree, results?.as_slice())?)
 }
 
 /// Tests `run_tree`, `open_run` and `is_leaf`.

@@ -1,8 +1,8 @@
-//! What faults and refusals print.
-use crate::scenario::same;
+//! What faults of openings and runs print.
+use crate::opening::same;
 use ext_engine::{EngineFault, OpenFault};
 use ext_ids::IdFault;
-use ext_locks::{LockFault, LockRefusal};
+use ext_locks::LockFault;
 use ext_store::StoreFault;
 use ext_tree::TreeFault;
 use std::alloc::Global;
@@ -15,24 +15,6 @@ fn prints(rt: &impl Abort, alloc: Global, printed: &impl Display, line: &str) {
         panic!(rt; "no memory");
     };
     same(rt, text.as_str(), line, "a text");
-}
-
-#[test]
-fn faults_print_sentences(rt: HostRuntime) {
-    let alloc = rt.alloc();
-    prints(&rt, alloc, &LockFault::BadLimit, "bad limit");
-    prints(&rt, alloc, &LockFault::TooMany, "too many names");
-    prints(&rt, alloc, &LockFault::Twice(1), "name 1 stands twice");
-    let unknown = LockFault::UnknownResource(2);
-    prints(&rt, alloc, &unknown, "request 2 has an unknown resource");
-    prints(&rt, alloc, &LockFault::Memory, "no memory");
-    prints(&rt, alloc, &LockRefusal::Taken(3), "lock 3 is taken");
-    prints(
-        &rt,
-        alloc,
-        &LockRefusal::Contended(4),
-        "lock 4 is contended",
-    );
 }
 
 #[test]

@@ -1,7 +1,7 @@
 //! What failed in a run, told once more.
 use crate::same::same;
 use ext_model::{ContextNo, Fault};
-use ext_run::{Failures, NoListener, RunListener, ToldFaults, failures_text};
+use ext_run::{Failures, NoListener, RunListener, Size, ToldFaults, failures_text};
 use std::alloc::{AllocError, Global};
 use std::sync::atomic::{AtomicU64, Ordering};
 use std::test::Fail;
@@ -27,7 +27,7 @@ fn faults_are_told_once_more_by_node(rt: HostRuntime) -> Result<(), Fail> {
     failures.ended(2, 3);
     let told = failures.into_told();
     same(&rt, told.lost, false, "whether a fault was lost");
-    let text = failures_text(alloc, PLAN.as_bytes(), &told)?;
+    let text = failures_text(alloc, PLAN.as_bytes(), Size::Usual, &told)?;
     let wanted = "[e:x]/[m:1]: no memory\n[e:x]/[m:2]: first\n[e:x]/[m:2]: second\n";
     same(&rt, text.as_str(), wanted, "the faults");
     Ok(())
@@ -79,7 +79,7 @@ fn lost_faults_are_told(rt: HostRuntime) -> Result<(), Fail> {
     let mut told = ToldFaults::new(alloc);
     told.note(alloc, 1, &Fault::Memory);
     told.lost = true;
-    let text = failures_text(alloc, PLAN.as_bytes(), &told)?;
+    let text = failures_text(alloc, PLAN.as_bytes(), Size::Usual, &told)?;
     let wanted = "[e:x]/[m:1]: no memory\nfurther faults were lost: no memory\n";
     same(&rt, text.as_str(), wanted, "the faults");
     Ok(())

@@ -1,4 +1,6 @@
 //! The worked examples of namespaces, keys and their numbers.
+ghost use Rattle.std.specs.Prelude.{◌≤◌};
+
 use crate::same::same;
 use ext_tree::{Directory, Key, Namespace, TreeFault};
 use std::alloc::Global;
@@ -40,25 +42,31 @@ fn namespaces_differ_by_order(rt: HostRuntime) -> Result<(), Fail> {
     Ok(())
 }
 
-/// What declaring the global key of this name answers, as one of 64.
+/// What declaring the global key of this name answers, as one of so many.
 fn declared(
     alloc: Global,
     directory: &mut Directory,
+    most: usize,
     name: &str,
-) -> Result<Result<usize, TreeFault>, Fail> {
+) -> Result<Result<usize, TreeFault>, Fail>
+    requires { most ≤ 1024 }
+{
     let key = Key::new(alloc, Namespace::global(), name)?;
-    Ok(directory.declare(key, 64))
+    Ok(directory.declare(key, most))
 }
 
-/// Asserts that declaring the global keys of these names, in order, answers this.
+/// Asserts that declaring the global keys of these names, in order, answers this in a directory of so many.
 fn declares(
     rt: &impl Abort,
     alloc: Global,
     directory: &mut Directory,
+    most: usize,
     answers: &[(&str, Result<usize, TreeFault>)],
-) -> Result<(), Fail> {
+) -> Result<(), Fail>
+    requires { most ≤ 1024 }
+{
     for (name, wanted) in answers {
-        let answer = declared(alloc, directory, name)?;
+        let answer = declared(alloc, directory, most, name)?;
         same(rt, answer, *wanted, name);
     }
     Ok(())
@@ -91,7 +99,7 @@ fn tells_of_two(rt: &impl Abort, alloc: Global, directory: &Directory) -> Result
 fn declares_two(rt: &impl Abort, alloc: Global, directory: &mut Directory) -> Result<(), Fail> {
     same(rt, directory.is_empty(), true, "a directory without keys");
     let answers = [("a", Ok(0)), ("b", Ok(1)), ("a", Ok(0))];
-    declares(rt, alloc, directory, &answers)?;
+    declares(rt, alloc, directory, 64, &answers)?;
     tells_of_two(rt, alloc, directory)
 }
 
@@ -100,16 +108,6 @@ fn declares_two(rt: &impl Abort, alloc: Global, directory: &mut Directory) -> Re
 fn keys_are_declared_once(rt: HostRuntime) -> Result<(), Fail> {
     let mut directory = Directory::new(rt.alloc());
     declares_two(&rt, rt.alloc(), &mut directory)
-}
-
-/// What declaring the global key of this name answers, as one of three.
-fn declared_of_three(
-    alloc: Global,
-    directory: &mut Directory,
-    name: &str,
-) -> Result<Result<usize, TreeFault>, Fail> {
-    let key = Key::new(alloc, Namespace::global(), name)?;
-    Ok(directory.declare(key, 3))
 }
 
 /// Names, and what declaring them in order answers in a directory that takes three keys.
@@ -122,27 +120,18 @@ const OF_THREE: [(&str, Result<usize, TreeFault>); 6] = [
     ("c", Ok(2)),
 ];
 
-/// Declares three keys, and then one more.
-fn declares_three(rt: &impl Abort, alloc: Global, directory: &mut Directory) -> Result<(), Fail> {
-    for (name, wanted) in &OF_THREE {
-        let answer = declared_of_three(alloc, directory, name)?;
-        same(rt, answer, *wanted, name);
-    }
-    Ok(())
-}
-
 /// Tests `Directory::declare`.
 #[test]
 fn keys_are_as_many_as_allowed(rt: HostRuntime) -> Result<(), Fail> {
     let mut directory = Directory::new(rt.alloc());
-    declares_three(&rt, rt.alloc(), &mut directory)
+    declares(&rt, rt.alloc(), &mut directory, 3, &OF_THREE)
 }
 
 /// Asserts that the keys `key0` to `key63` have the numbers 0 to 63.
 fn declares_64(rt: &impl Abort, alloc: Global, directory: &mut Directory) -> Result<(), Fail> {
     for i in 0..64 {
         let name = format!(in alloc; "key{i}")?;
-        let answer = declared(alloc, directory, name.as_str())?;
+        let answer = declared(alloc, directory, 64, name.as_str())?;
         same(rt, answer, Ok(i), name.as_str());
     }
     Ok(())
@@ -156,7 +145,7 @@ fn declares_one_too_many(
 ) -> Result<(), Fail> {
     declares_64(rt, alloc, directory)?;
     let answers = [("key64", Err(TreeFault::TooMany)), ("key63", Ok(63))];
-    declares(rt, alloc, directory, &answers)?;
+    declares(rt, alloc, directory, 64, &answers)?;
     same(rt, directory.len(), 64, "the keys");
     Ok(())
 }

@@ -4,7 +4,7 @@ ghost use Rattle.std.specs.Prelude.{◌≡◌, ◌≤◌, false};
 use crate::rows::{FOUR_LANES, PLAIN};
 use crate::same::same;
 use ext_model::Fault;
-use ext_run::{Options, ReportForm, RunListener, run_with_listener};
+use ext_run::{Options, ReportForm, RunListener, Size, run_with_listener};
 use std::alloc::Global;
 use std::process::Abort;
 use std::sync::Wait;
@@ -42,6 +42,7 @@ const TWO_LANES: Options = Options {
     lanes: 2,
     plain: false,
     form: ReportForm::Text,
+    size: Size::Usual,
 };
 
 /// How often the listener looks whether another test has started, a thousandth of a second apart.

@@ -1,6 +1,6 @@
 //! Isolation and resource locks, as a plan's reader gives them.
 use crate::same::same;
-use ext_run::{PlanLock, read_plan};
+use ext_plan_reading::{PlanLock, read_plan};
 use std::test::Fail;
 
 /// An engine that is isolated, a class with a lock, and a test with two.

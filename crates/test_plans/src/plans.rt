@@ -1,6 +1,7 @@
 //! Plans of the format's own examples: each text with what is read of it.
 use crate::same::same;
-use ext_plan_reading::{Plan, PlanNode, read_plan};
+use ext_model::Size;
+use ext_plan_reading::{Plan, PlanNode, read_plan, read_plan_within};
 use std::alloc::{AllocError, Global};
 use std::test::Fail;
 
@@ -300,6 +301,42 @@ fn reads_whether_faults_are_kept(rt: HostRuntime) -> Result<(), Fail> {
     ] {
         let keeps = keeps_faults(rt.alloc(), head)?;
         same(&rt, keeps, wanted, head);
+    }
+    Ok(())
+}
+
+/// A plan of so many nodes, all but the root below it.
+fn plan_of_nodes(alloc: Global, count: usize) -> Result<String, AllocError> {
+    let mut text = String::from_str(alloc, "[[node]]\nid = \"[a:b]\"\n")?;
+    for number in 1..count {
+        write!(text, "[[node]]\nid = \"[a:b]/[c:{number}]\"\n")?;
+    }
+    Ok(text)
+}
+
+/// How many nodes a plan has and how large it may be, or the line of its fault.
+fn nodes_told(alloc: Global, text: &str, size: Size) -> Result<String, AllocError> {
+    match read_plan_within(alloc, text, size) {
+        Ok(plan) => format!(in alloc; "{} nodes, {:?}", plan.nodes.len(), plan.size),
+        Err(fault) => fault.to_string(alloc),
+    }
+}
+
+/// Numbers of nodes and how large a plan may be, with what is told of such a plan. The limit of a
+/// large one is reached by files (scripts/examples).
+const NODES: [(usize, Size, &str); 3] = [
+    (256, Size::Usual, "256 nodes, Usual"),
+    (257, Size::Usual, "plan: P7"),
+    (257, Size::Large, "257 nodes, Large"),
+];
+
+/// Tests `read_plan_within`.
+#[test]
+fn nodes_are_few_for_the_size(rt: HostRuntime) -> Result<(), Fail> {
+    for (count, size, wanted) in &NODES {
+        let text = plan_of_nodes(rt.alloc(), *count)?;
+        let told = nodes_told(rt.alloc(), text.as_str(), *size)?;
+        same(&rt, told.as_str(), *wanted, "the plan");
     }
     Ok(())
 }

@@ -1,5 +1,6 @@
-//! Worked plans: which of them race, and where.
-use ext_plan_reading::read_plan;
+//! Worked plans: which of them race, and where; and plans that may draw too many numbers.
+use ext_model::Size;
+use ext_plan_reading::read_plan_within;
 use ext_races::{races, races_text};
 use std::alloc::{AllocError, Global};
 
@@ -276,8 +277,49 @@ fn told_of(alloc: Global, fields: &[&str; 6]) -> Result<String, AllocError> {
         text.push_str(more)?;
         text.push_str("\n")?;
     }
-    match read_plan(alloc, text.as_str()) {
+    text_of(alloc, text.as_str(), Size::Usual)
+}
+
+/// What is told of the races of this plan, which is so large at most.
+fn text_of(alloc: Global, text: &str, size: Size) -> Result<String, AllocError> {
+    match read_plan_within(alloc, text, size) {
         Ok(plan) => races_text(alloc, &plan, &races(alloc, &plan, 21)?),
         Err(_) => String::from_str(alloc, "refused"),
     }
+}
+
+/// A plan of 255 tests, before each of which so many steps put.
+fn plan_of_puts(alloc: Global, count: u32) -> Result<String, AllocError> {
+    let mut text = String::from_str(alloc, "[[node]]\nid = '[e:x]'\nbefore_each = [[")?;
+    for i in 0..count {
+        let key = i % 64;
+        write!(text, "'put k{key} x',")?;
+    }
+    text.push_str("]]\n")?;
+    for i in 0..255 {
+        write!(text, "[[node]]\nid = '[e:x]/[t:{i}]'\ntest = []\n")?;
+    }
+    Ok(text)
+}
+
+/// How many steps put and how large their plan may be, with what is told of its races.
+const PUTS: [(u32, Size, &str); 3] = [
+    (257, Size::Usual, "no races\n"),
+    (
+        258,
+        Size::Usual,
+        "the steps may draw more than 65535 numbers\n",
+    ),
+    (258, Size::Large, "no races\n"),
+];
+
+/// Tests `races` and `races_text`.
+#[test]
+fn numbers_are_few_for_the_size(rt: HostRuntime) -> Result<(), AllocError> {
+    for (count, size, wanted) in &PUTS {
+        let plan = plan_of_puts(rt.alloc(), *count)?;
+        let told = text_of(rt.alloc(), plan.as_str(), *size)?;
+        assert_eq!(rt; told.as_str(), *wanted);
+    }
+    Ok(())
 }

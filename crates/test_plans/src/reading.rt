@@ -1,7 +1,8 @@
-//! A reader that goes on after a fault.
+//! A reader that goes on after a fault, and one of long inputs.
 use crate::rows::{FOUR_LANES, chain};
 use crate::same::same;
-use ext_run::{RunFault, run};
+use ext_run::{RunFault, Size, read_input, run};
+use std::alloc::Global;
 use std::io::{Error, ErrorKind, Read, Result as IoResult};
 use std::test::Fail;
 
@@ -35,5 +36,47 @@ fn first_failing_read_ends_the_run(rt: HostRuntime) -> Result<(), Fail> {
     same(&rt, first, Err(RunFault::Read), "the answer");
     same(&rt, written.len(), 0, "what is written");
     same(&rt, reader.bytes.len(), plan.len(), "what is left to read");
+    Ok(())
+}
+
+/// Gives so many line feeds.
+#[derive(Drop)]
+struct LineFeeds {
+    left: usize,
+}
+
+impl Read for LineFeeds {
+    fn read(&mut self, buf: &mut [u8]) -> IoResult<usize> {
+        let count = buf.len().min(self.left);
+        for place in buf.iter_mut().take(count) {
+            *place = b'\n';
+        }
+        self.left -= count;
+        Ok(count)
+    }
+}
+
+/// How many of so many bytes are read of a plan of this size, or why it is refused.
+fn length_read(alloc: Global, left: usize, size: Size) -> Result<usize, RunFault> {
+    let mut reader = LineFeeds { left };
+    let input = read_input(alloc, &mut reader, size)?;
+    Ok(input.len())
+}
+
+/// Numbers of bytes and how large a plan may be, with what is answered. The limit of a large one is
+/// reached by files (scripts/examples).
+const LENGTHS: [(usize, Size, Result<usize, RunFault>); 3] = [
+    (1_048_576, Size::Usual, Ok(1_048_576)),
+    (1_048_577, Size::Usual, Err(RunFault::TooLong)),
+    (1_048_577, Size::Large, Ok(1_048_577)),
+];
+
+/// Tests `read_input`.
+#[test]
+fn bytes_are_few_for_the_size(rt: HostRuntime) -> Result<(), Fail> {
+    for (count, size, wanted) in &LENGTHS {
+        let answer = length_read(rt.alloc(), *count, *size);
+        same(&rt, answer, *wanted, "how many bytes are read");
+    }
     Ok(())
 }

@@ -3,7 +3,7 @@
 ghost use Rattle.std.specs.Prelude.{◌≡◌, ◌≤◌, false};
 
 use crate::same::same;
-use ext_run::{Options, ReportForm, RunFault, Summary, run};
+use ext_run::{Options, ReportForm, RunFault, Size, Summary, run};
 use std::alloc::Global;
 use std::process::Abort;
 use std::sync::Wait;
@@ -15,6 +15,7 @@ pub(crate) const PLAIN: Options = Options {
     lanes: 4,
     plain: true,
     form: ReportForm::Text,
+    size: Size::Usual,
 };
 
 /// On one lane, over the store for several threads.
@@ -22,6 +23,7 @@ const ONE_LANE: Options = Options {
     lanes: 1,
     plain: false,
     form: ReportForm::Text,
+    size: Size::Usual,
 };
 
 /// On four lanes, over the store for several threads.
@@ -29,6 +31,7 @@ pub(crate) const FOUR_LANES: Options = Options {
     lanes: 4,
     plain: false,
     form: ReportForm::Text,
+    size: Size::Usual,
 };
 
 /// The contexts of the chain before its method, with one key.
@@ -111,6 +114,47 @@ pub(crate) fn chain(alloc: Global, steps: &str) -> Result<String, Fail> {
 fn chain_put_and_want(rt: HostRuntime) -> Result<(), Fail> {
     let plan = chain(rt.alloc(), "\"put a x\", \"want a x\"")?;
     reports(&rt, rt.alloc(), plan.as_str(), false, CHAIN_PASSED)
+}
+
+/// As a plain run of a large plan.
+const LARGE_PLAIN: Options = Options {
+    lanes: 1,
+    plain: true,
+    form: ReportForm::Text,
+    size: Size::Large,
+};
+
+/// On one lane, a large plan.
+const LARGE_ON_ONE_LANE: Options = Options {
+    lanes: 1,
+    plain: false,
+    form: ReportForm::Text,
+    size: Size::Large,
+};
+
+/// The chain whose method puts so often.
+fn chain_of_puts(alloc: Global, count: u32) -> Result<String, Fail> {
+    let mut steps = String::new(alloc);
+    for _ in 0..count {
+        steps.push_str("\"put a x\",")?;
+    }
+    chain(alloc, steps.as_str())
+}
+
+/// Tests `run_plain` and `parallel_results`.
+#[test]
+fn large_plans_draw_more_numbers(rt: HostRuntime) -> Result<(), Fail> {
+    let plan = chain_of_puts(rt.alloc(), 65_536)?;
+    let text = plan.as_str();
+    reports_run(&rt, rt.alloc(), text, LARGE_PLAIN, false, CHAIN_PASSED)?;
+    reports_run(
+        &rt,
+        rt.alloc(),
+        text,
+        LARGE_ON_ONE_LANE,
+        false,
+        CHAIN_PASSED,
+    )
 }
 
 /// An engine of whose two faults the second one is not reported.

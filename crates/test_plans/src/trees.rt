@@ -1,4 +1,6 @@
 //! The worked examples of trees, and what each fault prints.
+ghost use Rattle.std.specs.Prelude.{◌≤◌};
+
 use crate::same::{prints, same};
 use ext_ids::UniqueId;
 use ext_tree::{Tree, TreeFault};
@@ -118,6 +120,82 @@ const CHILDREN: [(u32, &str); 2] = [(255, "256 255"), (256, "too many contexts o
 fn contexts_are_256_at_most(rt: HostRuntime) -> Result<(), Fail> {
     for (children, wanted) in &CHILDREN {
         same(&rt, flat(rt.alloc(), *children)?.as_str(), *wanted, wanted);
+    }
+    Ok(())
+}
+
+/// The id of a context: of the root, of one of its 255 classes, or of one of the 256 methods of each.
+fn large_id(alloc: Global, context: u32) -> Result<UniqueId, Fail> {
+    let parent = context / 256;
+    let text = match (context, parent) {
+        (0, _) => String::from_str(alloc, "[a:b]")?,
+        (_, 0) => format!(in alloc; "[a:b]/[c:{context}]")?,
+        (_, _) => format!(in alloc; "[a:b]/[c:{parent}]/[m:{context}]")?,
+    };
+    Ok(UniqueId::parse(alloc, text.as_str())?)
+}
+
+/// The ids of as many contexts as a tree can have.
+fn large_ids(alloc: Global) -> Result<Vec<UniqueId>, Fail> {
+    let mut ids = Vec::new(alloc);
+    for context in 0..65_536u32 {
+        ids.push(large_id(alloc, context)?)?;
+    }
+    Ok(ids)
+}
+
+/// The tree of at most so many of these ids: how many contexts it has, the last one's path, and how many children that
+/// one's parent has; or the text of the fault.
+fn last_told(alloc: Global, ids: &[UniqueId], most: usize) -> Result<String, AllocError>
+    requires { most ≤ 65536 }
+{
+    match Tree::build_within(alloc, ids, most) {
+        Ok(tree) => last_context_told(alloc, &tree),
+        Err(fault) => fault.to_string(alloc),
+    }
+}
+
+/// How many contexts the tree has, the last one's path, and how many children that one's parent has.
+fn last_context_told(alloc: Global, tree: &Tree) -> Result<String, AllocError> {
+    let path = tree.path(tree.len() - 1);
+    let path = path.as_slice();
+    let parent = if path.len() > 1 { path[1] } else { 0 };
+    let children = tree.children(parent).len();
+    format!(in alloc; "{} {path:?} {children}", tree.len())
+}
+
+/// Tests `Tree::build_within`.
+#[test]
+fn contexts_are_65_536_at_most(rt: HostRuntime) -> Result<(), Fail> {
+    let alloc = rt.alloc();
+    let mut ids = large_ids(alloc)?;
+    let told = last_told(alloc, ids.as_slice(), 65_536)?;
+    same(&rt, told.as_str(), "65536 [65535, 255, 0] 256", "the most");
+    ids.push(UniqueId::parse(alloc, "[a:b]/[c:x]")?)?;
+    let told = last_told(alloc, ids.as_slice(), 65_536)?;
+    same(&rt, told.as_str(), "too many contexts or keys", "one more");
+    Ok(())
+}
+
+/// Ids, with what is told of a tree of at most three of them.
+const THREE: [(&str, &str); 4] = [
+    ("[a:b]\n[a:b]/[c:d]\n[a:b]/[c:d]/[e:f]", "3 [2, 1, 0] 1"),
+    ("[a:b]\n[a:b]/[c:d]\n[a:b]/[c:d]", "id 2 stands twice"),
+    (
+        "[a:b]\n[a:b]/[c:d]\n[a:b]/[c:d]/[e:f]\n[a:b]/[c:e]",
+        "too many contexts or keys",
+    ),
+    ("[a:b]\n[a:b]\n[a:b]\n[a:b]", "too many contexts or keys"),
+];
+
+/// Tests `Tree::build_within`.
+#[test]
+fn contexts_are_as_many_as_asked_for(rt: HostRuntime) -> Result<(), Fail> {
+    for (texts, wanted) in &THREE {
+        let mut ids = Vec::new(rt.alloc());
+        push_ids(rt.alloc(), texts, &mut ids)?;
+        let told = last_told(rt.alloc(), ids.as_slice(), 3)?;
+        same(&rt, told.as_str(), *wanted, texts);
     }
     Ok(())
 }

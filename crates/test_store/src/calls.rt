@@ -350,11 +350,10 @@ fn opened(
     numbers: u32,
 ) -> Option<Result<(usize, usize), StoreFault>> {
     let limits = Limits {
-        lanes,
         tries,
         keys,
         numbers,
-        keep_faults: false,
+        ..Limits::new(lanes)
     };
     Some(lanes_and_closers(alloc, contexts(alloc)?, limits))
 }

@@ -18,6 +18,8 @@ mod faults;
 mod full;
 #[cfg(test)]
 mod keys;
+#[cfg(test)]
+mod large;
 mod logged;
 #[cfg(test)]
 mod many;

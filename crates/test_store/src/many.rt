@@ -75,11 +75,10 @@ fn closes_latest_first<R: Abort>(
 /// Puts so many letters in the method of a store for as many keys, the last of which there can be, and closes it.
 fn put_and_close<R: Abort>(rt: &R, alloc: Global, count: usize, places: usize) {
     let limits = Limits {
-        lanes: 2,
         tries: 8,
         keys: count,
         numbers: 1_024,
-        keep_faults: false,
+        ..Limits::new(2)
     };
     let Some(opened) = open_store(alloc, limits) else {
         panic!(rt; "no store");

@@ -162,11 +162,10 @@ pub fn open_chain_for(alloc: Global, numbers: u32, keep_faults: bool) -> Option<
     ensures contexts { IfSome result (λ o. 2 < length o.store.tree) }
 {
     let limits = Limits {
-        lanes: 2,
         tries: 8,
-        keys: 64,
         numbers,
         keep_faults,
+        ..Limits::new(2)
     };
     open_store(alloc, limits)
 }

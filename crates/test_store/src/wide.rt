@@ -1,7 +1,8 @@
-//! A store of as many cells as there can be.
+//! A store of as many cells as there can be in one of the usual size.
 use crate::asked::same;
 use crate::opening::Letter;
 use ext_ids::UniqueId;
+use ext_model::Size;
 use ext_store::{Limits, Store, StoreFault};
 use ext_tree::Tree;
 use std::alloc::Global;
@@ -13,14 +14,14 @@ fn class_id(alloc: Global, class: u32) -> Result<UniqueId, Fail> {
     Ok(UniqueId::parse(alloc, text.as_str())?)
 }
 
-/// An engine with 255 classes.
-fn contexts(alloc: Global) -> Result<Tree, Fail> {
+/// The ids of an engine with so many classes.
+pub(crate) fn engine_ids(alloc: Global, classes: u32) -> Result<Vec<UniqueId>, Fail> {
     let mut ids = Vec::new(alloc);
     ids.push(UniqueId::parse(alloc, "[engine:x]")?)?;
-    for class in 0..255u32 {
+    for class in 0..classes {
         ids.push(class_id(alloc, class)?)?;
     }
-    Ok(Tree::build(alloc, ids.as_slice())?)
+    Ok(ids)
 }
 
 /// How many lanes and closers there are, or why a store is not opened, whatever the parts of a store are.
@@ -40,19 +41,21 @@ pub(crate) fn lanes_and_closers(
     counts(Store::<Letter>::open(alloc, tree, limits))
 }
 
-/// The limits of a store that has as much of everything as there can be.
+/// The limits of a store of the usual size that has as much of everything as there can be.
 const WIDEST: Limits = Limits {
     lanes: 16,
     tries: 64,
     keys: 1_024,
     numbers: 65_535,
     keep_faults: true,
+    size: Size::Usual,
 };
 
 /// Tests `Store::open`.
 #[test]
 fn widest_store_is_opened(rt: HostRuntime) -> Result<(), Fail> {
-    let tree = contexts(rt.alloc())?;
+    let ids = engine_ids(rt.alloc(), 255)?;
+    let tree = Tree::build(rt.alloc(), ids.as_slice())?;
     let counts = lanes_and_closers(rt.alloc(), tree, WIDEST);
     same(&rt, counts, Ok((16, 256)), "lanes and closers");
     Ok(())

@@ -251,11 +251,8 @@ fn open(alloc: Global, lanes: usize) -> Option<(Store<Letter>, Vec<Lane<Letter>>
     ensures contexts { IfSome result (λ o. 2 < length o.0.tree) }
 {
     let limits = Limits {
-        lanes,
-        tries: 64,
-        keys: 64,
         numbers: 16,
-        keep_faults: false,
+        ..Limits::new(lanes)
     };
     let (store, lanes, _closers) = Store::open(alloc, contexts(alloc)?, limits).ok()?;
     Some((store, lanes))

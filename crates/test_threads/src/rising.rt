@@ -151,11 +151,9 @@ fn open_for_numbers(alloc: Global) -> Option<Opened<Letter>>
     ensures contexts { IfSome result (λ o. 2 < length o.store.tree) }
 {
     let limits = Limits {
-        lanes: 2,
         tries: 1,
-        keys: 64,
         numbers: NUMBERS,
-        keep_faults: false,
+        ..Limits::new(2)
     };
     open_store(alloc, limits)
 }

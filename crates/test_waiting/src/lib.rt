@@ -1,6 +1,7 @@
-//! Tests of the store's waiting forms: alone, beside a factory that is held, beside a claim that is given up, by keys that come late, and of sixteen lanes at once.
+//! Tests of the store's waiting forms: alone, beside a factory that is held, beside a claim that is
+//! given up, by keys that come late, and of sixteen lanes at once. And tests of resource locks.
 //!
-//! `scripts/soak waits` runs them over many more rounds.
+//! `scripts/soak waits` runs those that wait over many more rounds.
 #![tactic(auto)]
 
 #[cfg(test)]
@@ -17,5 +18,7 @@ mod given_up;
 mod held;
 #[cfg(test)]
 mod keys;
+#[cfg(test)]
+mod locks;
 #[cfg(test)]
 mod opening;

@@ -72,11 +72,9 @@ fn open(alloc: Global, lanes: usize, keep_faults: bool) -> Result<Opened, Fail>
     ensures contexts { IfOk result (λ o. 2 < length o.store.tree) }
 {
     let limits = Limits {
-        lanes,
         tries: 8,
-        keys: 64,
-        numbers: 65_535,
         keep_faults,
+        ..Limits::new(lanes)
     };
     let tree = contexts(alloc)?;
     let (store, lanes, closers) = Store::open(alloc, tree, limits)?;

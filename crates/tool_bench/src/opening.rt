@@ -109,11 +109,8 @@ pub(crate) fn open(alloc: Global, tree: Option<Tree>, lanes: usize) -> Result<Op
     ensures closers { IfOk result (λ r. All (IsCloserOf r.0) r.2.items) }
 {
     let limits = Limits {
-        lanes,
-        tries: 64,
-        keys: 64,
         numbers: NUMBERS,
-        keep_faults: false,
+        ..Limits::new(lanes)
     };
     let Some(tree) = tree else {
         return Err(BenchFault::Opening);

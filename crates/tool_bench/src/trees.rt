@@ -47,11 +47,8 @@ fn open_ids(alloc: Global, ids: &[UniqueId], lanes: usize) -> Result<Opened<Payl
     ensures closers { IfOk result (λ o. o.closers.items ≡ closers_below o.store.id.cells (length o.store.tree)) }
 {
     let limits = Limits {
-        lanes,
-        tries: 64,
-        keys: 64,
         numbers: 1_000,
-        keep_faults: false,
+        ..Limits::new(lanes)
     };
     match open_run(alloc, ids, &[], limits) {
         Ok(opened) => Ok(opened),

@@ -1,7 +1,7 @@
 //! A plain run of a plan of three tests, which tells whether a step lacked memory.
 use crate::outcome::Outcome;
 use crate::runs::{is_want, outcome_of};
-use ext_run::{Options, ReportForm, run};
+use ext_run::{Options, ReportForm, Size, run};
 use std::alloc::Global;
 use std::sync::Wait;
 use std::thread::Threads;
@@ -46,6 +46,7 @@ pub(crate) fn runs_plainly<R: Threads + Wait + Sync>(rt: &R, alloc: Global) -> O
         lanes: 1,
         plain: true,
         form: ReportForm::Text,
+        size: Size::Usual,
     };
     let mut written = [0u8; 1024];
     let mut reader = PLAN.as_bytes();

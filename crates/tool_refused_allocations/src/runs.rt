@@ -3,7 +3,7 @@ ghost use Rattle.std.specs.Prelude.{◌≤◌};
 
 use crate::outcome::Outcome;
 use ext_engine::EngineFault;
-use ext_run::{Options, PlanFault, ReportForm, RunFault, run};
+use ext_run::{Options, PlanFault, ReportForm, RunFault, Size, run};
 use std::alloc::Global;
 use std::sync::Wait;
 use std::thread::Threads;
@@ -77,6 +77,7 @@ fn runs_on<R: Threads + Wait + Sync>(
         lanes,
         plain: false,
         form: ReportForm::Text,
+        size: Size::Usual,
     };
     let mut written = [0u8; 1024];
     let mut reader = plan.as_bytes();

@@ -80,11 +80,11 @@ pub(crate) fn has_many_keys(round: u32) -> bool {
 /// The limits of a round's store with so many lanes and tries.
 fn limits_of(lanes: usize, tries: u32, round: u32) -> Limits {
     Limits {
-        lanes,
         tries,
         keys: if has_many_keys(round) { 1_024 } else { 64 },
         numbers: NUMBERS,
         keep_faults: keeps_faults(round),
+        ..Limits::new(lanes)
     }
 }
 
@@ -313,11 +313,9 @@ fn open_deep_with(
 {
     let (tree, keys) = made;
     let limits = Limits {
-        lanes: 2,
-        tries: 64,
-        keys: 64,
         numbers: NUMBERS,
         keep_faults,
+        ..Limits::new(2)
     };
     match open_store(alloc, tree, limits) {
         Ok((store, lanes, _closers)) => {

@@ -16,13 +16,13 @@ use std::sync::Wait;
 /// Opens a counter at 0 over a slot for each item, and gives it with the first hand, from which
 /// those of up to 16 workers can be split off (`split_seat::<Hires>` of the counter).
 ///
-/// There are at most 256 items, possibly none. Takes memory for a slot for each item, and for the
-/// counter; if an allocation fails, the items are dropped.
+/// There are at most 65,536 items, possibly none. Takes memory for a slot for each item, and for
+/// the counter; if an allocation fails, the items are dropped.
 pub(crate) fn open_counter<T: Drop, O: Drop, M: Allocator + Clone>(
     alloc: &M,
     items: Vec<T, M>,
 ) -> Result<(CounterTable<T, O, M>, Hand<T, O>), AllocError>
-    requires { length items.items ≤ 256 }
+    requires { length items.items ≤ 65536 }
     ensures opened { IfOk result (λ made. IsOpen made.0.shared.table_id made.0.shared.key.value.items items.items made.1) }
 {
     let key = Snapshot::of(&items);

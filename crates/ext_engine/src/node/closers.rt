@@ -57,7 +57,7 @@ pub(crate) fn place_of(closers: &[Closer], node: ContextNo) -> Option<usize>
 }
 
 /// The children of a node, in order, each with its closers: those that run beside one another, at
-/// most 256, and the others.
+/// most 65,536, and the others.
 ///
 /// The closers are the store's, and among them are those of all nodes below. Refused if there is no
 /// memory: then the closers are dropped. Takes memory. JUnit 5 User Guide, section "Parallel
@@ -75,7 +75,7 @@ pub(crate) fn items_of_children<V: StoreValue + Drop, S: Suite<V>>(
     ensures beside { IfOk result (λ r. map (λ i. i.node) r.0.items ≡ filter (S.suite_view suite.now).is_concurrent (children_of store.now.tree node)) }
     ensures in_turn { IfOk result (λ r. map (λ i. i.node) r.1.items ≡ filter (λ c. not ((S.suite_view suite.now).is_concurrent c)) (children_of store.now.tree node)) }
     ensures closers { IfOk result (λ r. All (IsItem store.now node) r.0.items × All (IsItem store.now node) r.1.items) }
-    ensures few { IfOk result (λ r. vec_len r.0 ≤ 256) }
+    ensures few { IfOk result (λ r. vec_len r.0 ≤ 65536) }
 {
     let _count = store.tree().len();
     let mut items = without_closers(alloc, store.tree().children(node))?;

@@ -13,6 +13,7 @@ use crate::locks::lock_at;
 use crate::modes::mode_at;
 use crate::nodes::{NodeSketch, ids_of, sketches_of};
 use ext_ids::{IdFault, UniqueId};
+use ext_model::Size;
 use ext_plan::PlanKey;
 use ext_tree::{Directory, Tree, TreeFault};
 use std::alloc::Global;
@@ -64,12 +65,13 @@ fn bad_id_text(alloc: Global, text: &str, fault: IdFault) -> Result<Option<Strin
 pub(crate) fn bad_nodes(
     alloc: Global,
     top: &Table,
+    size: Size,
     fault: PlanFault,
 ) -> Result<Option<String>, PlanFault> {
     let sketches = sketches_in(alloc, top)?;
     match fault.place() {
         Place::Node(node) => bad_node(alloc, sketches.as_slice(), node, fault),
-        _ => bad_tree(alloc, sketches.as_slice()),
+        _ => bad_tree(alloc, size, sketches.as_slice()),
     }
 }
 
@@ -90,27 +92,36 @@ fn bad_node(
 }
 
 /// Names the first node whose id does not fit into a tree, and why.
-fn bad_tree(alloc: Global, sketches: &[NodeSketch<'_>]) -> Result<Option<String>, PlanFault> {
-    match tree_fault(alloc, sketches)? {
+fn bad_tree(
+    alloc: Global,
+    size: Size,
+    sketches: &[NodeSketch<'_>],
+) -> Result<Option<String>, PlanFault> {
+    match tree_fault(alloc, size, sketches)? {
         None => Ok(None),
-        Some(fault) => in_the_way(alloc, sketches, fault),
+        Some(fault) => in_the_way(alloc, size, sketches, fault),
     }
 }
 
-fn tree_fault(alloc: Global, sketches: &[NodeSketch<'_>]) -> Result<Option<TreeFault>, PlanFault> {
+fn tree_fault(
+    alloc: Global,
+    size: Size,
+    sketches: &[NodeSketch<'_>],
+) -> Result<Option<TreeFault>, PlanFault> {
     let ids = ids_of(alloc, sketches)?;
-    Ok(Tree::build(alloc, ids.as_slice()).err())
+    Ok(Tree::build_within(alloc, ids.as_slice(), size.contexts()).err())
 }
 
 /// Names the node of the tree's fault, and why its id does not fit.
 fn in_the_way(
     alloc: Global,
+    size: Size,
     sketches: &[NodeSketch<'_>],
     fault: TreeFault,
 ) -> Result<Option<String>, PlanFault> {
     match fault {
         TreeFault::Memory => Err(PlanFault::Memory),
-        TreeFault::TooMany => too_many_nodes(alloc, sketches.len()),
+        TreeFault::TooMany => too_many_nodes(alloc, size, sketches.len()),
         TreeFault::NoRoot => {
             let why = "has more than one segment, so that it is no root";
             without_parent(alloc, sketches, 0, why)
@@ -147,8 +158,15 @@ fn has_parent(sketches: &[NodeSketch<'_>], node: usize) -> bool {
     }
 }
 
-fn too_many_nodes(alloc: Global, nodes: usize) -> Result<Option<String>, PlanFault> {
-    Ok(Some(format!(in alloc; "it has {nodes} nodes, more than 256")?))
+/// Says how many nodes there are, and the program's word for a plan of so many, if there is one.
+fn too_many_nodes(alloc: Global, size: Size, nodes: usize) -> Result<Option<String>, PlanFault> {
+    let most = size.contexts();
+    let hint = if nodes <= Size::Large.contexts() {
+        ". With the word --large a plan may have 65536"
+    } else {
+        ""
+    };
+    Ok(Some(format!(in alloc; "it has {nodes} nodes, more than {most}{hint}")?))
 }
 
 /// Says something of a node, after the node's index and id.

@@ -9,6 +9,7 @@ use crate::fault::PlanFault;
 use crate::labels::Labels;
 use crate::nodes::{NodeSketch, tree_of};
 use crate::steps::{step_at, step_of, words_of};
+use ext_model::Size;
 use std::alloc::{AllocError, Global};
 use toml::Table;
 
@@ -30,16 +31,18 @@ const STEP_WORDS: [&str; 10] = [
 pub(crate) fn bad_step(
     alloc: Global,
     top: &Table,
+    size: Size,
     node: usize,
 ) -> Result<Option<String>, PlanFault> {
     let keys = keys_in(alloc, top)?;
     let sketches = sketches_in(alloc, top)?;
-    bad_step_among(alloc, &keys.labels, sketches.as_slice(), node)
+    bad_step_among(alloc, size, &keys.labels, sketches.as_slice(), node)
 }
 
 /// Explains the same, given the labels and the nodes after the first pass.
 fn bad_step_among(
     alloc: Global,
+    size: Size,
     labels: &Labels<'_>,
     sketches: &[NodeSketch<'_>],
     node: usize,
@@ -48,7 +51,7 @@ fn bad_step_among(
         return Ok(None);
     };
     let own = sketch.id.len();
-    let tree = tree_of(alloc, sketches)?;
+    let tree = tree_of(alloc, size, sketches)?;
     let least = least_test_depth(&tree, sketches, node);
     let lists = sketch.callbacks.in_order(own, least);
     match bad_in_kinds(alloc, labels, node, &lists)? {

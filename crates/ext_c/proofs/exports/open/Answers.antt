@@ -1,4 +1,5 @@
 use Rattle.std.proofs.Common.{rules, sym, refl, length}
+use Rattle.ext_model.specs.declared.size.Size.TheVariants.{Usual}
 use Rattle.ext_store.specs.Stores.{AreStoreLimits, closers_below}
 use Rattle.ext_c.specs.Opening.{AreEmpty, OpenSays, lanes_below}
 use Rattle.ext_c.proofs.Opened.{have_lanes, open_no_tree, seat_count}
@@ -7,7 +8,7 @@ use Rattle.ext_c.proofs.exports.open.Goals as goal
 pub returns-in-Err-clause-says : goal.returns-in-Err-clause-says
 returns-in-Err-clause-says c =
     let empty : AreEmpty c.args.slots.now = search rules in
-    let limits : AreStoreLimits 64 (length c.args.slots.now) c.args.tries c.args.numbers = search rules in
+    let limits : AreStoreLimits Usual 64 (length c.args.slots.now) c.args.tries c.args.numbers = search rules in
     open_no_tree c.args.bytes.now c.args.lengths.now c.args.tries c.args.numbers c.args.keep_faults c.args.slots.now c.in-Err.code empty limits c.in-Err.ensures.refused
 
 pub take_seats-requires : goal.take_seats-requires
@@ -27,5 +28,5 @@ returns-in-Some-clause-says c =
 pub returns-in-None-clause-says : goal.returns-in-None-clause-says
 returns-in-None-clause-says c =
     let empty : AreEmpty c.args.slots.now = search rules in
-    let limits : AreStoreLimits 64 (length c.args.slots.now) c.args.tries c.args.numbers = search rules in
+    let limits : AreStoreLimits Usual 64 (length c.args.slots.now) c.args.tries c.args.numbers = search rules in
     OpenSays.no_memory empty limits c.in-Ok.ensures.texts refl refl

@@ -5,7 +5,7 @@ use Rattle.ext_plain.proofs.Reached.{each_node_runs, runs_body, runs_node, skips
 use Rattle.ext_plain.proofs.Named.{number-kept, numbers-once, unnumbered}
 use Rattle.ext_plain.proofs.Numberings.{knows}
 use Rattle.ext_plain.proofs.Rooms.{has_room, only-named}
-use Rattle.ext_plain.proofs.PlacesStay.{keeps-places}
+use Rattle.ext_plain.proofs.LimitsStay.{keeps-limits}
 use Rattle.ext_plain.proofs.Seals.{node-free, node-sealed}
 use Rattle.ext_plain.proofs.KeptFaults.{kept_fault_stands, no_fault_stays, node-faultless}
 use Rattle.ext_plain.proofs.Lacking.{does_or_lacks}
@@ -26,11 +26,11 @@ returns c = record {
   skipped = skips_body;
   parents = runs_below;
   ancestors = skips_below;
-  opening = λ keeps places. (λ place claimed. claimed, refl, λ place number is. cc, record { different = λ n m d less within. absurd (omega (arith, within)); few = omega arith });
+  opening = λ keeps places numbers. (λ place claimed. claimed, refl, λ place number is. cc, record { different = λ n m d less within. absurd (omega (arith, within)); few = omega arith });
   unclaimed = node-free;
   sealed = node-sealed;
   values = node-values;
-  places = keeps-places;
+  limits = keeps-limits;
   numbered_once = numbers-once;
   numbers = number-kept;
   known = knows;

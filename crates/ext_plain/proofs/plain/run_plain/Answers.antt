@@ -7,7 +7,7 @@ use Rattle.ext_plan.specs.Plans.{node_view, nodes_view, plan_view}
 use Rattle.ext_plan.proofs.NodeIds.{ids-map}
 use Rattle.ext_plain.specs.InnerSteps.{NodeSpared, state_view}
 use Rattle.ext_plain.specs.PlainRun.{RunState, node_run, plain_run_by, run_opening, skipped_from, ArePlain, HasNoFailed}
-use Rattle.ext_plain.specs.ValueStates.{with_memory}
+use Rattle.ext_plain.specs.ValueStates.{value_opening, with_memory}
 use Rattle.ext_plain.proofs.Unfailed.{results_count, runs_as_planned, told_by_nodes}
 use Rattle.ext_plain.proofs.Sound.{results_within}
 use Rattle.ext_plain.proofs.plain.run_plain.Goals as goal
@@ -23,7 +23,7 @@ returns g c =
     let skipped = c.in_ok-skipped.ensures ∙ ap (λ ns. skipped_from 0 (nodes_view ns)) c.as_slice-2.ensures.value in
     let opening : RunState = record { state = with_memory memory (state_view c.new.result); results = results } in
     let opened : opening ≡ run_opening memory plan =
-    ap (λ s. record { state = with_memory memory s; results = results }) c.new.ensures ∙ ap (λ rs. record { state = (run_opening memory plan).state; results = rs }) skipped in
+    ap (λ s. record { state = with_memory memory s; results = results }) (c.new.ensures ∙ ap (value_opening plan.keep_faults plan.key_places) c.numbers.ensures) ∙ ap (λ rs. record { state = (run_opening memory plan).state; results = rs }) skipped in
     let levels = c.len-levels.ensures ∙ sym c.as_slice-2.ensures.len ∙ ap length c.as_slice-2.ensures.value ∙ sym (length-map nodes node_view) in
     let is : results_view c.run_node.new.self.results.items ≡ plain_run_by memory plan =
     ap (λ (r : RunState). r.results) (ran.1 ∙ ap (λ p. node_run p c.len-levels.result (0 ∷ []) opening) c.of.ensures.plan ∙ ap (λ n. node_run plan n (0 ∷ []) opening) levels ∙ ap (node_run plan (length plan.nodes) (0 ∷ [])) opened) in

@@ -1,4 +1,4 @@
-use Rattle.std.proofs.Common.{◌∙◌, map, length, ap, subst, sym, All, ◌<◌}
+use Rattle.std.proofs.Common.{◌∙◌, map, length, ap, subst, sym, arith, All, ◌<◌}
 use Rattle.std.specs.List.{count_by}
 use Rattle.ext_plan.specs.Plans.{keys_view, plan_view}
 use Rattle.ext_plan.specs.StepCalls.{keys_in}
@@ -22,5 +22,5 @@ returns c =
     finds plan (map made_view made) c.in_ok-made.ensures c.args.most (keys_in c.of-keys.result) c.in-Ok.named.0 c.in-Ok.named.1.items c.numbers_drawn.result c.in_ok-tree.tree
     (groups_view c.in_ok-groups.groups.items) c.in_ok-races.races.items keys c.in_ok-tree.ensures
     (c.in-Ok.ensures.keys ∙ ap (λ xs. keys_told (keys_in c.of-keys.result) (map made_view xs)) c.as_slice-3.ensures.value) c.in-Ok.ensures.few c.in-Ok.ensures.names
-    (c.numbers_drawn.ensures ∙ ap (λ xs. count_by (λ m. draws plan.keep_faults m.step) (map made_view xs)) c.as_slice-4.ensures.value) c.if-numbers_drawn-gt-NUMBERS.false
+    (c.numbers_drawn.ensures ∙ ap (λ xs. count_by (λ m. draws plan.keep_faults m.step) (map made_view xs)) c.as_slice-4.ensures.value) (let few = c.if-numbers_drawn-numbers.false in let most = c.numbers-numbers.ensures in omega (arith, few, most))
     (rw (← c.as_slice-5.ensures.value) c.in_ok-groups.ensures) (c.in_ok-races.ensures ∙ ap (λ xs. groups_told plan c.args.most (groups_view xs)) c.as_slice-6.ensures.value)

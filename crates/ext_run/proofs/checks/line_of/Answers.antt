@@ -1,17 +1,16 @@
 use Rattle.std.proofs.Common.{true}
-use Rattle.ext_report.specs.declared.form.ReportForm.TheVariants as forms
-use Rattle.ext_run.proofs.RunReports.{plan_of_utf8, plan_of_others, RefusedAs-plan}
+use Rattle.ext_run.proofs.RunReports.{plan_of_utf8, plan_of_others, RefusedBy-plan}
 use Rattle.ext_run.proofs.checks.line_of.Goals as goal
 
 pub returns-in_default : goal.returns-in_default
-returns-in_default c = plan_of_others c.args.input.now c.in_default.ensures.cases.0
+returns-in_default c = plan_of_others c.args.size c.args.input.now c.in_default.ensures.cases.0
 
-pub returns-in_ok-counts_line-in-Ok-read_plan : goal.returns-in_ok-counts_line-in-Ok-read_plan
-returns-in_ok-counts_line-in-Ok-read_plan c =
+pub returns-in_ok-counts_line-in-Ok-read_plan_within : goal.returns-in_ok-counts_line-in-Ok-read_plan_within
+returns-in_ok-counts_line-in-Ok-read_plan_within c =
     let text = c.in-Ok.ensures.cases in
-    rw (plan_of_utf8 c.args.input.now text.1, ← text.0, c.in-Ok-read_plan.ensures.exact) c.in_ok-counts_line-in-Ok-read_plan.ensures
+    rw (plan_of_utf8 c.args.size c.args.input.now text.1, ← text.0, c.in-Ok-read_plan_within.ensures.exact) c.in_ok-counts_line-in-Ok-read_plan_within.ensures
 
 pub returns-in-Err : goal.returns-in-Err
 returns-in-Err c =
     let text = c.in-Ok.ensures.cases in
-    rw (plan_of_utf8 c.args.input.now text.1, ← text.0) (RefusedAs-plan (record { lanes = 1; plain = true; form = forms.Text }) _ _ c.in-Err.ensures.exact)
+    rw (plan_of_utf8 c.args.size c.args.input.now text.1, ← text.0) (RefusedBy-plan true 1 _ _ c.in-Err.ensures.exact)

@@ -7,7 +7,7 @@ use Rattle.ext_run.proofs.input.read_input.Goals as goal
 pub returns-in_err-count : goal.returns-in_err-count
 returns-in_err-count g c =
     let errs = c.from_residual.ensures.1 in
-    let stops = c.in_err-count.ensures in
+    let stops = rw c.input_limit-limit.ensures at c.in_err-count.ensures in
     let read = Consumes-more _ _ _ _ _ c.loop.invariant.taken stops.taken in
     record {
       whole = not_ok _ _ c.from_residual.result errs;
@@ -23,9 +23,9 @@ returns-then-count-eq0 g c =
     let read = subst (Consumes _ _) (sym more.kept) (Consumes-more _ _ _ _ _ c.loop.invariant.taken more.taken) in
     record {
       whole = Consumes-all _ _ _ read (more.ended c.if-count-eq0.true);
-      short = more.short;
+      short = rw c.input_limit-limit.ensures at more.short;
       long = λ is. absurd cc;
-      taken = (_, omega (arith, more.short), read);
+      taken = (_, omega (arith, more.short, c.input_limit-limit.ensures), read);
       faults = tt;
     }
 

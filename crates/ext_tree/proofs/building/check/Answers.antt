@@ -1,13 +1,13 @@
 use Rattle.std.proofs.Common.{◌+◌, sym, arith, ℕ, inl, inr, subst}
 use Rattle.std.proofs.lemmas.Bool.{cases_eq}
 use Rattle.std.proofs.lemmas.Result.{err_from_is_err_and}
-use Rattle.ext_tree.specs.Trees.{FollowBelow, MayFollow, later}
+use Rattle.ext_tree.specs.Trees.{FollowBelow, MayFollow}
 use Rattle.ext_tree.proofs.building.check.Goals as goal
 
 pub returns-in_err-_parent-clause-err : goal.returns-in_err-_parent-clause-err
 returns-in_err-_parent-clause-err c =
     let p = err_from_is_err_and c.from_residual.result c.from_residual.ensures.1 in
-    rw (p.1, p.2) (later c.requires c.loop-i.i c.in_err-_parent.field-0.0 (omega (arith, c.loop-i.auto.i)) c.loop-i-test.true c.loop-i.invariant c.in_err-_parent.ensures)
+    rw (p.1, p.2) (record { place = c.loop-i.i; some = omega (arith, c.loop-i.auto.i); less = c.loop-i-test.true; before = c.loop-i.invariant; wrong = c.in_err-_parent.ensures })
 
 more : (ids : _) (n : ℕ) → FollowBelow ids n → MayFollow ids n → FollowBelow ids (n + 1)
 more ids n below may = record {

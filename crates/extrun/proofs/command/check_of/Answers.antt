@@ -9,7 +9,9 @@ returns c =
     record {
       races = c.is_set.result;
       tree = c.is_set-2.result;
+      size = c.size_in.result;
       told = subst (λ text. IsFlag text c.is_set.result) (one_text-rows (found_of c.args.words.now) (codes "races")) c.is_set.ensures;
       drawn = subst (λ text. IsFlag text c.is_set-2.result) (one_text-rows (found_of c.args.words.now) (codes "tree")) c.is_set-2.ensures;
+      asked = c.size_in.ensures;
       task_is = c.check_as.ensures;
     }

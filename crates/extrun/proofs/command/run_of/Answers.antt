@@ -20,6 +20,7 @@ returns c =
         by_suites = subst (λ text. IsTrue c.is_junit.result ↔ (text ≡ Some (codes "junit"))) (first_value-rows found (codes "report")) c.is_junit.ensures;
         form_is = c.form_of.ensures;
       };
+      size = c.size_in.ensures;
       told = subst (λ text. IsFlag text c.is_set-2.result) (one_text-rows found (codes "progress")) c.is_set-2.ensures;
       again = subst (λ text. IsFlag text c.is_set-3.result) (one_text-rows found (codes "failures")) c.is_set-3.ensures;
     })

@@ -9,11 +9,11 @@ use Rattle.ext_cells.proofs.Readings.{same_again, nearest_of, legal_between}
 use Rattle.ext_cells.proofs.Rows.{cells_apart, cells_length, rest_known, rows_begun, rows_nearest, take_known}
 use Rattle.ext_cells.proofs.cells.Cells.nearest.Goals as goal
 
-pub read_each-again-requires-clause-known : goal.read_each-again-requires-clause-known
-read_each-again-requires-clause-known c = take_known c.args.self.now.id.limits.cells c.args.rows.now (c.args.blocks * 32) c.args.column c.read_empty-empty.result.count c.requires.known
+pub read_versions-again-requires-clause-known : goal.read_versions-again-requires-clause-known
+read_versions-again-requires-clause-known c = take_known c.args.self.now.id.limits.cells c.args.rows.now (c.args.blocks * 32) c.args.column c.read_empty-empty.result.count c.requires.known
 
-pub read_each-rest-requires-clause-known : goal.read_each-rest-requires-clause-known
-read_each-rest-requires-clause-known c = rest_known c.args.self.now.id.limits.cells c.args.rows.now (c.args.blocks * 32) c.args.column c.read_empty-empty.result.count c.requires.known
+pub read_versions-rest-requires-clause-known : goal.read_versions-rest-requires-clause-known
+read_versions-rest-requires-clause-known c = rest_known c.args.self.now.id.limits.cells c.args.rows.now (c.args.blocks * 32) c.args.column c.read_empty-empty.result.count c.requires.known
 
 -- a row has cells
 wide : (blocks : ℕ) → 1 ≤ blocks → 1 ≤ blocks * 32
@@ -23,22 +23,22 @@ wide blocks some = omega (arith, some)
 
 pub returns-then-again-empty-clause-nearest : goal.returns-then-again-empty-clause-nearest
 returns-then-again-empty-clause-nearest c =
-    (rows_nearest c.args.self.now.id c.args.lane.now c.read_empty-empty.new.lane c.read_each-again.new.lane c.args.rows.now (c.args.blocks * 32) c.args.column c.read_empty-empty.result c.read_each-again.result c.requires.lane c.recall.ensures.numbers c.requires.known
-    c.read_empty-empty.ensures.lane c.read_empty-empty.ensures.read c.read_each-again.ensures.read c.if-again-empty.true _ c.nearest_at.ensures.none c.nearest_at.ensures.some).0
+    (rows_nearest c.args.self.now.id c.args.lane.now c.read_empty-empty.new.lane c.read_versions-again.new.lane c.args.rows.now (c.args.blocks * 32) c.args.column c.read_empty-empty.result c.read_versions-again.result c.requires.lane c.recall.ensures.numbers c.requires.known
+    c.read_empty-empty.ensures.lane c.read_empty-empty.ensures.read c.read_versions-again.ensures.read c.if-again-empty.true _ c.nearest_at.ensures.none c.nearest_at.ensures.some).0
 
 pub returns-then-again-empty-clause-steps : goal.returns-then-again-empty-clause-steps
 returns-then-again-empty-clause-steps c =
-    (rows_nearest c.args.self.now.id c.args.lane.now c.read_empty-empty.new.lane c.read_each-again.new.lane c.args.rows.now (c.args.blocks * 32) c.args.column c.read_empty-empty.result c.read_each-again.result c.requires.lane c.recall.ensures.numbers c.requires.known
-    c.read_empty-empty.ensures.lane c.read_empty-empty.ensures.read c.read_each-again.ensures.read c.if-again-empty.true _ c.nearest_at.ensures.none c.nearest_at.ensures.some).1 c.args.self.now.tries c.recall.ensures.tries
+    (rows_nearest c.args.self.now.id c.args.lane.now c.read_empty-empty.new.lane c.read_versions-again.new.lane c.args.rows.now (c.args.blocks * 32) c.args.column c.read_empty-empty.result c.read_versions-again.result c.requires.lane c.recall.ensures.numbers c.requires.known
+    c.read_empty-empty.ensures.lane c.read_empty-empty.ensures.read c.read_versions-again.ensures.read c.if-again-empty.true _ c.nearest_at.ensures.none c.nearest_at.ensures.some).1 c.args.self.now.tries c.recall.ensures.tries
 
 -- ---- pass after pass
 
 pub loop-init : goal.loop-init
 loop-init c = record {
-  cells = c.read_each-rest.ensures.lane ∙ (c.read_each-again.ensures.lane ∙ c.read_empty-empty.ensures.lane);
+  cells = c.read_versions-rest.ensures.lane ∙ (c.read_versions-again.ensures.lane ∙ c.read_empty-empty.ensures.lane);
   passes =
-      rows_begun c.args.self.now.id c.args.lane.now c.read_empty-empty.new.lane c.read_each-again.new.lane c.args.rows.now (c.args.blocks * 32) c.args.column c.read_empty-empty.result c.read_each-again.result c.requires.lane c.recall.ensures.numbers c.requires.known
-      c.read_empty-empty.ensures.lane c.read_empty-empty.ensures.read c.read_each-again.ensures.read c.read_each-rest.new.lane c.read_each-rest.result c.if-again-empty.false c.read_each-again.ensures.lane c.read_each-rest.ensures.read;
+      rows_begun c.args.self.now.id c.args.lane.now c.read_empty-empty.new.lane c.read_versions-again.new.lane c.args.rows.now (c.args.blocks * 32) c.args.column c.read_empty-empty.result c.read_versions-again.result c.requires.lane c.recall.ensures.numbers c.requires.known
+      c.read_empty-empty.ensures.lane c.read_empty-empty.ensures.read c.read_versions-again.ensures.read c.read_versions-rest.new.lane c.read_versions-rest.result c.if-again-empty.false c.read_versions-again.ensures.lane c.read_versions-rest.ensures.read;
 }
 
 pub returns-then-again-seen-clause-nearest : goal.returns-then-again-seen-clause-nearest
@@ -47,31 +47,31 @@ returns-then-again-seen-clause-nearest c =
     let i = c.loop.invariant in
     let words = i.passes.0 in
     let cells = cells_in c.args.rows.now (c.args.blocks * 32) c.args.column in
-    let again = c.read_each-again-in-loop.ensures.read in
-    let read = subst (λ z. ReadPass z.limits c.loop.lane.view c.read_each-again-in-loop.new.lane.view (cells_in c.args.rows.now (c.args.blocks * 32) c.args.column) again.0) i.cells again.1 in
+    let again = c.read_each-again.ensures.read in
+    let read = subst (λ z. ReadPass z.limits c.loop.lane.view c.read_each-again.new.lane.view (cells_in c.args.rows.now (c.args.blocks * 32) c.args.column) again.0) i.cells again.1 in
     let same = same_again c.args.lane.now.cells.limits _ _ _ _ words again.0 c.loop.counter i.passes.2 read few (sym again.2.versions ∙ (c.if-again-seen.true ∙ i.passes.1)) in
-    nearest_of c.args.lane.now c.read_each-again-in-loop.new.lane cells again.0 c.read_each-again-in-loop.result few (legal_between c.args.lane.now.cells.limits c.loop.lane.view c.read_each-again-in-loop.new.lane.view cells again.0 read)
-    (stood c.args.lane.now.cells.limits _ _ _ _ words again.0 c.loop.counter i.passes.2 read same few c.args.lane.now c.read_each-again-in-loop.new.lane refl refl refl) again.2
+    nearest_of c.args.lane.now c.read_each-again.new.lane cells again.0 c.read_each-again.result few (legal_between c.args.lane.now.cells.limits c.loop.lane.view c.read_each-again.new.lane.view cells again.0 read)
+    (stood c.args.lane.now.cells.limits _ _ _ _ words again.0 c.loop.counter i.passes.2 read same few c.args.lane.now c.read_each-again.new.lane refl refl refl) again.2
 
 pub returns-then-again-seen-clause-steps : goal.returns-then-again-seen-clause-steps
 returns-then-again-seen-clause-steps c =
     let i = c.loop.invariant in
     let words = i.passes.0 in
-    let again = c.read_each-again-in-loop.ensures.read in
-    let read = subst (λ z. ReadPass z.limits c.loop.lane.view c.read_each-again-in-loop.new.lane.view (cells_in c.args.rows.now (c.args.blocks * 32) c.args.column) again.0) i.cells again.1 in
+    let again = c.read_each-again.ensures.read in
+    let read = subst (λ z. ReadPass z.limits c.loop.lane.view c.read_each-again.new.lane.view (cells_in c.args.rows.now (c.args.blocks * 32) c.args.column) again.0) i.cells again.1 in
     let tries = c.tries-end.ensures.tries in
     let less = c.loop-test.true in
-    subst (λ n. length (call_fronts c.args.lane.now.view c.read_each-again-in-loop.new.lane.view) ≤ n * (c.args.self.now.tries + 1)) (cells_length c.args.rows.now (c.args.blocks * 32) c.args.column)
+    subst (λ n. length (call_fronts c.args.lane.now.view c.read_each-again.new.lane.view) ≤ n * (c.args.self.now.tries + 1)) (cells_length c.args.rows.now (c.args.blocks * 32) c.args.column)
     (steps_within c.args.lane.now.cells.limits _ _ _ _ words again.0 c.loop.counter i.passes.2 read _ (omega (arith, tries, less)))
 
 pub loop-preserved : goal.loop-preserved
 loop-preserved c =
     let i = c.loop.invariant in
     let words = i.passes.0 in
-    let again = c.read_each-again-in-loop.ensures.read in
-    let read = subst (λ z. ReadPass z.limits c.loop.lane.view c.read_each-again-in-loop.new.lane.view (cells_in c.args.rows.now (c.args.blocks * 32) c.args.column) again.0) i.cells again.1 in
+    let again = c.read_each-again.ensures.read in
+    let read = subst (λ z. ReadPass z.limits c.loop.lane.view c.read_each-again.new.lane.view (cells_in c.args.rows.now (c.args.blocks * 32) c.args.column) again.0) i.cells again.1 in
     record {
-      cells = c.read_each-again-in-loop.ensures.lane ∙ i.cells;
+      cells = c.read_each-again.ensures.lane ∙ i.cells;
       passes = (
         again.0,
         again.2.versions,

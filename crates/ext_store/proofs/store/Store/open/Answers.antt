@@ -31,7 +31,7 @@ returns-clause-own_closers g c =
     (closers_own (record { id = record { cells = c.in_ok-cells.cells.id; places = c.in_ok-cells.values; fault_places = c.in_ok-cells.faults; keys = c.in_ok-cells.keys }; tree = c.args.tree; tries = c.in_ok-cells.cells.tries }) c.in_ok-cells.closers.items _ c.len-contexts.ensures.count c.in_ok-cells.ensures.parts.closers)
 
 pub returns-clause-bad_limit : goal.returns-clause-bad_limit
-returns-clause-bad_limit g c = opened_bad _ _ _ _ _ c.in_ok-cells.ensures.within
+returns-clause-bad_limit g c = opened_bad _ _ _ _ _ _ c.in_ok-cells.ensures.within
 
 pub returns-clause-keys : goal.returns-clause-keys
 returns-clause-keys g c = ap (λ (s : ContextCells). length s.keys) c.new-shared.ensures ∙ c.in_ok-cells.ensures.parts.key_places

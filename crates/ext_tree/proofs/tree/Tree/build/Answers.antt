@@ -1,38 +1,12 @@
-use Rattle.std.proofs.Common.{ap, Err, inl, inr}
-use Rattle.std.proofs.lemmas.Result.{err_from_is_err_and}
-use Rattle.ext_tree.proofs.TreeFacts.{tree_by_parents, has_no_fault, one_fault, memory_or_not}
+use Rattle.std.proofs.lemmas.Result.{on_ok_weaker}
+use Rattle.ext_tree.specs.Trees.{IsTreeWithin}
 use Rattle.ext_tree.proofs.tree.Tree.build.Goals as goal
 
-pub returns-in_err-check_root-clause-only : goal.returns-in_err-check_root-clause-only
-returns-in_err-check_root-clause-only c = λ tree. absurd (has_no_fault c.args.ids.now _ tree c.in_err-check_root.ensures.err)
+pub returns-clause-found : goal.returns-clause-found
+returns-clause-found c = on_ok_weaker c.build_within.result (λ (w : IsTreeWithin c.contexts.result c.args.ids.now). w.tree) c.build_within.ensures.found
 
-pub returns-in_err-check_root-clause-first : goal.returns-in_err-check_root-clause-first
-returns-in_err-check_root-clause-first c = λ e h.
-    let p = err_from_is_err_and c.from_residual.result c.from_residual.ensures.1 in
-    rw (p.1, p.2) (ap Err (one_fault c.args.ids.now c.in_err-check_root.field-0.0 e c.in_err-check_root.ensures.err h))
+pub returns-clause-few : goal.returns-clause-few
+returns-clause-few c = rw (← c.contexts.ensures) (on_ok_weaker c.build_within.result (λ (w : IsTreeWithin c.contexts.result c.args.ids.now). w.few) c.build_within.ensures.found)
 
-pub of-requires-clause-tree : goal.of-requires-clause-tree
-of-requires-clause-tree c = tree_by_parents c.args.ids.now c.in-Ok.parents.items c.in_ok-check_root.ensures.ok c.in-Ok.ensures
-
-pub returns-in_err-of-in-Ok-clause-first : goal.returns-in_err-of-in-Ok-clause-first
-returns-in_err-of-in-Ok-clause-first c = λ e h. absurd (has_no_fault c.args.ids.now e
-    (tree_by_parents c.args.ids.now c.in-Ok.parents.items c.in_ok-check_root.ensures.ok c.in-Ok.ensures) h)
-
-pub returns-in_err-of-in-Ok-clause-memory : goal.returns-in_err-of-in-Ok-clause-memory
-returns-in_err-of-in-Ok-clause-memory c = λ _. tree_by_parents c.args.ids.now c.in-Ok.parents.items c.in_ok-check_root.ensures.ok c.in-Ok.ensures
-
-pub returns-in_ok-of-in-Ok-clause-first : goal.returns-in_ok-of-in-Ok-clause-first
-returns-in_ok-of-in-Ok-clause-first c = λ e h. absurd (has_no_fault c.args.ids.now e
-    (tree_by_parents c.args.ids.now c.in-Ok.parents.items c.in_ok-check_root.ensures.ok c.in-Ok.ensures) h)
-
-pub returns-in-Err-clause-only : goal.returns-in-Err-clause-only
-returns-in-Err-clause-only c = λ tree. elim (memory_or_not c.refusal.result) [
-  | inl memory ↦ memory
-  | inr other ↦ absurd (has_no_fault c.args.ids.now c.refusal.result tree (c.refusal.ensures.fault other))
-]
-
-pub returns-in-Err-clause-first : goal.returns-in-Err-clause-first
-returns-in-Err-clause-first c = λ e h. elim (memory_or_not c.refusal.result) [
-  | inl memory ↦ absurd (has_no_fault c.args.ids.now e (c.refusal.ensures.memory memory) h)
-  | inr other ↦ ap Err (one_fault c.args.ids.now c.refusal.result e (c.refusal.ensures.fault other) h)
-]
+pub returns-clause-only : goal.returns-clause-only
+returns-clause-only c = λ tree few. c.build_within.ensures.only (record { tree = tree; few = rw c.contexts.ensures few })

@@ -1,0 +1,49 @@
+"""Runs the proved program with `--large` on plans that are made here: at its limits of nodes, bytes and numbers, one past each, and a plan that is refused
+without the word. What has to come out is written here, by docs/PLANS.md. Prints a line for each case.
+"""
+from parts.refused import CHAIN_IDS, ROOT, Cases, flat, nodes_of, nodes_report, numbers_full, puts
+
+LIMIT = 67_108_864
+
+
+def tests(count):
+    """A plan of a root and so many tests that may run beside one another."""
+    head = '[[node]]\nid = "[a:b]"\n'
+    return head + "".join(
+        f'[[node]]\nid = "[a:b]/[c:{number}]"\nmode = "concurrent"\ntest = ["put a x", "want a x", "compute b y up 1"]\n' for number in range(1, count + 1)
+    )
+
+
+def tests_report(count):
+    """The report of such a plan: the value below the root is computed once."""
+    report = nodes_report(flat(count + 1), count)
+    return report.replace("computed 0 found 0", f"computed 1 found {count - 1}")
+
+
+def filled(plan, count):
+    """The plan with a comment behind it, so that it has so many bytes."""
+    return plan + "#" * (count - len(plan))
+
+
+def main(program, _words):
+    cases = Cases(program)
+    both = [["--large"], ["--large", "--store", "plain"]]
+    few = nodes_of(flat(257))
+    cases.run("257 nodes, without the word", ["run"], few, "plan: P7")
+    counts = "ok, 257 nodes, 0 tests, 0 of 64 keys\n"
+    for words, wanted in [(["run"], nodes_report(flat(257))), (["check"], counts), (["check", "--races"], "no races\n")]:
+        cases.run(f"257 nodes, {' '.join(words)}", [*words, "--large"], few, wanted)
+    drawing = "a:b\n" + "".join(f"  c:{number}\n" for number in range(1, 257))
+    cases.run("257 nodes, drawn", ["check", "--large", "--tree"], few, drawing)
+    most = tests(65_535)
+    for words in both:
+        cases.run(f"65,536 nodes, {' '.join(words)}", ["run", *words], most, tests_report(65_535))
+    cases.run("67,108,864 bytes", ["check", "--large"], filled(most, LIMIT), "ok, 65536 nodes, 65535 tests, 2 of 64 keys\n")
+    cases.run("67,108,865 bytes", ["check", "--large"], filled(most, LIMIT + 1), "plan too long")
+    cases.run("65,537 nodes", ["run", "--large"], tests(65_536), "plan: P7")
+    cases.run("1,048,577 bytes", ["run", "--large"], filled(ROOT, 1_048_577), nodes_report(["[a:b]"]))
+    for words in both:
+        cases.run(f"65,536 numbers, {' '.join(words)}", ["run", *words], puts(65_536), nodes_report(CHAIN_IDS, 1))
+        cases.run(f"1,048,575 numbers, {' '.join(words)}", ["run", *words], puts(1_048_575), nodes_report(CHAIN_IDS, 1))
+        cases.run(f"1,048,576 puts, {' '.join(words)}", ["run", *words], puts(1_048_576), numbers_full("put a"))
+    return cases.passed, cases.failed
