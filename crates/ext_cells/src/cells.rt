@@ -91,8 +91,8 @@ impl Cells {
     /// lane makes a fail, and no cell ever has a fault (`no_faults` of `history_laws` in
     /// ext_model). Takes memory.
     ///
-    /// Refused as `BadLimit` unless there are at most 67,108,864 cells, 1 to 16 lanes, 1 to 64 tries
-    /// and 1 to 1,048,575 numbers, and then as `Memory`.
+    /// Refused as `BadLimit` unless there are at most 67,108,864 cells, 1 to 16 lanes, 1 to 64
+    /// tries and 1 to 1,048,575 numbers, and then as `Memory`.
     pub fn open_for(
         alloc: Global,
         cells: usize,

@@ -82,7 +82,8 @@ struct Crew<T, O, M: Allocator> {
     hands: Vec<Hand<T, O>, M>,
 }
 
-/// A counter for the items, a hand for each worker, and room for each outcome. No more memory is needed from here on.
+/// A counter for the items, a hand for each worker, and room for each outcome. No more memory is
+/// needed from here on.
 fn open_crew<T: Drop, O: Drop, M: Allocator + Clone>(
     alloc: &M,
     items: Vec<T, M>,

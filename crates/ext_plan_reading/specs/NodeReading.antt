@@ -114,7 +114,7 @@ nodes_after labels all before (sketch ∷ more) = do
   node ← node_at labels (length before) (has_children (ids_of all) (length before)) (least_test_depth (outlines_of all) sketch.id) sketch
   nodes_after labels all (before ++ node ∷ []) more
 
--- The nodes of tables in a plan of this size: the fields and the id of each, then the tree of the ids, then the rest of each.
+-- The nodes of tables in a plan of this size: each one's fields and id, then the tree of the ids, then the rest of each.
 unfoldable pub nodes_of_tables : Size → List (List ℕ) → List Members → Result (List NodeText) PlanFault
 nodes_of_tables size labels tables = do
   sketches ← sketches_after [] tables

@@ -33,11 +33,11 @@ use words::said;
 /// id, if it has one. The contract covers only the place that the fault names.
 ///
 /// The fault is the answer of `read_plan_within` to this text and size, or `NotUtf8` if the bytes
-/// are no text. For any other fault the line says that another one comes before, or that there is no
-/// such fault.
+/// are no text. For any other fault the line says that another one comes before, or that there is
+/// no such fault.
 ///
-/// Takes memory for the line, and for what `read_plan_within` takes it for; fails with `AllocError` only
-/// if that is refused.
+/// Takes memory for the line, and for what `read_plan_within` takes it for; fails with `AllocError`
+/// only if that is refused.
 pub fn explain(
     alloc: Global,
     input: &[u8],

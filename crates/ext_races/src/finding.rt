@@ -21,8 +21,8 @@ use std::alloc::{AllocError, Global};
 /// plan has no race.
 ///
 /// `TooManyKeys` reports that the steps name more keys than `Plan::key_places`, and otherwise
-/// `TooManyNumbers` that they may draw more numbers than a plan of this size may. Such a plan has no
-/// one report, whatever its nodes touch.
+/// `TooManyNumbers` that they may draw more numbers than a plan of this size may. Such a plan has
+/// no one report, whatever its nodes touch.
 ///
 /// Takes memory for the steps that the plan may make, 32 bytes each, for what they touch, and for a
 /// list for each key that they name in each context; fails with `AllocError` only if that is

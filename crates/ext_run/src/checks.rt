@@ -21,10 +21,10 @@ use std::io::{Read, Write};
 /// How many races are looked for: one more than the text lists.
 const RACES: usize = 21;
 
-/// Reads a plan of at most this size and writes how many nodes and tests it has, and how many different keys its steps
-/// name of those that there are places for, without running it. The line is `ok, 7 nodes, 3 tests,
-/// 2 of 64 keys`. If the steps name more keys than there are places, some of them may fail with
-/// `directory full` in a run. More than 1,024 keys are not counted.
+/// Reads a plan of at most this size and writes how many nodes and tests it has, and how many
+/// different keys its steps name of those that there are places for, without running it. The line
+/// is `ok, 7 nodes, 3 tests, 2 of 64 keys`. If the steps name more keys than there are places, some
+/// of them may fail with `directory full` in a run. More than 1,024 keys are not counted.
 ///
 /// It reads like `run`, and is refused like a plain run of the plan: as `Read`, `TooLong`, `Plan`
 /// or `Memory`, with nothing written, or as `Write`.
@@ -52,11 +52,11 @@ pub fn check<I: Read, W: Write>(
     write_whole(writer, line.as_bytes())
 }
 
-/// Reads a plan of at most this size and writes its races, without running it. Each of the first 20 races has a line,
-/// and `and more` follows if there are others. `no races` stands alone if there are none, and so
-/// does a line that names the limit if the steps name more keys than there are places, or may draw
-/// more numbers than there are (`ext_races::races_text`). In the summary, `failed` tells whether there
-/// is a race or a limit is exceeded.
+/// Reads a plan of at most this size and writes its races, without running it. Each of the first 20
+/// races has a line, and `and more` follows if there are others. `no races` stands alone if there
+/// are none, and so does a line that names the limit if the steps name more keys than there are
+/// places, or may draw more numbers than there are (`ext_races::races_text`). In the summary,
+/// `failed` tells whether there is a race or a limit is exceeded.
 ///
 /// It reads like `run`, and is refused like `check`.
 ///

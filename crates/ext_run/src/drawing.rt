@@ -17,8 +17,8 @@ use ext_report::{depth_first, write_head};
 use std::alloc::{AllocError, Global};
 use std::io::{Read, Write};
 
-/// Reads a plan of at most this size and draws its nodes as a tree, one line each, depth first, without running it. A
-/// line is, for example, `  class:A, concurrent, READ db`.
+/// Reads a plan of at most this size and draws its nodes as a tree, one line each, depth first,
+/// without running it. A line is, for example, `  class:A, concurrent, READ db`.
 ///
 /// It reads like `run`, and is refused like `check`. Takes memory for the input, the plan and the
 /// drawing, and gives all of it back. It waits only for the reader and the writer.

@@ -124,8 +124,8 @@ impl<R: Wait, L: RunListener> RunListener for Failures<'_, R, L> {
 
 /// Returns the faults that were reported of a plan's nodes, as lines `ID: FAULT`. The nodes are in
 /// the order of the plan, and the faults of each node in the order in which they were reported. A
-/// last line says that faults were lost, if some were. The bytes are the plan's, which is of at most
-/// this size, as a run reads them.
+/// last line says that faults were lost, if some were. The bytes are the plan's, which is of at
+/// most this size, as a run reads them.
 ///
 /// Refused as `Plan` if the plan is refused, and as `Memory` if memory for the plan's tree or for
 /// the text is. Takes memory for these and for the plan.

@@ -13,8 +13,8 @@ use std::io::Read;
 const CHUNK: usize = 4096;
 
 /// Reads the bytes of a plan of this size to their end, as `run` and `check` do first. A plan of
-/// usual size has at most 1,048,576 bytes, a large one 67,108,864, and at most one byte more is read.
-/// Takes memory for what it reads.
+/// usual size has at most 1,048,576 bytes, a large one 67,108,864, and at most one byte more is
+/// read. Takes memory for what it reads.
 ///
 /// Refused as `Read` if a read fails, which ends the reading, as `TooLong` if there are more bytes,
 /// and as `Memory` if memory for them is refused. It waits only for the reader.

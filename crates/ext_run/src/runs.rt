@@ -47,8 +47,8 @@ struct Output {
 /// this exactly, with its conditions on the plan, and `told_lack_laws` that `Summary::lacked`
 /// identifies such a run.
 ///
-/// It reads the input to its end, like `read_input`, and the first read that fails ends the run. The
-/// report is complete before its first byte is written, and at last the writer is flushed.
+/// It reads the input to its end, like `read_input`, and the first read that fails ends the run.
+/// The report is complete before its first byte is written, and at last the writer is flushed.
 ///
 /// Refused, with nothing written:
 /// - `Read` if a read failed.

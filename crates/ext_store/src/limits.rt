@@ -19,7 +19,8 @@ pub struct Limits {
     /// removed or replaced, so that the next compute meets it. If not, a factory that fails leaves
     /// its place empty, and its fault goes to its caller.
     pub keep_faults: bool,
-    /// How large the store may be.
+    /// How large the store may be. It says how many numbers there are at most, and to
+    /// `ext_engine::open_run` also how many contexts; a tree that is at hand is taken as it is.
     pub size: Size,
 }
 

@@ -100,8 +100,8 @@ impl Directory {
     }
 
     /// The cell of a context, 0 to 65,535, and a declared key: the context times the number of
-    /// keys, plus the key. Different pairs have different cells. Declaring a further key changes the
-    /// cells.
+    /// keys, plus the key. Different pairs have different cells. Declaring a further key changes
+    /// the cells.
     pub fn cell(&self, context: ContextNo, key: KeyNo) -> CellNo
         requires context { context < 65536 }
         requires key { key < length self.now }

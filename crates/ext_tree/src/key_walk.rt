@@ -35,9 +35,7 @@ pub fn number_of(
 
 /// Tries the places from the index's next one on, in order, until one holds the key: one that is
 /// known to hold another is passed, and a free one is offered a copy of the key, which takes
-/// memory. All of them are added to the index, so no later walk reads them again. It is not inlined,
-/// so that a key that is known costs no registers of it.
-#[inline(never)]
+/// memory. All of them are added to the index, so no later walk reads them again.
 fn walk(
     alloc: Global,
     places: &[OnceBox<Key>],

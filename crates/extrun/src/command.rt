@@ -82,8 +82,8 @@ impl Task {
 /// - `check`, with `--races` or else `--tree`;
 /// - `id`, with `--explain`.
 ///
-/// `run` and `check` take a file, `--large` and `--explain`. No word at all is `run` on 4 lanes over
-/// the store for several threads, of a plan of usual size. Prints the help and the version to
+/// `run` and `check` take a file, `--large` and `--explain`. No word at all is `run` on 4 lanes
+/// over the store for several threads, of a plan of usual size. Prints the help and the version to
 /// standard output, and what is wrong with a command line to standard error. Takes memory for the
 /// words and for clap.
 pub(crate) fn request_of<R: Env + AllocGlobal + Print + Eprint>(rt: &R) -> Request {
