@@ -560,13 +560,13 @@ class Cases:
         self.passed = 0
         self.failed = 0
 
-    def run(self, name, words, plan, wanted):
-        """A case: what is wanted is a report, or else the one line of a refusal."""
+    def run(self, name, words, plan, wanted, told=""):
+        """A case: what is wanted is a report, and what is told beside it, or else the one line of a refusal."""
         bytes_of = plan if isinstance(plan, bytes) else plan.encode()
         ran = subprocess.run([self.program, *words], input=bytes_of, capture_output=True, timeout=120)
         is_line = not wanted.endswith("\n")
         status = 2 if is_line else 1 if " failed closed " in wanted else 0
-        want = (status, b"", f"{wanted}\n".encode()) if is_line else (status, wanted.encode(), b"")
+        want = (status, b"", f"{wanted}\n".encode()) if is_line else (status, wanted.encode(), told.encode())
         if (ran.returncode, ran.stdout, ran.stderr) == want:
             print(f"case {name}: {wanted if is_line else 'its report'}")
             self.passed += 1
