@@ -1,9 +1,14 @@
 """Runs the proved program with `--large` on plans that are made here: at its limits of nodes, bytes and numbers, one past each, and a plan that is refused
 without the word. What has to come out is written here, by docs/PLANS.md. Prints a line for each case.
 """
+import xml.etree.ElementTree
+
 from parts.refused import CHAIN_IDS, ROOT, Cases, flat, nodes_of, nodes_report, numbers_full, puts
 
 LIMIT = 67_108_864
+
+# In how many seconds a form of thousands of tests has to be written.
+SECONDS = 10
 
 
 def tests(count):
@@ -18,6 +23,48 @@ def tests_report(count):
     """The report of such a plan: the value below the root is computed once."""
     report = nodes_report(flat(count + 1), count)
     return report.replace("computed 0 found 0", f"computed 1 found {count - 1}")
+
+
+def class_tests(classes, tests):
+    """The classes and then, class by class in turn, their tests: the ids of each, with the steps of each test. Of a class's tests the first fails and the second aborts."""
+    steps = ["fail why"], ["abort no"]
+    above = [f"[a:b]/[c:{at}]" for at in range(classes)]
+    return above, [(f"{id}/[t:{test}]", steps[test] if test < 2 else []) for test in range(tests) for id in above]
+
+
+def classes_plan(classes, tests):
+    """A plan of such classes, each of which fails when it ends."""
+    above, below = class_tests(classes, tests)
+    plan = ROOT + "".join(f'[[node]]\nid = "{id}"\nafter_all = [["fail late"]]\n' for id in above)
+    return plan + "".join(f'[[node]]\nid = "{id}"\ntest = [{", ".join(f"{step!r}" for step in steps)}]\n' for id, steps in below)
+
+
+def told_once_more(classes, tests):
+    """What --failures says of such a plan."""
+    above, below = class_tests(classes, tests)
+    lines = [f"{id}: late" for id in above] + [f"{id}: {steps[0].split()[1]}" for id, steps in below if steps]
+    return "".join(f"{line}\n" for line in lines)
+
+
+def suites_as_they_are(text, classes, tests):
+    """Whether a report in JUnit's XML has the suites of such a plan, with their cases in order."""
+    told = xml.etree.ElementTree.fromstring(text)
+    above, _below = class_tests(classes, tests)
+    names = [f"t:{test}" for test in range(tests)]
+    counts = {"tests": tests + 1, "failures": 2, "errors": 0, "skipped": 1}
+    all_of = {name: str(classes * count) for name, count in counts.items()}
+    each = {name: str(count) for name, count in counts.items()}
+    return told.attrib == all_of and [(it.attrib, [case.get("name") for case in it]) for it in told] == [({"name": id, **each}, [id, *names]) for id in above]
+
+
+def forms(cases, classes, tests):
+    """The same run in forms that must not take longer the more suites and faults there are."""
+    plan = classes_plan(classes, tests)
+    ran = cases.ran(["run", "--large", "--failures", "--report", "junit"], plan, SECONDS)
+    right = [ran.returncode == 1, suites_as_they_are(ran.stdout, classes, tests), ran.stderr.decode() == told_once_more(classes, tests)]
+    name = f"{classes * tests} tests in {classes} classes, in JUnit's XML and told once more"
+    print(f"case {name}: {'as they are' if all(right) else f'NOT as it has to be: {right}'}")
+    cases.passed, cases.failed = cases.passed + all(right), cases.failed + (not all(right))
 
 
 def filled(plan, count):
@@ -49,4 +96,5 @@ def main(program, _words):
         cases.run(f"65,536 numbers, {' '.join(words)}", ["run", *words], puts(65_536), nodes_report(CHAIN_IDS, 1))
         cases.run(f"1,048,575 numbers, {' '.join(words)}", ["run", *words], puts(1_048_575), nodes_report(CHAIN_IDS, 1))
         cases.run(f"1,048,576 puts, {' '.join(words)}", ["run", *words], puts(1_048_576), numbers_full("put a"))
+    forms(cases, 64, 64)
     return cases.passed, cases.failed

@@ -1,6 +1,8 @@
-"""Runs the proved program on plans and ids that it has to refuse, on plans at its limits, and on a plan cut after each of its
-bytes. What has to come out is written here, by docs/PLANS.md. Prints a line for each case.
+"""Runs the proved program on plans, ids and command lines that it has to refuse, on plans at its limits, and on a plan cut after
+each of its bytes. What has to come out is written here, by docs/PLANS.md. Prints a line for each case.
 """
+import os
+import pty
 import subprocess
 
 LIMIT = 1_048_576
@@ -314,6 +316,26 @@ READ_IDS = [
     ("/".join(["[a:b]"] * 16), "a b\n" * 16 + "/".join(["[a:b]"] * 16) + "\n"),
 ]
 
+# Parts of ids, with the id that they make or the fault of the first that is none.
+PARTS = [
+    (["engine=x", "class=a/b"], "[engine:x]/[class:a%2Fb]\n"),
+    (["engine=x", "case=case[1]"], "[engine:x]/[case:case%5B1%5D]\n"),
+    (["%+[=]:/", "größe=日本 %%"], "[%25%2B%5B:%5D%3A%2F]/[größe:日本 %25%25]\n"),
+    (["a=b=c"], "[a:b=c]\n"),
+    (["a=b"] * 16, "/".join(["[a:b]"] * 16) + "\n"),
+    (["a=b"] * 17, "id: more than 16 parts"),
+    (["a=b"] * 16 + [""], "id: more than 16 parts"),
+    (["a"], "id: part 0 has no value"),
+    (["a="], "id: part 0 has no value"),
+    ([""], "id: part 0 has no type"),
+    (["=b"], "id: part 0 has no type"),
+    (["="], "id: part 0 has no type"),
+    (["a=b", "c"], "id: part 1 has no value"),
+    (["a=b", "=d"], "id: part 1 has no type"),
+    (["a=", "=b"], "id: part 0 has no value"),
+    (["a=b", "c=", "=d"] + ["e=f"] * 16, "id: part 1 has no value"),
+]
+
 
 def totals(tests, successful):
     ran = f"tests {tests} successful {successful} aborted 0 failed 0 skipped 0\n"
@@ -560,10 +582,14 @@ class Cases:
         self.passed = 0
         self.failed = 0
 
-    def run(self, name, words, plan, wanted, told=""):
-        """A case: what is wanted is a report, and what is told beside it, or else the one line of a refusal."""
+    def ran(self, words, plan, seconds=120):
+        """What the program does with the plan in so many seconds."""
         bytes_of = plan if isinstance(plan, bytes) else plan.encode()
-        ran = subprocess.run([self.program, *words], input=bytes_of, capture_output=True, timeout=120)
+        return subprocess.run([self.program, *words], input=bytes_of, capture_output=True, timeout=seconds)
+
+    def run(self, name, words, plan, wanted, told="", seconds=120):
+        """A case: what is wanted is a report, and what is told beside it, or else the one line of a refusal."""
+        ran = self.ran(words, plan, seconds)
         is_line = not wanted.endswith("\n")
         status = 2 if is_line else 1 if " failed closed " in wanted else 0
         want = (status, b"", f"{wanted}\n".encode()) if is_line else (status, wanted.encode(), told.encode())
@@ -574,6 +600,22 @@ class Cases:
             print(f"case {name}: NOT as it has to be ({wanted}): status {ran.returncode}")
             print((ran.stdout + ran.stderr)[:500].decode(errors="replace"))
             self.failed += 1
+
+
+def at_a_terminal(cases):
+    """A case: without a word, and with a terminal for standard input, the program prints its help and ends."""
+    master, terminal = pty.openpty()
+    ran = subprocess.run([cases.program], stdin=terminal, capture_output=True, timeout=120)
+    os.close(terminal)
+    os.close(master)
+    asked = subprocess.run([cases.program, "--help"], capture_output=True, timeout=120)
+    if (ran.returncode, ran.stdout, ran.stderr) == (2, b"", asked.stdout):
+        print("case no word at a terminal: the help")
+        cases.passed += 1
+    else:
+        print(f"case no word at a terminal: NOT the help, with status 2: status {ran.returncode}")
+        print((ran.stdout + ran.stderr)[:500].decode(errors="replace"))
+        cases.failed += 1
 
 
 def short(plan):
@@ -602,6 +644,16 @@ def main(program, _words):
     for text, fault in IDS:
         cases.run(f"id {text!r}", ["id", "--", text], "", f"id: {fault}")
         cases.run(f"node {text!r}", ["run"], node(f'id = "{text}"'), "plan: P6 node 0")
+    for parts, wanted in PARTS:
+        cases.run(f"parts {parts}", ["id", "--make", "--", *parts], "", wanted)
+    cases.run("two ids", ["id", "[a:b]", "[c:d]"], "", "error: one id is read; --make makes one of several parts")
+    both = "error: the argument '--tree' cannot be used with '--races'"
+    cases.run("check --tree --races", ["check", "--tree", "--races"], CHAIN_TEXT, both)
+    cases.run("check --races - --tree", ["check", "--races", "-", "--tree"], CHAIN_TEXT, both)
+    cases.run("run -", ["run", "-"], CHAIN_TEXT, nodes_report(CHAIN_IDS, 1))
+    cases.run("check -", ["check", "-"], CHAIN_TEXT, "ok, 3 nodes, 1 tests, 1 of 64 keys\n")
+    cases.run("no word", [], CHAIN_TEXT, nodes_report(CHAIN_IDS, 1))
+    at_a_terminal(cases)
     for name, plan, wanted in LIMITS:
         cases.run(name, ["run"], plan, wanted)
         cases.run(f"{name}, as a plain run", ["run", "--store", "plain"], plan, wanted)

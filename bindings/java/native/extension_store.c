@@ -141,15 +141,12 @@ NATIVE(jlong, remove)(JNIEnv *env, jclass type, jlong store, jint hint, jint con
     return told_own(code, value, context);
 }
 
-/* EXT_RUN: with the lane that has the claim, which is one of the first `within`. Where those all have claims it answers as get does, and
-   EXT_CLAIMING in place of EXT_ABSENT. */
+/* EXT_RUN: with the lane that has the claim, which is one of the first `within`. EXT_CLAIMING: those all have claims. */
 NATIVE(jlong, begin)(JNIEnv *env, jclass type, jlong store, jint hint, jint within, jint context, jint key) {
+    (void)env, (void)type;
     ext_value value = {0};
     ON_A_FREE_LANE_OF((uint32_t)within, ext_lanes_begin(lanes, lane, (uint32_t)context, (uint32_t)key, &value))
-    if (code == EXT_RUN) return says(code, lane);
-    if (code != EXT_CLAIMING) return told(code, value);
-    jlong looked = Java_extensionstore_Native_get(env, type, store, hint, context, key);
-    return looked == says(EXT_ABSENT, 0) ? says(EXT_CLAIMING, 0) : looked;
+    return code == EXT_RUN ? says(code, lane) : told(code, value);
 }
 
 NATIVE(jlong, fill)(JNIEnv *env, jclass type, jlong store, jint lane, jint handle) {

@@ -216,8 +216,8 @@ fn put_and_remove_wait_for_a_factory() {
             .map(|it| it.0)
     });
     assert_eq!(stood, Some(8));
-    // A put that waits loses one number where it was refused, and no more.
-    assert!(other.get(1, &key).unwrap().unwrap().number() <= 4);
+    // A put that waits draws its number when the factory has ended, and no other.
+    assert_eq!(other.get(1, &key).unwrap().unwrap().number(), 2);
     other.remove(1, &key).unwrap();
     let running = run_factory(lanes.pop().unwrap(), 1, key);
     let taken = beside(running, Some(Ok(12)), || {

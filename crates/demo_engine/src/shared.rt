@@ -2,9 +2,7 @@
 use crate::database::Database;
 use ext_closing::CloseAction;
 use ext_model::Fault;
-use ext_store::StoreValue;
-use std::alloc::Global;
-use std::fmt::Display;
+use ext_store::{StoreValue, fault_of};
 use std::fs;
 
 /// A value of the store.
@@ -43,18 +41,10 @@ impl CloseAction<Shared> for Closing<'_> {
             Shared::Database { folder, .. } | Shared::Folder(folder) => {
                 match fs::remove_dir_all(self.rt, folder.as_str()) {
                     Ok(()) => Ok(()),
-                    Err(why) => Err(fault(self.rt.alloc(), why)),
+                    Err(why) => Err(fault_of(self.rt.alloc(), why)),
                 }
             }
-            Shared::Lease => Err(fault(self.rt.alloc(), "the lease was lost")),
+            Shared::Lease => Err(fault_of(self.rt.alloc(), "the lease was lost")),
         }
-    }
-}
-
-/// The fault that says this.
-pub(crate) fn fault(alloc: Global, why: impl Display + Drop) -> Fault {
-    match format!(in alloc; "{why}") {
-        Ok(text) => Fault::Text(text),
-        Err(_) => Fault::Memory,
     }
 }

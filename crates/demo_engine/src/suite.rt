@@ -1,12 +1,12 @@
 //! What the engine asks of a node, and its calls.
 use crate::nodes::{ACCOUNTS, ALONE, AUDIT};
 use crate::picture::Spans;
-use crate::shared::{Closing, Shared, fault};
+use crate::shared::{Closing, Shared};
 use crate::tests::Tests;
 use ext_engine::{Call, Callbacks, Kind, Mode, Outcome, Suite, Verdict, is_leaf};
 use ext_locks::{Held, LockMode, LockRequest, Resource};
 use ext_model::ContextNo;
-use ext_store::{Lane, Store};
+use ext_store::{Lane, Store, fault_of};
 use ext_tree::Tree;
 use std::sync::Wait;
 
@@ -113,7 +113,7 @@ impl DemoSuite<'_> {
     fn verdict(&self, ended: anyhow::Result<()>) -> Verdict {
         match ended {
             Ok(()) => Verdict::Successful,
-            Err(why) => Verdict::Failed(fault(self.rt.alloc(), why)),
+            Err(why) => Verdict::Failed(fault_of(self.rt.alloc(), why)),
         }
     }
 }

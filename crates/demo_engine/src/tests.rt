@@ -4,10 +4,10 @@ ghost use Rattle.ext_store.specs.Stores.{IsLaneOf};
 
 use crate::database::Database;
 use crate::nodes::{ENGINE, Task, task_of};
-use crate::shared::{Shared, fault};
+use crate::shared::Shared;
 use anyhow::bail;
 use ext_model::{ContextNo, Fault};
-use ext_store::{Compute, Lane, Store};
+use ext_store::{Lane, Store, fault_of};
 use ext_tree::Key;
 use std::sync::Wait;
 use std::sync::atomic::{AtomicU32, Ordering};
@@ -53,10 +53,13 @@ impl Tests<'_> {
         ensures { IsLaneOf store.now.id lane.new }
     {
         let make = |_key: &Key| -> Result<Shared, Fault> { self.make_database() };
-        let computed = store.compute_wait(rt, lane, ENGINE, &self.keys.database, make);
-        let (number, is_new) = number_of(store, lane, computed)?;
-        match store.show(lane, number) {
-            Some(Shared::Database { database, .. }) => Ok(Found { database, is_new }),
+        let answer = store.compute_wait(rt, lane, ENGINE, &self.keys.database, make);
+        let made = store.found_or_made(answer, lane)?;
+        match made.value {
+            Shared::Database { database, .. } => Ok(Found {
+                database,
+                is_new: made.is_new,
+            }),
             _ => bail!("this is no database"),
         }
     }
@@ -67,7 +70,7 @@ impl Tests<'_> {
             Ok(shared) => Ok(shared),
             Err(why) => {
                 let _was_there = fs::remove_dir_all(self.rt, self.folder).is_ok();
-                Err(fault(self.rt.alloc(), why))
+                Err(fault_of(self.rt.alloc(), why))
             }
         }
     }
@@ -166,8 +169,8 @@ impl Tests<'_> {
         ensures { IsLaneOf store.now.id lane.new }
     {
         let reach = |_key: &Key| -> Result<Shared, Fault> { self.reach_post() };
-        let computed = store.compute_wait(rt, lane, ENGINE, &self.keys.post, reach);
-        let _reached = number_of(store, lane, computed)?;
+        let answer = store.compute_wait(rt, lane, ENGINE, &self.keys.post, reach);
+        let _reached = store.found_or_made(answer, lane)?;
         Ok(())
     }
 
@@ -175,7 +178,7 @@ impl Tests<'_> {
     fn reach_post(&self) -> Result<Shared, Fault> {
         let before = self.attempts.fetch_add(1, Ordering::SeqCst);
         let attempt = before.saturating_add(1);
-        Err(fault(
+        Err(fault_of(
             self.rt.alloc(),
             format_args!("no post at attempt {attempt}"),
         ))
@@ -202,29 +205,5 @@ fn keep<R: Wait>(
     match store.put_wait(rt, lane, node, key, kept) {
         Ok(_) => Ok(()),
         Err((_, why)) => bail!(why),
-    }
-}
-
-/// The number of the value that was computed or found, and whether it was computed; or why there is none.
-fn number_of<F: Drop>(
-    store: &Store<Shared>,
-    lane: &mut Lane<Shared>,
-    computed: Compute<Shared, F>,
-) -> anyhow::Result<(u32, bool)>
-    requires { IsLaneOf store.now.id lane.old }
-    ensures { IsLaneOf store.now.id lane.new }
-{
-    match computed {
-        Compute::Computed { number } => Ok((number, true)),
-        Compute::Found { number, .. } => Ok((number, false)),
-        Compute::FaultKept { number } | Compute::FaultStands { number, .. } => {
-            match store.show_fault(lane, number) {
-                Some(why) => bail!("{why}"),
-                None => bail!("the kept fault {number} is not found"),
-            }
-        }
-        Compute::Failed(why) | Compute::FaultUnkept { fault: why, .. } => bail!(why),
-        Compute::Unkept { value: _, cause } => bail!(cause),
-        Compute::Refused { refusal, unused: _ } => bail!(refusal),
     }
 }

@@ -44,7 +44,8 @@ pub record TellsValue (context number : ℕ) (before after : StoreLane Handle) (
 
 -- The lane knows no fault of this number that has a handle.
 abbrev pub KnowsNoFault : ℕ → StoreLane Handle → Type 0
-KnowsNoFault number lane = (why : Fault) (own : ℕ) → known_at lane.faults number ≡ Some why → own < 2 ^ 64 → IsFaultOf own why → ⊥
+KnowsNoFault number lane = (why : Fault) (own : ℕ) → known_at lane.faults number ≡ Some why → own < 2 ^ 64
+    → IsFaultOf own why → ⊥
 
 -- The call writes out the kept fault of this number, which the lane knows from now on.
 pub record TellsFault (context number : ℕ) (before after : StoreLane Handle) (told : ExtValue) : Type 0 where
@@ -58,7 +59,8 @@ pub record TellsFault (context number : ℕ) (before after : StoreLane Handle) (
 
 -- The number and the context alone.
 abbrev pub number_alone : ℕ → ℕ → ExtValue
-number_alone context number = record { handle = 0; context = context; number = number; closeable = false; fault = false }
+number_alone context number =
+    record { handle = 0; context = context; number = number; closeable = false; fault = false }
 
 -- The call writes out only the number and the context. The thread found no handle for it.
 abbrev pub TellsNumber : ℕ → ℕ → ExtValue → Type 0
@@ -66,23 +68,32 @@ TellsNumber context number told = told ≡ number_alone context number
 
 -- Only the context is written.
 abbrev pub at_context : ℕ → ExtValue → ExtValue
-at_context at was = record { handle = was.handle; context = at; number = was.number; closeable = was.closeable; fault = was.fault }
+at_context at was = record {
+  handle = was.handle;
+  context = at;
+  number = was.number;
+  closeable = was.closeable;
+  fault = was.fault;
+}
 
 -- The code and the value written out, if a value was found.
 abbrev pub TellsFound : ℕ → ℕ → StoreLane Handle → StoreLane Handle → ExtValue → Code → Type 0
 TellsFound context number before after told said =
-    ((said ≡ code.Done) × TellsValue context number before after told) ⊎ ((said ≡ code.Unshown) × TellsNumber context number told × (known_at before.known number ≡ None))
+    ((said ≡ code.Done) × TellsValue context number before after told)
+    ⊎ ((said ≡ code.Unshown) × TellsNumber context number told × (known_at before.known number ≡ None))
 
 -- The code and the fault written out, if a kept fault was found.
 abbrev pub TellsStanding : ℕ → ℕ → StoreLane Handle → StoreLane Handle → ExtValue → Code → Type 0
 TellsStanding context number before after told said =
-    ((said ≡ code.FaultStands) × TellsFault context number before after told) ⊎ ((said ≡ code.Unshown) × TellsNumber context number told × KnowsNoFault number before)
+    ((said ≡ code.FaultStands) × TellsFault context number before after told)
+    ⊎ ((said ≡ code.Unshown) × TellsNumber context number told × KnowsNoFault number before)
 
 -- The code and what is written out, if a value or a kept fault stood there.
 abbrev pub TellsStood : ℕ → ℕ → StoreLane Handle → StoreLane Handle → ExtValue → Code → Type 0
 TellsStood context number before after told said =
     ((said ≡ code.Done) × (TellsValue context number before after told ⊎ TellsFault context number before after told))
-    ⊎ ((said ≡ code.Unshown) × TellsNumber context number told × (known_at before.known number ≡ None) × KnowsNoFault number before)
+    ⊎ ((said ≡ code.Unshown) × TellsNumber context number told × (known_at before.known number ≡ None)
+    × KnowsNoFault number before)
 
 -- ---- calls that are not made on the store
 
@@ -105,38 +116,50 @@ TellsLook (Err why) before after was found said = (said ≡ refusal_code why) ×
 
 -- The store looked, and this call answers what it found.
 pub data GetSays (context key : ℕ) (before after : Seat) (was found : ExtValue) (said : Code) : Type 0 where
-  not_asked : NotAsked context key before said → after ≡ before → found ≡ was → GetSays context key before after was found said
-  asked : before.claim ≡ None → (looked : Result Look Refusal) → Gets (store_of before) context key before.lane.cells after.lane.cells looked
+  not_asked : NotAsked context key before said → after ≡ before → found ≡ was
+      → GetSays context key before after was found said
+  asked : before.claim ≡ None → (looked : Result Look Refusal)
+      → Gets (store_of before) context key before.lane.cells after.lane.cells looked
       → TellsLook looked before.lane after.lane was found said → GetSays context key before after was found said
 
 -- ---- put and remove
 
 -- The code and what is written out, by the store's answer to a put.
-abbrev pub TellsPut : ℕ → Result (Option ℕ) (ℕ × Refusal) → StoreLane Handle → StoreLane Handle → ExtValue → ExtValue → Code → Type 0
+abbrev pub TellsPut : ℕ → Result (Option ℕ) (ℕ × Refusal) → StoreLane Handle → StoreLane Handle → ExtValue → ExtValue
+    → Code → Type 0
 TellsPut context (Ok None) before after was stood said = (said ≡ code.Done) × TellsNumber context 0 stood
 TellsPut context (Ok (Some number)) before after was stood said = TellsStood context number before after stood said
 TellsPut context (Err refused) before after was stood said = (said ≡ refusal_code refused.1) × (stood ≡ was)
 
 -- The handle was kept under a number and that number put, or it was not kept.
-pub data PutSays (context key : ℕ) (handle : Handle) (before after : Seat) (was stood : ExtValue) (said : Code) : Type 0 where
-  not_asked : NotAsked context key before said → after ≡ before → stood ≡ was → PutSays context key handle before after was stood said
-  unkept : before.claim ≡ None → (why : KeepFault) → KeepsNothing (store_of before) handle before.lane after.lane handle why → said ≡ keep_code why → stood ≡ was
+pub data PutSays (context key : ℕ) (handle : Handle) (before after : Seat) (was stood : ExtValue) (said : Code)
+    : Type 0 where
+  not_asked : NotAsked context key before said → after ≡ before → stood ≡ was
       → PutSays context key handle before after was stood said
-  put : before.claim ≡ None → (number : ℕ) (kept : StoreLane Handle) (result : Result (Option ℕ) (ℕ × Refusal)) → KeepsAs handle before.lane kept number
-      → Puts (store_of before) context key number kept.cells after.lane.cells result → TellsPut context result kept after.lane was stood said
+  unkept : before.claim ≡ None → (why : KeepFault)
+      → KeepsNothing (store_of before) handle before.lane after.lane handle why → said ≡ keep_code why → stood ≡ was
+      → PutSays context key handle before after was stood said
+  put : before.claim ≡ None → (number : ℕ) (kept : StoreLane Handle) (result : Result (Option ℕ) (ℕ × Refusal))
+      → KeepsAs handle before.lane kept number
+      → Puts (store_of before) context key number kept.cells after.lane.cells result
+      → TellsPut context result kept after.lane was stood said
       → PutSays context key handle before after was stood said
 
 -- The code and what is written out, by the store's answer to a remove.
-abbrev pub TellsRemove : ℕ → Result (Option ℕ) Refusal → StoreLane Handle → StoreLane Handle → ExtValue → ExtValue → Code → Type 0
+abbrev pub TellsRemove : ℕ → Result (Option ℕ) Refusal → StoreLane Handle → StoreLane Handle → ExtValue → ExtValue
+    → Code → Type 0
 TellsRemove context (Ok None) before after was taken said = (said ≡ code.Absent) × (taken ≡ was)
 TellsRemove context (Ok (Some number)) before after was taken said = TellsStood context number before after taken said
 TellsRemove context (Err why) before after was taken said = (said ≡ refusal_code why) × (taken ≡ was)
 
 -- The store took what stood there, and this call answers what that was.
 pub data RemoveSays (context key : ℕ) (before after : Seat) (was taken : ExtValue) (said : Code) : Type 0 where
-  not_asked : NotAsked context key before said → after ≡ before → taken ≡ was → RemoveSays context key before after was taken said
-  asked : before.claim ≡ None → (result : Result (Option ℕ) Refusal) → Removes (store_of before) context key before.lane.cells after.lane.cells result
-      → TellsRemove context result before.lane after.lane was taken said → RemoveSays context key before after was taken said
+  not_asked : NotAsked context key before said → after ≡ before → taken ≡ was
+      → RemoveSays context key before after was taken said
+  asked : before.claim ≡ None → (result : Result (Option ℕ) Refusal)
+      → Removes (store_of before) context key before.lane.cells after.lane.cells result
+      → TellsRemove context result before.lane after.lane was taken said
+      → RemoveSays context key before after was taken said
 
 -- ---- a compute
 
@@ -158,50 +181,69 @@ TellsUnused (unused.Refused why) before after was found said = (said ≡ refusal
 
 -- The lane has claimed the place, or the call answers why it has not.
 pub data BeginSays (context key : ℕ) (before after : Seat) (was found : ExtValue) (said : Code) : Type 0 where
-  not_asked : NotAsked context key before said → after ≡ before → found ≡ was → BeginSays context key before after was found said
-  claimed : before.claim ≡ None → (claim : ℕ) → ClaimsMissing (store_of before) context key before.lane.cells.view after.lane.cells.view (Ok claim)
+  not_asked : NotAsked context key before said → after ≡ before → found ≡ was
+      → BeginSays context key before after was found said
+  claimed : before.claim ≡ None → (claim : ℕ)
+      → ClaimsMissing (store_of before) context key before.lane.cells.view after.lane.cells.view (Ok claim)
       → after.claim ≡ Some claim → found ≡ was → said ≡ code.Run → BeginSays context key before after was found said
-  unclaimed : before.claim ≡ None → (why : Unused) → ClaimsMissing (store_of before) context key before.lane.cells.view after.lane.cells.view (Err why)
-      → TellsUnused why before.lane after.lane was found said → after.claim ≡ None → BeginSays context key before after was found said
+  unclaimed : before.claim ≡ None → (why : Unused)
+      → ClaimsMissing (store_of before) context key before.lane.cells.view after.lane.cells.view (Err why)
+      → TellsUnused why before.lane after.lane was found said → after.claim ≡ None
+      → BeginSays context key before after was found said
 
--- The handle is kept and its number stands in the claimed cell; or it is not kept, and the claim is given up. That other
--- lanes were in the way is no reason: while the claim stands the lane draws again.
+-- The handle is kept and its number stands in the claimed cell; or it is not kept, and the claim is given up. That
+-- other lanes were in the way is no reason: while the claim stands the lane draws again.
 pub data FillSays (handle : Handle) (before after : Seat) (was number : ℕ) (said : Code) : Type 0 where
-  no_claim : before.claim ≡ None → after ≡ before → number ≡ was → said ≡ code.NoClaim → FillSays handle before after was number said
-  filled : (claim : ℕ) → before.claim ≡ Some claim → Fills (store_of before).id.cells.limits [] claim before.lane.cells.view after.lane.cells.view number
-      → Learns before.lane.known after.lane.known number handle → said ≡ code.Done → FillSays handle before after was number said
+  no_claim : before.claim ≡ None → after ≡ before → number ≡ was → said ≡ code.NoClaim
+      → FillSays handle before after was number said
+  filled : (claim : ℕ) → before.claim ≡ Some claim
+      → Fills (store_of before).id.cells.limits [] claim before.lane.cells.view after.lane.cells.view number
+      → Learns before.lane.known after.lane.known number handle → said ≡ code.Done
+      → FillSays handle before after was number said
   unkept : (claim : ℕ) (why : KeepFault) → before.claim ≡ Some claim
-      → IsUnkept (store_of before).id.cells.limits (store_of before).tries [] claim before.lane.cells.view after.lane.cells.view why
+      → IsUnkept (store_of before).id.cells.limits (store_of before).tries [] claim before.lane.cells.view
+      after.lane.cells.view why
       → IsDecidedFault why → number ≡ was → said ≡ keep_code why → FillSays handle before after was number said
 
--- The handle's fault is kept and its number stands in the claimed cell; or it is not kept, for the same reasons, and the
--- claim is given up; or the store keeps no faults.
+-- The handle's fault is kept and its number stands in the claimed cell; or it is not kept, for the same reasons, and
+-- the claim is given up; or the store keeps no faults.
 pub data FailSays (handle : ℕ) (before after : Seat) (was number : ℕ) (said : Code) : Type 0 where
-  no_claim : before.claim ≡ None → after ≡ before → number ≡ was → said ≡ code.NoClaim → FailSays handle before after was number said
-  failed : (claim : ℕ) (why : Fault) → before.claim ≡ Some claim → IsTrue (store_of before).id.cells.limits.keep_faults → IsFaultOf handle why
+  no_claim : before.claim ≡ None → after ≡ before → number ≡ was → said ≡ code.NoClaim
+      → FailSays handle before after was number said
+  failed : (claim : ℕ) (why : Fault) → before.claim ≡ Some claim → IsTrue (store_of before).id.cells.limits.keep_faults
+      → IsFaultOf handle why
       → Fails (store_of before).id.cells.limits [] claim before.lane.cells.view after.lane.cells.view number
-      → Learns before.lane.faults after.lane.faults number why → said ≡ code.Done → FailSays handle before after was number said
-  unkept : (claim : ℕ) (why : KeepFault) → before.claim ≡ Some claim → IsTrue (store_of before).id.cells.limits.keep_faults
-      → IsUnkept (store_of before).id.cells.limits (store_of before).tries [] claim before.lane.cells.view after.lane.cells.view why
+      → Learns before.lane.faults after.lane.faults number why → said ≡ code.Done
+      → FailSays handle before after was number said
+  unkept : (claim : ℕ) (why : KeepFault) → before.claim ≡ Some claim
+      → IsTrue (store_of before).id.cells.limits.keep_faults
+      → IsUnkept (store_of before).id.cells.limits (store_of before).tries [] claim before.lane.cells.view
+      after.lane.cells.view why
       → IsDecidedFault why → number ≡ was → said ≡ keep_code why → FailSays handle before after was number said
   given_up : (claim : ℕ) → before.claim ≡ Some claim → IsFalse (store_of before).id.cells.limits.keep_faults
-      → EndsClaim before.lane.cells after.lane.cells (act_is.Abandon claim) → number ≡ was → said ≡ code.GivenUp → FailSays handle before after was number said
+      → EndsClaim before.lane.cells after.lane.cells (act_is.Abandon claim) → number ≡ was → said ≡ code.GivenUp
+      → FailSays handle before after was number said
 
 -- The claim is given up.
 pub data AbandonSays (before after : Seat) (said : Code) : Type 0 where
   no_claim : before.claim ≡ None → after ≡ before → said ≡ code.NoClaim → AbandonSays before after said
-  given_up : (claim : ℕ) → before.claim ≡ Some claim → EndsClaim before.lane.cells after.lane.cells (act_is.Abandon claim)
+  given_up : (claim : ℕ) → before.claim ≡ Some claim
+      → EndsClaim before.lane.cells after.lane.cells (act_is.Abandon claim)
       → said ≡ code.Done → AbandonSays before after said
 
 -- ---- the number of a key
 
 -- The key has this number for the lane, which makes no step on the cells; or this is why it has none.
 pub data KeySays (key : KeyValue) (before after : Seat) (was number : ℕ) (said : Code) : Type 0 where
-  numbered : IsKeyNumber after.lane.keys key number → after.lane.cells ≡ before.lane.cells → said ≡ code.Done → KeySays key before after was number said
-  refused : (why : Refusal) → IsKeyRefused before.lane after.lane key why → number ≡ was → said ≡ refusal_code why → KeySays key before after was number said
+  numbered : IsKeyNumber after.lane.keys key number → after.lane.cells ≡ before.lane.cells → said ≡ code.Done
+      → KeySays key before after was number said
+  refused : (why : Refusal) → IsKeyRefused before.lane after.lane key why → number ≡ was → said ≡ refusal_code why
+      → KeySays key before after was number said
 
 -- The texts name a key, whose number the call answers; or the call answers why they name none.
 pub data NamesKey (bytes lengths : List ℕ) (before after : Seat) (was number : ℕ) (said : Code) : Type 0 where
-  unnamed : NamesNoKey bytes lengths said → after ≡ before → number ≡ was → NamesKey bytes lengths before after was number said
-  named : AreTexts bytes lengths → (key : KeyValue) → IsNamed (texts_in bytes lengths) key → KeySays key before after was number said
+  unnamed : NamesNoKey bytes lengths said → after ≡ before → number ≡ was
+      → NamesKey bytes lengths before after was number said
+  named : AreTexts bytes lengths → (key : KeyValue) → IsNamed (texts_in bytes lengths) key
+      → KeySays key before after was number said
       → NamesKey bytes lengths before after was number said

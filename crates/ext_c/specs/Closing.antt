@@ -28,11 +28,15 @@ pub record MayAsk (context places : ℕ) (seat : Seat) : Type 0 where
 pub data NotClosing (context places : ℕ) (seat : Seat) : Code → Type 0 where
   claiming : (claim : ℕ) → seat.claim ≡ Some claim → NotClosing context places seat code.Claiming
   too_few : seat.claim ≡ None → places < 64 → NotClosing context places seat code.TooFewPlaces
-  no_context : seat.claim ≡ None → 64 ≤ places → length (store_of seat).tree ≤ context → NotClosing context places seat code.BadContext
-  no_closer : MayAsk context places seat → length seat.closers.items ≤ context → NotClosing context places seat code.NoCloser
-  not_this : MayAsk context places seat → (closer : CloserView) → slice_index_or seat.closers.items context None ≡ Some closer → closer.context ≢ context
+  no_context : seat.claim ≡ None → 64 ≤ places → length (store_of seat).tree ≤ context
+      → NotClosing context places seat code.BadContext
+  no_closer : MayAsk context places seat → length seat.closers.items ≤ context
       → NotClosing context places seat code.NoCloser
-  was_closed : MayAsk context places seat → context < length seat.closers.items → slice_index_or seat.closers.items context None ≡ None → NotClosing context places seat code.Closed
+  not_this : MayAsk context places seat → (closer : CloserView)
+      → slice_index_or seat.closers.items context None ≡ Some closer → closer.context ≢ context
+      → NotClosing context places seat code.NoCloser
+  was_closed : MayAsk context places seat → context < length seat.closers.items
+      → slice_index_or seat.closers.items context None ≡ None → NotClosing context places seat code.Closed
 
 -- The store is asked for the close, with the lane's closer of the context.
 pub record Asks (context places : ℕ) (seat : Seat) (closer : CloserView) : Type 0 where
@@ -48,7 +52,8 @@ pub record WritesOut (was values : List ExtValue) (count : ℕ) (written : List 
 
 -- The closers of all other contexts are as they were.
 abbrev pub KeepsOthers : ℕ → Seat → Seat → Type 0
-KeepsOthers context before after = (other : ℕ) → other ≢ context → slice_index_or after.closers.items other None ≡ slice_index_or before.closers.items other None
+KeepsOthers context before after = (other : ℕ) → other ≢ context
+    → slice_index_or after.closers.items other None ≡ slice_index_or before.closers.items other None
 
 -- Only the closer of this context is gone.
 pub record LosesOnly (context : ℕ) (before after : Seat) : Type 0 where
@@ -60,18 +65,27 @@ pub record LosesOnly (context : ℕ) (before after : Seat) : Type 0 where
 -- the value that it lacked, unless the thread does not find it. Otherwise the lane is unchanged.
 abbrev pub TellsRefused : CloseFault → StoreLane Handle → StoreLane Handle → Code → Type 0
 TellsRefused (close.Unjoined number) asked after said =
-    ((said ≡ code.Unjoined) × ((value : Handle) × Learns asked.known after.known number value)) ⊎ ((said ≡ code.Unshown) × (after ≡ asked))
+    ((said ≡ code.Unjoined) × ((value : Handle) × Learns asked.known after.known number value))
+    ⊎ ((said ≡ code.Unshown) × (after ≡ asked))
 TellsRefused (close.Busy key) asked after said = (said ≡ close_code (close.Busy key)) × (after ≡ asked)
 TellsRefused (close.Contended key) asked after said = (said ≡ close_code (close.Contended key)) × (after ≡ asked)
 
 -- One close of the store with only this lane in hand. It writes out the closeable values that remain, latest first, and
 -- the lane loses its closer. Or this is why it is refused, and the lane has all closers that it had.
-pub data CloseSays (context : ℕ) (before after : Seat) (was values : List ExtValue) (count : ℕ) (said : Code) : Type 0 where
-  not_asked : NotClosing context (length was) before said → after ≡ before → values ≡ was → count ≡ 0 → CloseSays context before after was values count said
-  closed : (closer : CloserView) (first last : Written) (closed : Closed) → Asks context (length was) before closer → first.values.items ≡ [] → first.context ≡ context
-      → closing.Closes (λ h. h.closeable) WritesNext (store_of before) closer (before.lane ∷ []) first (Ok closed) (after.lane ∷ []) last
-      → WritesOut was values count last.values.items → said ≡ code.Done → LosesOnly context before after → CloseSays context before after was values count said
-  refused : (closer : CloserView) (first : Written) (why : CloseFault) (asked : StoreLane Handle) → Asks context (length was) before closer
-      → closing.Closes (λ h. h.closeable) WritesNext (store_of before) closer (before.lane ∷ []) first (Err (closer, why)) (asked ∷ []) first
-      → TellsRefused why asked after.lane said → after.lane.cells ≡ asked.cells → after.closers.items ≡ before.closers.items → values ≡ was → count ≡ 0
+pub data CloseSays (context : ℕ) (before after : Seat) (was values : List ExtValue) (count : ℕ) (said : Code)
+    : Type 0 where
+  not_asked : NotClosing context (length was) before said → after ≡ before → values ≡ was → count ≡ 0
+      → CloseSays context before after was values count said
+  closed : (closer : CloserView) (first last : Written) (closed : Closed) → Asks context (length was) before closer
+      → first.values.items ≡ [] → first.context ≡ context
+      → closing.Closes (λ h. h.closeable) WritesNext (store_of before) closer (before.lane ∷ []) first (Ok closed)
+      (after.lane ∷ []) last
+      → WritesOut was values count last.values.items → said ≡ code.Done → LosesOnly context before after
+      → CloseSays context before after was values count said
+  refused : (closer : CloserView) (first : Written) (why : CloseFault) (asked : StoreLane Handle)
+      → Asks context (length was) before closer
+      → closing.Closes (λ h. h.closeable) WritesNext (store_of before) closer (before.lane ∷ []) first
+      (Err (closer, why)) (asked ∷ []) first
+      → TellsRefused why asked after.lane said → after.lane.cells ≡ asked.cells
+      → after.closers.items ≡ before.closers.items → values ≡ was → count ≡ 0
       → CloseSays context before after was values count said

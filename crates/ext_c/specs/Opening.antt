@@ -24,7 +24,8 @@ AreEmpty slots = All (λ (s : ExtSlot). s.state ≡ 0) slots
 pub record IsStoreOf (ids : List Id) (lanes tries numbers : ℕ) (keeps : Bool) (store : StoreView) : Type 0 where
   pub within : AreStoreLimits Usual 64 lanes tries numbers
   pub tree : store.tree ≡ ids
-  pub limits : store.id.cells.limits ≡ record { cells = length ids * 64; lanes = lanes; numbers = numbers; keep_faults = keeps }
+  pub limits : store.id.cells.limits
+      ≡ record { cells = length ids * 64; lanes = lanes; numbers = numbers; keep_faults = keeps }
   pub tries_are : store.tries ≡ tries
   pub keys : length store.id.keys ≡ 64
   pub places : length store.id.places ≡ numbers
@@ -32,21 +33,24 @@ pub record IsStoreOf (ids : List Id) (lanes tries numbers : ℕ) (keeps : Bool) 
 
 -- The store's first lanes, in order, which have made no step and know nothing.
 abbrev pub lanes_below : StoreView → ℕ → List (StoreLane Handle)
-lanes_below store lanes = map (fresh_store_lane store.id.places store.id.fault_places store.id.keys) (fresh_lanes store.id.cells 0 lanes)
+lanes_below store lanes =
+    map (fresh_store_lane store.id.places store.id.fault_places store.id.keys) (fresh_lanes store.id.cells 0 lanes)
 
 -- A closer for each context, in order.
 abbrev pub all_closers : StoreView → List (Option CloserView)
 all_closers store = map Some (closers_below store.id.cells (length store.tree))
 
 -- The seat is of this store and this lane, has these closers, and no claim.
-pub record IsSeatOf (store : StoreView) (closers : List (Option CloserView)) (lane : StoreLane Handle) (seat : Seat) : Type 0 where
+pub record IsSeatOf (store : StoreView) (closers : List (Option CloserView)) (lane : StoreLane Handle) (seat : Seat)
+    : Type 0 where
   pub store_is : store_of seat ≡ store
   pub lane_is : seat.lane ≡ lane
   pub closers_are : seat.closers.items ≡ closers
   pub unclaimed : seat.claim ≡ None
 
 -- The slot has such a seat.
-pub record HasSeatOf (store : StoreView) (closers : List (Option CloserView)) (lane : StoreLane Handle) (slot : ExtSlot) : Type 0 where
+pub record HasSeatOf (store : StoreView) (closers : List (Option CloserView)) (lane : StoreLane Handle) (slot : ExtSlot)
+    : Type 0 where
   pub filled : slot.state ≡ 1
   pub seat : Seat
   pub has : slot.lane.seat ≡ Some seat
@@ -72,7 +76,8 @@ pub record IsIn (seat : Box Seat) (slot : ExtSlot) : Type 0 where
   pub has : slot.lane.seat ≡ Some seat.value
 
 -- There is a seat for each lane, in order. The last has these closers, and the others have none.
-pub record AreSeats (store : StoreView) (lanes : List (StoreLane Handle)) (closers : List CloserView) (seats : List (Box Seat)) : Type 0 where
+pub record AreSeats (store : StoreView) (lanes : List (StoreLane Handle)) (closers : List CloserView)
+    (seats : List (Box Seat)) : Type 0 where
   pub other_lanes : List (StoreLane Handle)
   pub last_lane : StoreLane Handle
   pub all_lanes : lanes ≡ other_lanes ++ last_lane ∷ []
@@ -93,17 +98,25 @@ pub record AreOpened (ids : List Id) (lanes tries numbers : ℕ) (keeps : Bool) 
 -- The opening is refused, and nothing has changed, if a slot has a lane; otherwise if a limit is out of its range;
 -- otherwise if the texts name no tree, or if all are texts but memory was refused. If it is not refused, there is a
 -- store with these ids and limits, and the slots have its lanes.
-pub data OpenSays (bytes lengths : List ℕ) (tries numbers : ℕ) (keeps : Bool) (before after : List ExtSlot) (said : Code) : Type 0 where
-  not_empty : ¬ AreEmpty before → after ≡ before → said ≡ code.NotEmpty → OpenSays bytes lengths tries numbers keeps before after said
-  bad_limit : AreEmpty before → ¬ AreStoreLimits Usual 64 (length before) tries numbers → after ≡ before → said ≡ code.BadLimit → OpenSays bytes lengths tries numbers keeps before after said
-  no_tree : AreEmpty before → AreStoreLimits Usual 64 (length before) tries numbers → NamesNoTree bytes lengths said → after ≡ before → OpenSays bytes lengths tries numbers keeps before after said
-  no_memory : AreEmpty before → AreStoreLimits Usual 64 (length before) tries numbers → AreTexts bytes lengths → after ≡ before → said ≡ code.NoMemory
+pub data OpenSays (bytes lengths : List ℕ) (tries numbers : ℕ) (keeps : Bool) (before after : List ExtSlot)
+    (said : Code) : Type 0 where
+  not_empty : ¬ AreEmpty before → after ≡ before → said ≡ code.NotEmpty
       → OpenSays bytes lengths tries numbers keeps before after said
-  opened : AreEmpty before → AreTexts bytes lengths → (ids : List Id) → AllZip IsIdText (texts_in bytes lengths) ids → IsTreeWithin 256 ids
-      → (store : StoreView) → IsStoreOf ids (length before) tries numbers keeps store → HaveLanes store (lanes_below store (length before)) after
+  bad_limit : AreEmpty before → ¬ AreStoreLimits Usual 64 (length before) tries numbers → after ≡ before
+      → said ≡ code.BadLimit → OpenSays bytes lengths tries numbers keeps before after said
+  no_tree : AreEmpty before → AreStoreLimits Usual 64 (length before) tries numbers → NamesNoTree bytes lengths said
+      → after ≡ before → OpenSays bytes lengths tries numbers keeps before after said
+  no_memory : AreEmpty before → AreStoreLimits Usual 64 (length before) tries numbers → AreTexts bytes lengths
+      → after ≡ before → said ≡ code.NoMemory
+      → OpenSays bytes lengths tries numbers keeps before after said
+  opened : AreEmpty before → AreTexts bytes lengths → (ids : List Id) → AllZip IsIdText (texts_in bytes lengths) ids
+      → IsTreeWithin 256 ids
+      → (store : StoreView) → IsStoreOf ids (length before) tries numbers keeps store
+      → HaveLanes store (lanes_below store (length before)) after
       → said ≡ code.Done → OpenSays bytes lengths tries numbers keeps before after said
 
 -- The slot had no lane and is unchanged; or it had one and is now empty.
 pub data LeaveSays (before after : ExtSlot) (said : Code) : Type 0 where
   no_lane : before.state ≢ 1 → after ≡ before → said ≡ code.NoLane → LeaveSays before after said
-  left : (seat : Seat) → before.lane.seat ≡ Some seat → after.state ≡ 0 → after.lane.seat ≡ None → said ≡ code.Done → LeaveSays before after said
+  left : (seat : Seat) → before.lane.seat ≡ Some seat → after.state ≡ 0 → after.lane.seat ≡ None → said ≡ code.Done
+      → LeaveSays before after said

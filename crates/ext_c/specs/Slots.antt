@@ -29,9 +29,12 @@ pub record StaysButClosers (old now : Seat) : Type 0 where
 
 -- The slot had no lane, and it and what the call writes out are unchanged. Or it has its lane still: `Keeps` holds of
 -- the seat whatever the answer, and `Says` holds of the seat and this code.
-pub data OnSlot (Keeps : Seat → Seat → Type 0) (Untold : Type 0) (Says : Seat → Seat → Code → Type 0) (before after : ExtSlot) (said : ℕ) : Type 0 where
-  no_lane : before.state ≢ 1 → after ≡ before → Untold → said ≡ code_number code.NoLane → OnSlot Keeps Untold Says before after said
-  on_lane : (old now : Seat) (own : Code) → before.lane.seat ≡ Some old → after.state ≡ 1 → after.lane.seat ≡ Some now → Keeps old now → said ≡ code_number own → Says old now own
+pub data OnSlot (Keeps : Seat → Seat → Type 0) (Untold : Type 0) (Says : Seat → Seat → Code → Type 0)
+    (before after : ExtSlot) (said : ℕ) : Type 0 where
+  no_lane : before.state ≢ 1 → after ≡ before → Untold → said ≡ code_number code.NoLane
+      → OnSlot Keeps Untold Says before after said
+  on_lane : (old now : Seat) (own : Code) → before.lane.seat ≡ Some old → after.state ≡ 1 → after.lane.seat ≡ Some now
+      → Keeps old now → said ≡ code_number own → Says old now own
       → OnSlot Keeps Untold Says before after said
 
 -- The number is that of a code, of which `Says` holds.

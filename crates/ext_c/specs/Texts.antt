@@ -35,7 +35,8 @@ pub data IsNoText (bytes : List ℕ) (n : ℕ) : Code → Type 0 where
 -- What is wrong with the first text that is none. Those before it are texts.
 abbrev pub IsTextFault : List ℕ → List ℕ → Code → Type 0
 IsTextFault bytes [] said = ⊥
-IsTextFault bytes (n ∷ lengths) said = IsNoText bytes n said ⊎ (IsFirstText bytes n × IsTextFault (drop n bytes) lengths said)
+IsTextFault bytes (n ∷ lengths) said = IsNoText bytes n said
+    ⊎ (IsFirstText bytes n × IsTextFault (drop n bytes) lengths said)
 
 -- ---- keys
 
@@ -70,5 +71,6 @@ pub record IsNoId (texts : List (List ℕ)) : Type 0 where
 pub data NamesNoTree (bytes lengths : List ℕ) (said : Code) : Type 0 where
   unread : IsTextFault bytes lengths said → NamesNoTree bytes lengths said
   no_id : AreTexts bytes lengths → IsNoId (texts_in bytes lengths) → said ≡ code.BadId → NamesNoTree bytes lengths said
-  no_tree : AreTexts bytes lengths → (ids : List Id) (why : TreeFault) → AllZip IsIdText (texts_in bytes lengths) ids → HasFault 256 ids why → said ≡ tree_code why
+  no_tree : AreTexts bytes lengths → (ids : List Id) (why : TreeFault) → AllZip IsIdText (texts_in bytes lengths) ids
+      → HasFault 256 ids why → said ≡ tree_code why
       → NamesNoTree bytes lengths said

@@ -1,5 +1,5 @@
 -- What is kept of the words of a pass tells as much as the words: where the sums of their versions are equal, so are the words.
-use Rattle.std.proofs.Common.{◌≡◌, ◌≢◌, inl, inr, ⊎_elim, ℕ, ◌+◌, ◌*◌, ◌%◌, ◌^◌, ◌<◌, ◌≤◌, List, [], ◌∷◌, ◌++◌, take, map, get_or, length, slice_index, sym, refl, ap, ◌∙◌, subst, arith, append-nil, drop, length-append, length-take-le, mul-le-mul_right, ◌-◌, Option, None, Some}
+use Rattle.std.proofs.Common.{◌≡◌, ◌≢◌, inl, inr, ⊎_elim, ℕ, ◌+◌, ◌*◌, ◌/◌, ◌%◌, ◌^◌, ◌<◌, ◌≤◌, List, [], ◌∷◌, ◌++◌, take, map, get_or, length, slice_index, sym, refl, ap, ◌∙◌, subst, arith, append-nil, drop, length-append, length-take-le, mul-le-mul_right, ◌-◌, Option, None, Some}
 use Rattle.std.specs.Prelude.{All, IfNone, IfSome, sum_by}
 use Rattle.std.proofs.Math.Seq.{get_or-append_seam, take-append_seam}
 use Rattle.std.proofs.lemmas.List.{get_or-map, get_or_append_left, length-map, take-append-le, length-drop, take-append-drop, take-map, take_all}
@@ -10,7 +10,7 @@ use base.Growing.{prefix_trans}
 use Rattle.ext_model.specs.declared.slot.Slot.{Slot}
 use Rattle.ext_model.specs.declared.slot.Slot.TheVariants as slot
 use Rattle.ext_model.specs.History.{History, Limits, state_after, version_of, own, lane_of, IsLegal}
-use Rattle.ext_model.specs.CellWords.{state_code, number_code, word, word_of}
+use Rattle.ext_model.specs.CellWords.{state_code, number_code, slot_word, word, word_of}
 use Rattle.ext_history.specs.Histories.{last_after, first_or, seen_by, Follow, moved, call_fronts}
 use Rattle.ext_model.specs.CallActs.{LaneView, IsAnswerPoint, Calls}
 use Rattle.ext_history.proofs.Fronts.{moved_fronts, moved_seen, moved_again, last_append, follow_last, follow_append, first_append, first_to_last}
@@ -21,6 +21,7 @@ use Rattle.ext_cells.specs.declared.nearest.EmptyCells.{EmptyCells}
 use Rattle.ext_cells.specs.declared.nearest.Nearest.{Nearest}
 use Rattle.ext_cells.specs.declared.nearest.Reading.{Reading}
 use Rattle.ext_cells.specs.declared.standing.Standing.{Standing}
+use Rattle.ext_cells.specs.declared.standing.Standing.TheVariants as standing
 use Rattle.ext_cells.specs.WordChanges.{version_in, HasState, IsEmptyWord}
 use Rattle.ext_cells.specs.Lanes.{Lane}
 use Rattle.ext_cells.specs.CellCalls.{IsNearest, standing_of, StoodNearest, StoodTogether}
@@ -297,6 +298,14 @@ empty_slot (Some (slot.Entry number)) version e = absurd (omega (arith, e))
 empty_slot (Some (slot.Fault number)) version e = absurd (omega (arith, e))
 empty_slot (Some (slot.Claim lane)) version e = absurd (omega (arith, e))
 empty_slot (Some (slot.Sealed kept)) version e = absurd (omega (arith, e))
+
+-- a word in the state of a value tells its number
+pub value_told : (s : Option Slot) (word number version : ℕ) → number_code s < 2 ^ 20 → word ≡ slot_word s version → word % 16 ≡ 2 → number ≡ word / 16 % 2 ^ 20 → standing_of s ≡ Some (standing.Value number)
+value_told None word number version fits is value told = absurd (omega (arith, is, value))
+value_told (Some (slot.Entry n)) word number version fits is value told = let same : n ≡ number = omega (arith, fits, is, told) in ap (λ k. Some (standing.Value k)) same
+value_told (Some (slot.Fault n)) word number version fits is value told = absurd (omega (arith, is, value))
+value_told (Some (slot.Claim lane)) word number version fits is value told = absurd (omega (arith, is, value))
+value_told (Some (slot.Sealed kept)) word number version fits is value told = absurd (omega (arith, is, value))
 
 -- nothing stands in cells with empty words
 pub nothing_in : (p : History) (cs ws : List ℕ) → ws ≡ map (word_of p) cs → All IsEmptyWord ws → All (λ c. (state_after p).slots c ≡ None) cs

@@ -95,8 +95,10 @@ claim_acts cell (Err why) = []
 
 -- The result is the reply of one thread at a point of the call, and the lane's events are those that it means. Or it is
 -- `Contended`, and at least `tries` events of other lanes came after the call's first front.
-abbrev pub Answers : {A : Type 0} → ℕ → Lane → Lane → (Result A CellRefusal → List (Act ℕ)) → (History → Result A CellRefusal) → Result A CellRefusal → Type 0
-Answers tries before after acts_of reply_at result = model.Answers before.cells.limits tries (Err Contended) before.view after.view acts_of reply_at result
+abbrev pub Answers : {A : Type 0} → ℕ → Lane → Lane → (Result A CellRefusal → List (Act ℕ))
+    → (History → Result A CellRefusal) → Result A CellRefusal → Type 0
+Answers tries before after acts_of reply_at result =
+    model.Answers before.cells.limits tries (Err Contended) before.view after.view acts_of reply_at result
 
 -- How many events changed the word that an act at this place changes. That is the cell's word; for a keep, which has no
 -- cell, it is the count of numbers.
@@ -107,9 +109,11 @@ changes_at (Some cell) h = version_of h cell
 -- Other lanes overtook the call at the very word that its act changes, and the act would succeed now.
 pub record IsOvertakenAt (tries : ℕ) (before after : Lane) (act : Act ℕ) : Type 0 where
   -- The act would happen directly after what the lane has seen now.
-  pub would_happen : (answer : Option ℕ) × (reply_after before.cells.limits (seen_by after.view) before.view.number act ≡ events.Happens answer)
+  pub would_happen : (answer : Option ℕ)
+      × (reply_after before.cells.limits (seen_by after.view) before.view.number act ≡ events.Happens answer)
   -- At least `tries` events after the call's first front changed that word.
-  pub own_word : changes_at (place_of act) (first_front before.view after.view) + tries ≤ changes_at (place_of act) (seen_by after.view)
+  pub own_word : changes_at (place_of act) (first_front before.view after.view) + tries
+      ≤ changes_at (place_of act) (seen_by after.view)
 
 -- `contended` is the refusal that says that other lanes were in the way. A call answers it only if its act would happen
 -- directly after what the lane has seen now: any other answer that one thread would give there is given first. Only
@@ -122,7 +126,8 @@ ComesLast contended tries before after act result = result ≡ Err contended →
 abbrev pub SealAnswers : ℕ → Lane → Lane → ℕ → Result (Option ℕ) CellRefusal → Type 0
 SealAnswers tries before after cell (Ok kept) = model.Seals before.cells.limits cell before.view after.view kept
 SealAnswers tries before after cell (Err Contended) = model.IsOvertaken before.cells.limits tries before.view after.view
-SealAnswers tries before after cell (Err why) = model.HoldsAtPoint before.cells.limits before.view after.view [] (λ p. change_reply before (Seal cell) p ≡ Err why)
+SealAnswers tries before after cell (Err why) =
+    model.HoldsAtPoint before.cells.limits before.view after.view [] (λ p. change_reply before (Seal cell) p ≡ Err why)
 
 -- The fact holds of the claim, if it was won.
 abbrev pub IfWon : Result Claimed CellRefusal → (ℕ → Type 0) → Type 0
@@ -133,7 +138,9 @@ IfWon (Err why) Fact = Unit {0}
 
 -- The call made this one event, a fill, a fail or an abandon, as one thread would at that point.
 abbrev pub EndsClaim : Lane → Lane → Act ℕ → Type 0
-EndsClaim before after act = model.HoldsAtPoint before.cells.limits before.view after.view (act ∷ []) (λ p. reply_after before.cells.limits p before.view.number act ≡ events.Happens None)
+EndsClaim before after act =
+    model.HoldsAtPoint before.cells.limits before.view after.view (act ∷ [])
+    (λ p. reply_after before.cells.limits p before.view.number act ≡ events.Happens None)
 
 -- The words of the cells as they stood together at one single point of the call, which made no event. If there are
 -- cells to read, the call made at least one step.
@@ -145,16 +152,19 @@ pub record StoodTogether (before after : Lane) (cells words : List ℕ) : Type 0
 -- The point of a collect. Each pass reads every cell once, and the point is the front after the last read of the pass
 -- before the last.
 abbrev pub before_last_pass : ℕ → LaneView → LaneView → History
-before_last_pass cells before after = last_after (seen_by before) (take (length (call_fronts before after) - cells) (call_fronts before after))
+before_last_pass cells before after =
+    last_after (seen_by before) (take (length (call_fronts before after) - cells) (call_fronts before after))
 
 -- At least `tries` events after the call's first front were on these cells.
 abbrev pub IsOvertakenOn : ℕ → List ℕ → LaneView → LaneView → Type 0
-IsOvertakenOn tries cells before after = sum_by (version_of (first_front before after)) cells + tries ≤ sum_by (version_of (seen_by after)) cells
+IsOvertakenOn tries cells before after =
+    sum_by (version_of (first_front before after)) cells + tries ≤ sum_by (version_of (seen_by after)) cells
 
 -- The result of a collect: words that stood together, or other lanes were in the way.
 abbrev pub Collects : ℕ → Lane → Lane → List ℕ → Result (List ℕ) CellRefusal → Type 0
 Collects tries before after cells (Ok words) = StoodTogether before after cells words
-Collects tries before after cells (Err why) = (why ≡ Contended) × model.IsOvertaken before.cells.limits tries before.view after.view
+Collects tries before after cells (Err why) = (why ≡ Contended)
+    × model.IsOvertaken before.cells.limits tries before.view after.view
 
 -- ---- the nearest cell
 
@@ -195,7 +205,8 @@ pub record StoodNearest (before after : Lane) (cells : List ℕ) (nearest : Opti
 -- The result of such a look-up: that cell, or other lanes were in the way.
 abbrev pub FindsNearest : ℕ → Lane → Lane → List ℕ → Result (Option Nearest) CellRefusal → Type 0
 FindsNearest tries before after cells (Ok nearest) = StoodNearest before after cells nearest
-FindsNearest tries before after cells (Err why) = (why ≡ Contended) × model.IsOvertaken before.cells.limits tries before.view after.view
+FindsNearest tries before after cells (Err why) = (why ≡ Contended)
+    × model.IsOvertaken before.cells.limits tries before.view after.view
 
 -- ---- the end of a block
 
@@ -213,4 +224,5 @@ pub record EndsBlock (before after : Lane) (block marks : ℕ) : Type 0 where
   pub seals : seen_by after.view ≡ past ++ model.events_by before.view.number (map Seal cells)
   pub may : MayEnd before.cells.limits past cells
   pub within : (cell : ℕ) → Contains cells cell → IsUnmarked block marks cell
-  pub sealed : (cell : ℕ) → cell < before.cells.limits.cells → IsUnmarked block marks cell → IsSealedUnused (seen_by after.view) cell
+  pub sealed : (cell : ℕ) → cell < before.cells.limits.cells → IsUnmarked block marks cell
+      → IsSealedUnused (seen_by after.view) cell

@@ -33,15 +33,19 @@ Agrees (events.Refuses events.Barred) said next = Unit {0}
 abbrev pub TableFollowsReplies : Type 0
 TableFollowsReplies =
     (limits : Limits) (h : History) (lane cell : ℕ) (act : Act ℕ) (state : CellState) (number version : ℕ)
-    → limits.numbers < 2 ^ 20 → IsLegal limits h → place_of act ≡ Some cell → number < 2 ^ 20 → word_of h cell ≡ word_with state number version
-    → Agrees (reply_after limits h lane act) (after_word act state number version) (slot_word (slot_after lane act ((state_after h).slots cell)) (version_of h cell + 1))
+    → limits.numbers < 2 ^ 20 → IsLegal limits h → place_of act ≡ Some cell → number < 2 ^ 20
+    → word_of h cell ≡ word_with state number version
+    → Agrees (reply_after limits h lane act) (after_word act state number version)
+    (slot_word (slot_after lane act ((state_after h).slots cell)) (version_of h cell + 1))
 
 -- The table's next word is the word that the cell has after the event.
 abbrev pub TableFollowsEvents : Type 0
 TableFollowsEvents =
     (limits : Limits) (h : History) (lane cell : ℕ) (act : Act ℕ) (state : CellState) (number version : ℕ)
-    → limits.numbers < 2 ^ 20 → IsLegal limits h → place_of act ≡ Some cell → number < 2 ^ 20 → word_of h cell ≡ word_with state number version
-    → Agrees (reply_after limits h lane act) (after_word act state number version) (word_of (h ++ by lane act ∷ []) cell)
+    → limits.numbers < 2 ^ 20 → IsLegal limits h → place_of act ≡ Some cell → number < 2 ^ 20
+    → word_of h cell ≡ word_with state number version
+    → Agrees (reply_after limits h lane act) (after_word act state number version)
+    (word_of (h ++ by lane act ∷ []) cell)
 
 -- ---- numbers
 
@@ -55,4 +59,5 @@ NumbersAreDrawnOnce = (limits : Limits) (h : History) → IsLegal limits h → I
 
 -- Each number drawn is one of the store's, from 1 to its limit.
 abbrev pub NumbersAreFromOne : Type 0
-NumbersAreFromOne = (limits : Limits) (h : History) (number : ℕ) → IsLegal limits h → Contains (numbers_drawn h) number → (1 ≤ number) × (number ≤ limits.numbers)
+NumbersAreFromOne = (limits : Limits) (h : History) (number : ℕ) → IsLegal limits h → Contains (numbers_drawn h) number
+    → (1 ≤ number) × (number ≤ limits.numbers)

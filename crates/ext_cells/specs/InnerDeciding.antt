@@ -76,7 +76,8 @@ reply_on act stands version = events.reply 0 (λ at. version) (record { slots = 
 -- The decision is right: the event it makes happens and leaves this word, or one thread gives this answer without an
 -- event.
 abbrev pub Decides : Act ℕ → Option Slot → ℕ → Decision → Type 0
-Decides act stands version (Change next stood) = (reply_on act stands version ≡ events.Happens (answer_to act stood)) × ((lane : ℕ) → next ≡ slot_word (events.slot_after lane act stands) (version + 1))
+Decides act stands version (Change next stood) = (reply_on act stands version ≡ events.Happens (answer_to act stood))
+    × ((lane : ℕ) → next ≡ slot_word (events.slot_after lane act stands) (version + 1))
 Decides act stands version (Done (Ok stood)) = reply_on act stands version ≡ idle_reply act stood
 Decides act stands version (Done (Err why)) = (result_of what_stood (reply_on act stands version) ≡ Err why)
 

@@ -44,7 +44,8 @@ pub record IsColumn (cells : ℕ) (column : Column) : Type 0 where
 
 -- Whatever slot and version the word stands for, this is what stands there.
 abbrev pub Says : ℕ → Option Standing → Type 0
-Says word standing = (stands : Option Slot) (version : ℕ) → number_code stands < 2 ^ 20 → word ≡ slot_word stands version → standing_of stands ≡ standing
+Says word standing = (stands : Option Slot) (version : ℕ) → number_code stands < 2 ^ 20
+    → word ≡ slot_word stands version → standing_of stands ≡ standing
 
 -- The first of the words that says that anything stands.
 pub record SaysFirst (words : List ℕ) (nearest : Nearest) : Type 0 where
@@ -67,7 +68,9 @@ pub record IsReading (words : List ℕ) (reading : Reading) : Type 0 where
 abbrev pub EndsAt : Limits → LaneView → LaneView → List ℕ → EmptyCells → Type 0
 EndsAt limits before after cells empty =
     ((after ≡ before) × (empty.count ≡ length cells) × (empty.behind ≡ 0))
-    ⊎ ((empty.count < length cells) × (¬ IsEmptyWord empty.behind) × ((h : History) × Finds limits before (slice_index cells empty.count) empty.behind h × (after ≡ moved before (h ∷ []))))
+    ⊎ ((empty.count < length cells) × (¬ IsEmptyWord empty.behind)
+    × ((h : History) × Finds limits before (slice_index cells empty.count) empty.behind h
+    × (after ≡ moved before (h ∷ []))))
 
 pub record FirstPass (limits : Limits) (before after : LaneView) (cells : List ℕ) (empty : EmptyCells) : Type 0 where
   pub between : LaneView

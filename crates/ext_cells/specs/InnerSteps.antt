@@ -43,7 +43,8 @@ Found v after place word = (h : History) × FoundBy v place word h × IsShown v 
 -- or made the act where they found it
 abbrev pub Made : View → View → ℕ → ℕ → Act ℕ → Type 0
 Made v after place word act =
-    (lane : ℕ) → v.lane ≡ Some lane → (h : History) × FoundBy v place word h × IsAllowed (limits_of v.limits) h (by lane act) × IsShown v after (h ++ by lane act ∷ [])
+    (lane : ℕ) → v.lane ≡ Some lane → (h : History) × FoundBy v place word h
+    × IsAllowed (limits_of v.limits) h (by lane act) × IsShown v after (h ++ by lane act ∷ [])
 
 -- these steps showed no history, and led to the cell
 pub record IsMarked (v after : View) (cell : ℕ) : Type 0 where
@@ -130,7 +131,10 @@ value_result (Err why) = Err why
 -- there; or other lanes were in the way.
 abbrev pub Changes : ℕ → Lane → Lane → Act ℕ → Result Stood CellRefusal → Type 0
 Changes tries before after act (Ok stood) =
-    model.HoldsAtPoint before.cells.limits before.view after.view (act ∷ []) (λ p. reply_after before.cells.limits p before.view.number act ≡ events.Happens (answer_to act stood))
-    ⊎ model.HoldsAtPoint before.cells.limits before.view after.view [] (λ p. reply_after before.cells.limits p before.view.number act ≡ idle_reply act stood)
+    model.HoldsAtPoint before.cells.limits before.view after.view (act ∷ [])
+    (λ p. reply_after before.cells.limits p before.view.number act ≡ events.Happens (answer_to act stood))
+    ⊎ model.HoldsAtPoint before.cells.limits before.view after.view []
+    (λ p. reply_after before.cells.limits p before.view.number act ≡ idle_reply act stood)
 Changes tries before after act (Err Contended) = model.IsOvertaken before.cells.limits tries before.view after.view
-Changes tries before after act (Err why) = model.HoldsAtPoint before.cells.limits before.view after.view [] (λ p. change_reply before act p ≡ Err why)
+Changes tries before after act (Err why) =
+    model.HoldsAtPoint before.cells.limits before.view after.view [] (λ p. change_reply before act p ≡ Err why)

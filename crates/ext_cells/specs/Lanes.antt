@@ -4,7 +4,7 @@ use Rattle.std.specs.Prelude.{ℕ, zero, suc, ◌+◌, ◌*◌, ◌≤◌, List,
 use Rattle.atomic_table.specs.Seated.{TableId}
 use Rattle.ext_model.specs.History.{Limits}
 use Rattle.ext_model.specs.CallActs.{LaneView}
-use Rattle.ext_model.specs.Sizes.{most_contexts, most_numbers}
+use Rattle.ext_model.specs.Sizes.{most_contexts, most_lanes, most_numbers}
 use Rattle.ext_model.specs.declared.size.Size.{Size}
 
 -- The identity of the cells: their table, how many cells, lanes and numbers there are, and whether faults are kept.
@@ -27,7 +27,7 @@ pub record Lane : Type 0 where
 -- The limits of an opening of this size. There are enough cells for all its contexts with 1,024 keys each.
 pub record AreLimits (size : Size) (cells lanes tries numbers : ℕ) : Type 0 where
   pub cells_fit : cells ≤ most_contexts size * 1024
-  pub lanes_fit : (1 ≤ lanes) × (lanes ≤ 16)
+  pub lanes_fit : (1 ≤ lanes) × (lanes ≤ most_lanes size)
   pub tries_fit : (1 ≤ tries) × (tries ≤ 64)
   pub numbers_fit : (1 ≤ numbers) × (numbers ≤ most_numbers size)
 

@@ -1,6 +1,6 @@
 //! A cell in one word of 64 bits: its state, the number that stands there, and how many events it
 //! has had. No other module takes a word apart.
-ghost use Rattle.std.specs.Prelude.{◌≡◌, ◌↔◌, ℕ, ◌+◌, ◌*◌, ◌-◌, ◌^◌, ◌<◌, IsTrue, IfNone};
+ghost use Rattle.std.specs.Prelude.{◌≡◌, ◌↔◌, ℕ, ◌+◌, ◌*◌, ◌-◌, ◌/◌, ◌%◌, ◌^◌, ◌<◌, IsTrue, IfNone};
 ghost use Rattle.ext_cells.specs.WordChanges.{word_with, sealed_number as sealed_number_of, next_word as next_word_of, ends_claim as ends_claim_of, is_worn_by, refusal_in, after_word, version_in, HasState, IsEmptyWord, Suits};
 ghost use Rattle.ext_cells.specs.InnerPasses.{Says};
 
@@ -35,7 +35,7 @@ pub fn parts(word: u64) -> (CellState, u32, u64)
     ensures version { result.2 < 2 ^ 40 }
     ensures only { (state : _) (number version : ℕ) → number < 2 ^ 20 → word ≡ word_with state number version → result ≡ (state, number, version) }
 {
-    let number = (word / 16 % 1_048_576) as u32;
+    let number = number_in(word);
     let version = word / 16_777_216;
     let state = match word % 16 {
         0 => CellState::Empty,
@@ -53,6 +53,10 @@ pub(crate) fn what_stands(word: u64) -> Option<Standing>
     ensures none { IfNone result (IsEmptyWord word) }
     ensures says { Says word result }
 {
+    // Most often a value: one test is faster than the jump by a table below.
+    if word % 16 == 2 {
+        return Some(Standing::Value(number_in(word)));
+    }
     let (state, number, _) = parts(word);
     match state {
         CellState::Empty => None,
@@ -61,6 +65,13 @@ pub(crate) fn what_stands(word: u64) -> Option<Standing>
         CellState::Sealed => Some(Standing::Seal),
         CellState::Failed => Some(Standing::Fault(number)),
     }
+}
+
+// The number in a word.
+fn number_in(word: u64) -> u32
+    ensures { result ≡ word / 16 % 2 ^ 20 }
+{
+    (word / 16 % 1_048_576) as u32
 }
 
 /// The version in a word.

@@ -91,7 +91,7 @@ impl Cells {
     /// lane makes a fail, and no cell ever has a fault (`no_faults` of `history_laws` in
     /// ext_model). Takes memory.
     ///
-    /// Refused as `BadLimit` unless there are at most 67,108,864 cells, 1 to 16 lanes, 1 to 64
+    /// Refused as `BadLimit` unless there are at most 67,108,864 cells, 1 to 32 lanes, 1 to 64
     /// tries and 1 to 1,048,575 numbers, and then as `Memory`.
     pub fn open_for(
         alloc: Global,
@@ -418,7 +418,9 @@ impl Cells {
         }
     }
 
-    /// Makes a fill, a fail or an abandon of the cell, which the lane has claimed.
+    /// Makes a fill, a fail or an abandon of the cell, which the lane has claimed. Each caller's act
+    /// is a constant, so the compiler removes the tests of it.
+    #[inline(always)]
     fn end_claim(&self, lane: &mut CellLane, cell: CellNo, act: Act<CellNo>)
         requires lane { lane.old.cells ≡ self.now.id }
         requires held { IsHeld lane.old.view cell }
@@ -457,7 +459,8 @@ impl Cells {
     }
 
     /// Reads the word at a place, for a lane. The words of the cells stand at their numbers, and
-    /// the count of numbers after them.
+    /// the count of numbers after them. Which of them it is, each caller knows.
+    #[inline(always)]
     pub(crate) fn read(&self, lane: &mut CellLane, place: usize) -> u64
         requires lane { lane.old.cells ≡ self.now.id }
         requires place { place ≤ self.now.id.limits.cells }
@@ -494,7 +497,9 @@ impl Cells {
     }
 
     /// Makes an event, which changes the word at its place, if that is still the word that was
-    /// seen, and else answers the word that it found.
+    /// seen, and else answers the word that it found. The act is for the proof alone: inlined, it
+    /// costs nothing.
+    #[inline(always)]
     fn exchange(
         &self,
         lane: &mut CellLane,

@@ -14,18 +14,23 @@ use Rattle.ext_closing.specs.Closing.{Answer, ClosesNumbers, NamesUnjoined}
 
 -- `is_closeable` says which values the action closes, and `gives` what a call of the action may answer. The context is
 -- the closer's.
-module _ {V A : Type 0} (is_closeable : V → Bool) (gives : A → ℕ → V → Answer → A → Type 0) (store : StoreView) (closer : CloserView) where
+module _ {V A : Type 0} (is_closeable : V → Bool) (gives : A → ℕ → V → Answer → A → Type 0) (store : StoreView)
+    (closer : CloserView) where
   -- One close: the lanes in hand and the action before it, its result, and both after it.
-  pub record Closes (before : List (StoreLane V)) (first : A) (result : Result Closed (CloserView × CloseFault)) (after : List (StoreLane V)) (last : A) : Type 0 where
+  pub record Closes (before : List (StoreLane V)) (first : A) (result : Result Closed (CloserView × CloseFault))
+      (after : List (StoreLane V)) (last : A) : Type 0 where
     -- The first lane seals the keys and does nothing else. If a seal is refused it stops there.
     pub stops : StopsBy store closer.context (first_lane store before) (first_lane store after) (fault_beside result)
     pub sealed : AreSealed store closer.context (keys_sealed store (fault_beside result)) (first_lane store after)
     pub own_events : MakesSeals store closer.context (first_lane store before) (first_lane store after)
     -- The action closes the closeable values that remain, and is called for nothing else.
-    pub closes : IfOk result (λ closed. ClosesNumbers is_closeable gives after (numbers_left store closer.context (first_lane store after)) first last closed)
+    pub closes : IfOk result
+        (λ closed. ClosesNumbers is_closeable gives after (numbers_left store closer.context (first_lane store after))
+        first last closed)
     -- A refused close hands the closer back and has not called the action. A close refused as `Unjoined` names the
     -- value.
-    pub unjoined : IfErr result (λ e. NamesUnjoined after (numbers_left store closer.context (first_lane store after)) e.1)
+    pub unjoined : IfErr result
+        (λ e. NamesUnjoined after (numbers_left store closer.context (first_lane store after)) e.1)
     pub handed_back : IfErr result (λ e. e.0 ≡ closer)
     pub not_called : IfErr result (λ e. last ≡ first)
     -- The lanes know and keep what they did, and only the first made steps.
@@ -40,7 +45,8 @@ module _ {V A : Type 0} (is_closeable : V → Bool) (gives : A → ℕ → V →
   IsRefused action before why after = Closes before action (Err (closer, why)) after action
 
   -- The close is refused any number of times, for whatever reasons, and then succeeds.
-  pub record ClosesAtLast (before : List (StoreLane V)) (first : A) (closed : Closed) (after : List (StoreLane V)) (last : A) : Type 0 where
+  pub record ClosesAtLast (before : List (StoreLane V)) (first : A) (closed : Closed) (after : List (StoreLane V))
+      (last : A) : Type 0 where
     pub refusals : List CloseFault
     pub asked : List (StoreLane V)
     pub refused : FoldsTo (IsRefused first) before refusals asked
@@ -48,7 +54,8 @@ module _ {V A : Type 0} (is_closeable : V → Bool) (gives : A → ℕ → V →
 
 -- A context that could not be closed: its keys are sealed, but no lane in hand knows the value of this number, the
 -- greatest such one that remains. A close refused as `Unjoined` leaves it so, and calls no action.
-pub record IsLeftUnjoined {V : Type 0} (store : StoreView) (closer : CloserView) (before : List (StoreLane V)) (number : ℕ) (after : List (StoreLane V)) : Type 0 where
+pub record IsLeftUnjoined {V : Type 0} (store : StoreView) (closer : CloserView) (before : List (StoreLane V))
+    (number : ℕ) (after : List (StoreLane V)) : Type 0 where
   pub sealed : AreSealed store closer.context (length store.id.keys) (first_lane store after)
   pub own_events : MakesSeals store closer.context (first_lane store before) (first_lane store after)
   pub unjoined : IsGreatestUnjoined after (numbers_left store closer.context (first_lane store after)) number
@@ -62,6 +69,8 @@ pub record IsLeftUnjoined {V : Type 0} (store : StoreView) (closer : CloserView)
 -- promised by `recall`.
 abbrev pub AskedAgainIsOne : {V A : Type 0} → (V → Bool) → (A → ℕ → V → Answer → A → Type 0) → Type 0
 AskedAgainIsOne {V} {A} is_closeable gives =
-    (store : StoreView) (closer : CloserView) (before : List (StoreLane V)) (first : A) (closed : Closed) (after : List (StoreLane V)) (last : A)
+    (store : StoreView) (closer : CloserView) (before : List (StoreLane V)) (first : A) (closed : Closed)
+    (after : List (StoreLane V)) (last : A)
     → IsLegal store.id.cells.limits (seen_by (first_lane store after).view) → All (IsLaneOf store.id) before
-    → ClosesAtLast is_closeable gives store closer before first closed after last → Closes is_closeable gives store closer before first (Ok closed) after last
+    → ClosesAtLast is_closeable gives store closer before first closed after last
+    → Closes is_closeable gives store closer before first (Ok closed) after last

@@ -38,19 +38,23 @@ pub record Closing (A : Type 0) : Type 0 where
 module _ {V A : Type 0} (is_closeable : V → Bool) (gives : A → ℕ → V → Answer → A → Type 0) where
   -- If the value is closeable, one call with the number and the value; otherwise no call.
   abbrev pub CallIf : Bool → ℕ → V → Closing A → Closing A → Type 0
-  CallIf true number value before after = (answer : Answer) × gives before.action number value answer after.action × (after.answers ≡ before.answers ++ answer ∷ [])
+  CallIf true number value before after = (answer : Answer) × gives before.action number value answer after.action
+      × (after.answers ≡ before.answers ++ answer ∷ [])
   CallIf false number value before after = after ≡ before
 
   -- What a close does for one number: a lane in hand knows its value, and the action is called with both if the value
   -- is closeable.
   abbrev pub ClosesOne : List (StoreLane V) → Closing A → ℕ → Closing A → Type 0
-  ClosesOne lanes before number after = (value : V) × IsKnown lanes number value × CallIf (is_closeable value) number value before after
+  ClosesOne lanes before number after = (value : V) × IsKnown lanes number value
+      × CallIf (is_closeable value) number value before after
 
   -- The action goes from its first to its last state by these calls for the numbers, in order, and this is reported of
   -- their answers.
-  pub record ClosesNumbers (lanes : List (StoreLane V)) (numbers : List ℕ) (first last : A) (closed : Closed) : Type 0 where
+  pub record ClosesNumbers (lanes : List (StoreLane V)) (numbers : List ℕ) (first last : A) (closed : Closed)
+      : Type 0 where
     pub answers : List Answer
-    pub calls : FoldsTo (ClosesOne lanes) (record { action = first; answers = [] }) numbers (record { action = last; answers = answers })
+    pub calls : FoldsTo (ClosesOne lanes) (record { action = first; answers = [] }) numbers
+        (record { action = last; answers = answers })
     pub counts : closed ≡ counted answers
 
 -- The closeable ones among these numbers, in order, judged by a value that a lane in hand knows.
@@ -62,7 +66,9 @@ module _ {V : Type 0} (is_closeable : V → Bool) where
   abbrev pub AreCloseable : List (StoreLane V) → List ℕ → List ℕ → Type 0
   AreCloseable lanes [] closeable = closeable ≡ []
   AreCloseable lanes (number ∷ numbers) closeable =
-      (value : V) × IsKnown lanes number value × ((more : List ℕ) × AreCloseable lanes numbers more × (closeable ≡ if_closeable (is_closeable value) number more))
+      (value : V) × IsKnown lanes number value
+      × ((more : List ℕ) × AreCloseable lanes numbers more
+      × (closeable ≡ if_closeable (is_closeable value) number more))
 
 -- ---- refusals
 

@@ -15,7 +15,8 @@ first_lane store (lane ∷ others) = lane.cells
 -- The lanes after the first has made its steps.
 abbrev pub with_first : {V : Type 0} → Lane → List (StoreLane V) → List (StoreLane V)
 with_first cells [] = []
-with_first cells (lane ∷ others) = record { cells = cells; known = lane.known; faults = lane.faults; keys = lane.keys } ∷ others
+with_first cells (lane ∷ others) =
+    record { cells = cells; known = lane.known; faults = lane.faults; keys = lane.keys } ∷ others
 
 -- Only the first lane made steps, and no lane learnt a value or a fault.
 abbrev pub OnlyFirstSteps : {V : Type 0} → List (StoreLane V) → List (StoreLane V) → Type 0

@@ -60,7 +60,8 @@ pub record SealOvertaken (store : StoreView) (context key : ℕ) (before after :
   pub last : IsOvertakenAt store.tries before after (Seal (cell_in store key context))
 
 -- The keys before this one were sealed, and of the others only some that nobody used. Then its own seal was refused.
-pub record StopsAt (store : StoreView) (context key : ℕ) (IsRefused : Lane → Lane → Type 0) (before after : Lane) : Type 0 where
+pub record StopsAt (store : StoreView) (context key : ℕ) (IsRefused : Lane → Lane → Type 0) (before after : Lane)
+    : Type 0 where
   pub key_is : key < length store.id.keys
   pub between : Lane
   pub made : MakesSeals store context before between
@@ -71,8 +72,10 @@ pub record StopsAt (store : StoreView) (context key : ℕ) (IsRefused : Lane →
 -- A seal is refused because a lane was computing a value for the context, or because other lanes were in the way.
 abbrev pub StopsBy : StoreView → ℕ → Lane → Lane → Option CloseFault → Type 0
 StopsBy store context before after None = Unit {0}
-StopsBy store context before after (Some (Busy key)) = StopsAt store context key (IsBusyThere store context key) before after
-StopsBy store context before after (Some (Contended key)) = StopsAt store context key (SealOvertaken store context key) before after
+StopsBy store context before after (Some (Busy key)) =
+    StopsAt store context key (IsBusyThere store context key) before after
+StopsBy store context before after (Some (Contended key)) =
+    StopsAt store context key (SealOvertaken store context key) before after
 StopsBy store context before after (Some (Unjoined number)) = Unit {0}
 
 abbrev pub fault_of : {A : Type 0} → Result A CloseFault → Option CloseFault

@@ -25,7 +25,7 @@ set_same (w ∷ ws) (suc k) = ap (λ t. w ∷ t) (set_same ws k)
 
 module _ {T O : Type 0} (items : List T) where
   -- the counter never goes far past the items
-  word_bound : (s : State (Slot T O) (Drawn T O)) → Kept items s → slice_index s.words 0 ≤ length items + 17
+  word_bound : (s : State (Slot T O) (Drawn T O)) → Kept items s → slice_index s.words 0 ≤ length items + 33
   word_bound s kept =
       let most = total_most (λ v. ends (length items) v.draws) (λ v. v.parts) s.views (λ i v at. (kept.fits i v at).few) in
       let parts = kept.parts in
@@ -426,9 +426,9 @@ module _ {T O : Type 0} (items : List T) where
   homes_stand (x ∷ xs) zero l = refl
   homes_stand (x ∷ xs) (suc k) l = homes_stand xs k (omega (arith, l))
 
-  pub opens : Kept items (opening (0 ∷ []) (map slot.Item items) (drawn {O = O} 17 [] [] items))
+  pub opens : Kept items (opening (0 ∷ []) (map slot.Item items) (drawn {O = O} 33 [] [] items))
   opens =
-      let first : Drawn T O = drawn 17 [] [] items in
+      let first : Drawn T O = drawn 33 [] [] items in
       let homes : List (maybe.Option (Slot T O)) = map some (map slot.Item items) in
       record {
         size = refl;
@@ -448,7 +448,7 @@ module _ {T O : Type 0} (items : List T) where
       }
 
   -- the seat that stands for all of them has drawn each number below the counter once, and no other; and each outcome that it gave back stands in its slot
-  pub ends_with : (id : ℕ) (v : Drawn T O) (ws : List ℕ) (xs : List (Slot T O)) → v.parts ≡ 17 → Final {S = Slot T O} (Seen (λ s. Kept items s) id v) ws xs
+  pub ends_with : (id : ℕ) (v : Drawn T O) (ws : List ℕ) (xs : List (Slot T O)) → v.parts ≡ 33 → Final {S = Slot T O} (Seen (λ s. Kept items s) id v) ws xs
       → ((drawn : ℕ) × ((x : ℕ) → times x v.draws ≡ cond (ltb x drawn) 1 0)) × (length xs ≡ length items) × All (λ d. get_elem? xs d.job ≡ some (slot.Outcome d.outcome)) v.given
   ends_with id v ws xs all last =
       let s = last.0 in

@@ -93,26 +93,30 @@ Stands homes d = get_elem? homes d.job ≡ some (some (slot.Outcome d.outcome))
 pub record Kept {T O : Type 0} (items : List T) (s : State (Slot T O) (Drawn T O)) : Type 0 where
   pub size : length s.words ≡ 1
   pub slots : length s.homes ≡ length items
-  pub parts : total (λ v. v.parts) s.views ≡ 17
+  pub parts : total (λ v. v.parts) s.views ≡ 33
   pub once : (x : ℕ) → total (λ v. times x v.draws) s.views ≡ cond (ltb x (slice_index s.words 0)) 1 0
   pub count : total (λ v. length v.draws) s.views ≡ slice_index s.words 0
   pub bound : slice_index s.words 0 ≤ length items + total (λ v. ends (length items) v.draws) s.views
   pub fits : (seat : ℕ) (v : Drawn T O) → get_elem? s.views seat ≡ some v → Fits items v
-  pub stand : (k : ℕ) → slice_index s.words 0 ≤ k → k < length items → get_elem? s.homes k ≡ some (some (slot_of (slice_get items k)))
+  pub stand : (k : ℕ) → slice_index s.words 0 ≤ k → k < length items
+      → get_elem? s.homes k ≡ some (some (slot_of (slice_get items k)))
   pub given : (seat : ℕ) (v : Drawn T O) → get_elem? s.views seat ≡ some v → All (λ d. Stands s.homes d) v.given
 
 -- ---- what a worker learns from a step
 
--- Nothing changed, and the counter is at most 17 past the items.
-pub record Loaded {T O : Type 0} (v : Me (Slot T O) (Drawn T O)) (found : ℕ) (w : Me (Slot T O) (Drawn T O)) : Type 0 where
+-- Nothing changed, and the counter is at most 33 past the items.
+pub record Loaded {T O : Type 0} (v : Me (Slot T O) (Drawn T O)) (found : ℕ) (w : Me (Slot T O) (Drawn T O))
+    : Type 0 where
   pub same : w ≡ v
-  pub bound : found ≤ length v.0.items + 17
+  pub bound : found ≤ length v.0.items + 33
 
 -- The number was drawn. The slot taken before is back with its outcome. If the number has a slot, it was taken with its
 -- item.
-pub record Took {T O : Type 0} (v : Me (Slot T O) (Drawn T O)) (found : ℕ) (w : Me (Slot T O) (Drawn T O)) : Type 0 where
+pub record Took {T O : Type 0} (v : Me (Slot T O) (Drawn T O)) (found : ℕ) (w : Me (Slot T O) (Drawn T O))
+    : Type 0 where
   pub view : w.0 ≡ drawn v.0.parts (v.0.draws ++ found ∷ []) (done_by v) v.0.items
-  pub slots : w.1 ≡ cond (ltb found (length v.0.items)) ((found, slot_of (slice_get v.0.items found)) ∷ rest v.1) (rest v.1)
+  pub slots : w.1 ≡ cond (ltb found (length v.0.items)) ((found, slot_of (slice_get v.0.items found)) ∷ rest v.1)
+      (rest v.1)
   pub later : length v.0.draws ≤ found
 
 -- An exchange that finds the expected number is a draw. Any other is a load.
@@ -152,12 +156,14 @@ pub record IsDrawing {T O : Type 0} (items : List T) (me : Me (Slot T O) (Drawn 
   pub holds : HoldsOutcome me.1
 
 -- While a job runs: the worker holds the job's slot, with nothing in it.
-pub record HasDrawn {T O : Type 0} (items : List T) (me : Me (Slot T O) (Drawn T O)) (done : List (Done O)) (job : ℕ) : Type 0 where
+pub record HasDrawn {T O : Type 0} (items : List T) (me : Me (Slot T O) (Drawn T O)) (done : List (Done O)) (job : ℕ)
+    : Type 0 where
   pub left : me ≡ (drawn 1 (jobs_of done ++ job ∷ []) done items, (job, slot.Empty) ∷ [])
   pub no_end : ends (length items) (jobs_of done ++ job ∷ []) ≡ 0
 
 -- After a draw past the last job: it no longer holds anything.
-pub record HasEnded {T O : Type 0} (items : List T) (me : Me (Slot T O) (Drawn T O)) (done : List (Done O)) : Type 0 where
+pub record HasEnded {T O : Type 0} (items : List T) (me : Me (Slot T O) (Drawn T O)) (done : List (Done O))
+    : Type 0 where
   pub end : ℕ
   pub past : length items ≤ end
   pub left : me ≡ (drawn 1 (jobs_of done ++ end ∷ []) done items, [])
@@ -169,10 +175,10 @@ pub record HasEnded {T O : Type 0} (items : List T) (me : Me (Slot T O) (Drawn T
 abbrev pub IsCounter : {T : Type 0} → TableId → List T → ℕ → Type 0
 IsCounter table items count = (table.words ≡ 1) × (length items ≡ count) × (count ≤ 65536) × (table.slots ≡ count)
 
--- This is the counter of these items, nothing was drawn from it, and its first seat stands for all 17 seats that there
+-- This is the counter of these items, nothing was drawn from it, and its first seat stands for all 33 seats that there
 -- may be.
 pub record IsOpen {T O : Type 0} (table : TableId) (key items : List T) (first : Hand T O) : Type 0 where
   pub counter : IsCounter table key (length items)
   pub same_items : key ≡ items
   pub same_table : first.table_id ≡ table
-  pub me : first.me ≡ (drawn 17 [] [] items, [])
+  pub me : first.me ≡ (drawn 33 [] [] items, [])

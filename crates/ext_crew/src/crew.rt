@@ -17,7 +17,7 @@ use std::thread::Threads;
 /// Runs one job for each item on several workers and gives the outcomes in the order of the items.
 /// Takes memory and may wait.
 ///
-/// Both slices have the same length, 1 to 16, and there are at most 65,536 items, possibly none.
+/// Both slices have the same length, 1 to 32, and there are at most 65,536 items, possibly none.
 /// The number of workers is the smaller of that length and the number of items. Each is lent its
 /// own consecutive share of both slices; the lengths of the shares differ by at most one, and
 /// longer ones come first. Workers draw jobs in the order of the items, each its next one when it
@@ -52,7 +52,7 @@ pub fn run_children<
     gate: &G,
 ) -> Result<Vec<O, M>, CrewFault>
     requires lengths { (0 < length first.old) × (length second.old ≡ length first.old) }
-    requires limits { (length first.old ≤ 16) × (length items.items ≤ 65536) }
+    requires limits { (length first.old ≤ 32) × (length items.items ≤ 65536) }
     requires accepts { AcceptsParts F.Fn run.now items.items
         (record { first = first.old; second = second.old }) }
     ensures run { IfOk result (λ v. RunByDealing (Runs F.Fn run.now items.items)
@@ -89,7 +89,7 @@ fn open_crew<T: Drop, O: Drop, M: Allocator + Clone>(
     items: Vec<T, M>,
     workers: usize,
 ) -> Result<(Crew<T, O, M>, Vec<O, M>), AllocError>
-    requires few { (length items.items ≤ 65536) × (workers ≤ 16) }
+    requires few { (length items.items ≤ 65536) × (workers ≤ 32) }
     ensures { IfOk result (λ made. IsOpenedFor items.items workers made.0.table.shared.table_id made.0.table.shared.key.value.items
         made.0.seat made.0.hands.items × (length items.items ≤ vec_capacity made.1) × (made.1.items ≡ [])) }
 {

@@ -18,13 +18,13 @@ pub(crate) fn make_hands<T: Drop, O: Drop, M: Allocator + Clone>(
     workers: usize,
 ) -> Result<Vec<Hand<T, O>, M>, AllocError>
     requires counter { IsCounter counter.now.table_id counter.now.key.value.items (length counter.now.key.value.items) }
-    requires workers { workers ≤ 16 }
+    requires workers { workers ≤ 32 }
     requires first { (first.old.table_id ≡ counter.now.table_id)
-        × (first.old.me ≡ (drawn 17 [] [] counter.now.key.value.items, [])) }
+        × (first.old.me ≡ (drawn 33 [] [] counter.now.key.value.items, [])) }
     ensures count { IfOk result (λ v. vec_len v ≡ workers) }
     ensures ready { IfOk result (λ v. All (λ h. IsReady counter.now.table_id counter.now.key.value.items h) v.items) }
     ensures first { IfOk result (λ v. (first.new.table_id ≡ first.old.table_id)
-        × (first.new.me ≡ (drawn (17 - workers) [] [] counter.now.key.value.items, []))) }
+        × (first.new.me ≡ (drawn (33 - workers) [] [] counter.now.key.value.items, []))) }
 {
     let mut hands = Vec::with_capacity(alloc.clone()?, workers)?;
     for _ in 0..workers {

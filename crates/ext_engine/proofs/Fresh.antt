@@ -31,7 +31,7 @@ fresh_idle locks lanes (suc n) =
 -- ---- that they can be used
 
 -- all lanes of a store that was opened for so many, and as many lanes of the locks that hold nothing
-pub idle_usable : {V : Type 0} (store : StoreView) (locks : LocksView) (lanes : ℕ) (first : List (StoreLane V)) (second : List Lane) → (1 ≤ lanes) × (lanes ≤ 16)
+pub idle_usable : {V : Type 0} (store : StoreView) (locks : LocksView) (lanes : ℕ) (first : List (StoreLane V)) (second : List Lane) → (1 ≤ lanes) × (lanes ≤ 32)
     → first ≡ map (fresh_store_lane store.id.places store.id.fault_places store.id.keys) (fresh_lanes store.id.cells 0 lanes) → All (IsLaneOf store.id) first → length second ≡ lanes → All (IsIdle locks) second
     → IsUsable store locks (record { first = first; second = second })
 idle_usable {V} store locks lanes first second few is own others idle =
@@ -46,7 +46,7 @@ idle_usable {V} store locks lanes first second few is own others idle =
     }
 
 -- all lanes of the store and all of the locks, where both were opened for so many
-pub fresh_usable : {V : Type 0} (store : StoreView) (locks : LocksView) (lanes : ℕ) (first : List (StoreLane V)) (second : List Lane) → (1 ≤ lanes) × (lanes ≤ 16)
+pub fresh_usable : {V : Type 0} (store : StoreView) (locks : LocksView) (lanes : ℕ) (first : List (StoreLane V)) (second : List Lane) → (1 ≤ lanes) × (lanes ≤ 32)
     → first ≡ map (fresh_store_lane store.id.places store.id.fault_places store.id.keys) (fresh_lanes store.id.cells 0 lanes) → All (IsLaneOf store.id) first → second ≡ locking.fresh_lanes locks.table lanes lanes
     → IsUsable store locks (record { first = first; second = second })
 fresh_usable store locks lanes first second few is own are =

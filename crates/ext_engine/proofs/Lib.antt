@@ -14,6 +14,7 @@ pub mod Grown
 pub mod InTree
 pub mod Items
 pub mod Lanes
+pub mod LeafRuns
 pub mod Meets
 pub mod Named
 pub mod NodeCalls

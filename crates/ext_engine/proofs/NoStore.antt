@@ -25,7 +25,7 @@ in_range size keys lanes tries numbers some = record {
   keys_fit = (fits 1 keys (λ h. some (λ w. let l = w.keys_fit.0 in omega (arith, h, l))), fits keys 1024 (λ h. some (λ w. let l = w.keys_fit.1 in omega (arith, h, l))));
   others_fit = record {
     cells_fit = omega arith;
-    lanes_fit = (fits 1 lanes (λ h. some (λ w. let l = w.others_fit.lanes_fit.0 in omega (arith, h, l))), fits lanes 16 (λ h. some (λ w. let l = w.others_fit.lanes_fit.1 in omega (arith, h, l))));
+    lanes_fit = (fits 1 lanes (λ h. some (λ w. let l = w.others_fit.lanes_fit.0 in omega (arith, h, l))), fits lanes _ (λ h. some (λ w. let l = w.others_fit.lanes_fit.1 in omega (arith, h, l))));
     tries_fit = (fits 1 tries (λ h. some (λ w. let l = w.others_fit.tries_fit.0 in omega (arith, h, l))), fits tries 64 (λ h. some (λ w. let l = w.others_fit.tries_fit.1 in omega (arith, h, l))));
     numbers_fit = (fits 1 numbers (λ h. some (λ w. let l = w.others_fit.numbers_fit.0 in omega (arith, h, l))), fits numbers _ (λ h. some (λ w. let l = w.others_fit.numbers_fit.1 in omega (arith, h, l))));
   };

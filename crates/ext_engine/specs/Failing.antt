@@ -21,7 +21,8 @@ pub use Rattle.ext_engine.specs.NodeFailing.{IsFirstRefusal, IsLeftOpen, IsLeftU
 -- ---- children
 
 -- `Child` says what the run of a child does that reaches its end, and `Early` what one does that ends early.
-module _ {V : Type 0} (Child : ℕ → Lanes V → List Ran → Lanes V → Type 0) (Early : ℕ → Lanes V → EngineFault → Lanes V → Type 0) where
+module _ {V : Type 0} (Child : ℕ → Lanes V → List Ran → Lanes V → Type 0)
+    (Early : ℕ → Lanes V → EngineFault → Lanes V → Type 0) where
   -- A child was run to its end, or ended early.
   abbrev pub EndsAs : ℕ → Lanes V → Result (List Ran) EngineFault → Lanes V → Type 0
   EndsAs node before (Ok ran) after = Child node before ran after
@@ -30,7 +31,8 @@ module _ {V : Type 0} (Child : ℕ → Lanes V → List Ran → Lanes V → Type
   -- All of these children were run beside one another. Some ended early, and the run reports the first of them.
   pub record EndsBeside (nodes : List ℕ) (before : Lanes V) (why : EngineFault) (after : Lanes V) : Type 0 where
     pub outcomes : List (Result (List Ran) EngineFault)
-    pub dealt : RunByDealing (λ i s outcome u. EndsAs (slice_index_or nodes i 0) s outcome u) (length nodes) (min (length before.first) (length nodes)) before outcomes after
+    pub dealt : RunByDealing (λ i s outcome u. EndsAs (slice_index_or nodes i 0) s outcome u) (length nodes)
+        (min (length before.first) (length nodes)) before outcomes after
     pub told : IsFirstRefusal outcomes why
 
   -- These children were run one after another, each with the whole share, up to one that ended early. The rest were not
@@ -48,19 +50,22 @@ module _ {V : Type 0} (Child : ℕ → Lanes V → List Ran → Lanes V → Type
 -- ---- containers
 
 -- There was no memory for the workers of a container's concurrent children. None of its children was run.
-pub record HasNoWorkers {V A : Type 0} (t : TreeSetting V A) (node : ℕ) (before : Lanes V) (why : EngineFault) (after : Lanes V) : Type 0 where
+pub record HasNoWorkers {V A : Type 0} (t : TreeSetting V A) (node : ℕ) (before : Lanes V) (why : EngineFault)
+    (after : Lanes V) : Type 0 where
   pub some_beside : concurrent_children t node ≢ []
   pub told : why ≡ faults.Memory
   pub untouched : after ≡ before
 
-module _ {V A : Type 0} (t : TreeSetting V A) (Child : ℕ → Lanes V → List Ran → Lanes V → Type 0) (Early : ℕ → Lanes V → EngineFault → Lanes V → Type 0) where
+module _ {V A : Type 0} (t : TreeSetting V A) (Child : ℕ → Lanes V → List Ran → Lanes V → Type 0)
+    (Early : ℕ → Lanes V → EngineFault → Lanes V → Type 0) where
   -- The container's concurrent children reached their ends, and the first lane was shown what all have seen. Then one
   -- of the other children ended early.
   pub record EndsBehind (node : ℕ) (before : Lanes V) (why : EngineFault) (after : Lanes V) : Type 0 where
     pub beside : List (List Ran)
     pub between : Lanes V
     pub dealt : RunByDealing (λ i s ran u. Child (slice_index_or (concurrent_children t node) i 0) s ran u)
-        (length (concurrent_children t node)) (min (length before.first) (length (concurrent_children t node))) before beside between
+        (length (concurrent_children t node)) (min (length before.first) (length (concurrent_children t node))) before
+        beside between
     pub joined : List (StoreLane V)
     pub joins : Joins t.store between.first joined
     pub in_turn : EndsInTurn Child Early (same_thread_children t node) (with_lanes joined between) why after
@@ -75,7 +80,8 @@ module _ {V A : Type 0} (t : TreeSetting V A) (Child : ℕ → Lanes V → List 
 
   -- The container's body was run if it had to be, all its after-callbacks were made, and its context could not be
   -- closed.
-  pub record EndsUnclosed (node : ℕ) (path : List ℕ) (go : Bool) (before : Lanes V) (why : EngineFault) (after : Lanes V) : Type 0 where
+  pub record EndsUnclosed (node : ℕ) (path : List ℕ) (go : Bool) (before : Lanes V) (why : EngineFault)
+      (after : Lanes V) : Type 0 where
     pub body : Lanes V
     pub below : List Ran
     pub body_made : BodyMade t Child go node before below body
@@ -84,7 +90,8 @@ module _ {V A : Type 0} (t : TreeSetting V A) (Child : ℕ → Lanes V → List 
 
   -- A container's before-callbacks were made. Then its body ended early, with no after-callback and no close; or its
   -- context could not be closed.
-  pub record ContainerEndsEarly (node : ℕ) (path : List ℕ) (before : Lanes V) (why : EngineFault) (after : Lanes V) : Type 0 where
+  pub record ContainerEndsEarly (node : ℕ) (path : List ℕ) (before : Lanes V) (why : EngineFault) (after : Lanes V)
+      : Type 0 where
     pub befores : List Outcome
     pub opened : List (StoreLane V)
     pub befores_made : CallsBefores t node path before.first befores opened
@@ -101,15 +108,20 @@ module _ {V A : Type 0} (t : TreeSetting V A) where
       IsNotBegun before why after
       ⊎ ((path : List ℕ) × IsPathOf t.store.tree node path
       × (t.suite.is_test node ≡ true → TestEndsEarly t node path before why after)
-      × (t.suite.is_test node ≡ false → ContainerEndsEarly t (λ child s below u. TreeRun t depth child s below u) (λ child s y u. EndsEarly depth child s y u) node path before why after))
+      × (t.suite.is_test node ≡ false
+      → ContainerEndsEarly t (λ child s below u. TreeRun t depth child s below u)
+      (λ child s y u. EndsEarly depth child s y u) node path before why after))
 
   -- ---- laws
 
   -- A run ends early only for lack of memory, or because a context could not be closed.
   abbrev pub EndsByFault : Type 0
-  EndsByFault = (depth node : ℕ) (before : Lanes V) (why : EngineFault) (after : Lanes V) → EndsEarly depth node before why after → IsFault t why
+  EndsByFault = (depth node : ℕ) (before : Lanes V) (why : EngineFault) (after : Lanes V)
+      → EndsEarly depth node before why after → IsFault t why
 
   -- If no node runs beside others, no lane of the run knows the value of the number that the fault names.
   abbrev pub UnknownToAll : Type 0
-  UnknownToAll = (depth top : ℕ) (before : Lanes V) (context number : ℕ) (after : Lanes V) → ((node : ℕ) → t.suite.is_concurrent node ≡ false)
-      → EndsEarly depth top before (faults.Unjoined context number) after → IsRefusedClose t context number after.first × IsUnknown after.first number
+  UnknownToAll = (depth top : ℕ) (before : Lanes V) (context number : ℕ) (after : Lanes V)
+      → ((node : ℕ) → t.suite.is_concurrent node ≡ false)
+      → EndsEarly depth top before (faults.Unjoined context number) after → IsRefusedClose t context number after.first
+      × IsUnknown after.first number

@@ -33,7 +33,8 @@ pub record IsItem (store : StoreView) (parent : ℕ) (item : Item) : Type 0 wher
 -- The item has the closers of all contexts within its node that were among these, and only closers of the store.
 pub record HasTaken (store : StoreView) (closers : List CloserView) (item : Item) : Type 0 where
   pub own : OfStore store item.closers.items
-  pub each : (k : ℕ) → IsWithin store.tree item.node k → Contains (contexts closers) k → Contains (contexts item.closers.items) k
+  pub each : (k : ℕ) → IsWithin store.tree item.node k → Contains (contexts closers) k
+      → Contains (contexts item.closers.items) k
 
 -- An item is a node with the closers of its subtree. Its level and `depth` add up to 17, so that `depth` levels are
 -- enough for the subtree.

@@ -19,7 +19,8 @@ use Rattle.ext_engine.specs.declared.node.parts.Children.{Children}
 -- with room for the outcomes of those that run one after another.
 pub record AreChildren (store : StoreView) (suite : SuiteView) (depth node : ℕ) (children : Children) : Type 0 where
   pub concurrent : map (λ i. i.node) children.beside.items ≡ filter suite.is_concurrent (children_of store.tree node)
-  pub same_thread : map (λ i. i.node) children.in_turn.items ≡ filter (λ c. not (suite.is_concurrent c)) (children_of store.tree node)
+  pub same_thread : map (λ i. i.node) children.in_turn.items
+      ≡ filter (λ c. not (suite.is_concurrent c)) (children_of store.tree node)
   pub beside_below : All (IsNode store depth) children.beside.items
   pub in_turn_below : All (IsNode store depth) children.in_turn.items
   pub few : vec_len children.beside ≤ 65536
@@ -36,14 +37,16 @@ pub record IsOpen (store : StoreView) (node : ℕ) (begun : OpenContainer) : Typ
 
 -- The tally counts the outcomes of the container's before-callbacks, and the after-callbacks are those of a container
 -- with this path.
-pub record IsOpenBy (registered : Kind → ℕ → ℕ) (node : ℕ) (path : List ℕ) (befores : List Outcome) (begun : OpenContainer) : Type 0 where
+pub record IsOpenBy (registered : Kind → ℕ → ℕ) (node : ℕ) (path : List ℕ) (befores : List Outcome)
+    (begun : OpenContainer) : Type 0 where
   pub tally_is : begun.tally ≡ tally_of befores
   pub afters_are : begun.afters.items ≡ afters_of registered false node path
   pub went_on_is : begun.went_on ≡ all_successful (endings_of befores)
 
 module _ {V A : Type 0} (t : TreeSetting V A) where
   -- The container's before-callbacks are called on the first lane, before its children run.
-  pub record Opens (node : ℕ) (before : List (StoreLane V)) (begun : OpenContainer) (opened : List (StoreLane V)) : Type 0 where
+  pub record Opens (node : ℕ) (before : List (StoreLane V)) (begun : OpenContainer) (opened : List (StoreLane V))
+      : Type 0 where
     pub path : List ℕ
     pub path_is : IsPathOf t.store.tree node path
     pub befores : List Outcome

@@ -52,8 +52,11 @@ pub record ArePartsOf {V A : Type 0} (t : TreeSetting V A) (node : ℕ) (parts :
 
 -- How the run of a test ends. `view` gives the nodes that ran.
 module _ {V A : Type 0} (t : TreeSetting V A) where
-  pub record TestEnds {X : Type 0} (view : X → List Ran) (node : ℕ) (before : Lanes V) (result : Result X EngineFault) (after : Lanes V) : Type 0 where
+  pub record TestEnds {X : Type 0} (view : X → List Ran) (node : ℕ) (before : Lanes V) (result : Result X EngineFault)
+      (after : Lanes V) : Type 0 where
     pub lanes : IsUsable t.store t.locks after
     pub count : length after.first ≡ length before.first
-    pub run : IfOk result (λ x. (path : List ℕ) × IsPathOf t.store.tree node path × TestRun t node path before (view x) after)
-    pub early : IfErr result (λ why. (path : List ℕ) × IsPathOf t.store.tree node path × TestEndsEarly t node path before why after)
+    pub run : IfOk result
+        (λ x. (path : List ℕ) × IsPathOf t.store.tree node path × TestRun t node path before (view x) after)
+    pub early : IfErr result
+        (λ why. (path : List ℕ) × IsPathOf t.store.tree node path × TestEndsEarly t node path before why after)

@@ -35,17 +35,20 @@ module _ {V A : Type 0} (t : TreeSetting V A) where
       × IfErr result (λ why. (go ≡ true) × BodyEndsEarly t (TreeRun t depth) (EndsEarly t depth) node before why after)
 
   -- The run of children one after another.
-  abbrev pub TurnEnds : ℕ → List ℕ → Lanes V → Result (Vec (Result (Vec RanNode Global) EngineFault) Global) EngineFault → Lanes V → Type 0
+  abbrev pub TurnEnds : ℕ → List ℕ → Lanes V → Result (Vec (Result (Vec RanNode Global) EngineFault) Global) EngineFault
+      → Lanes V → Type 0
   TurnEnds depth nodes before result after =
       IsUsable t.store t.locks after × (length after.first ≡ length before.first)
       × IfOk result (λ outcomes. RanInTurn (TreeRun t depth) nodes before (flat_map ran_in outcomes.items) after)
       × IfErr result (λ why. EndsInTurn (TreeRun t depth) (EndsEarly t depth) nodes before why after)
 
   -- The run of children beside one another. Each of them reached its end or did not.
-  abbrev pub BesideEnds : ℕ → Vec Item Global → Lanes V → Result (Vec (Result (Vec RanNode Global) EngineFault) Global) EngineFault → Lanes V → Type 0
+  abbrev pub BesideEnds : ℕ → Vec Item Global → Lanes V
+      → Result (Vec (Result (Vec RanNode Global) EngineFault) Global) EngineFault → Lanes V → Type 0
   BesideEnds depth items before result after =
       IsUsable t.store t.locks after × (length after.first ≡ length before.first)
       × IfOk result (λ outcomes. RunByDealing
-      (λ i s answer u. EndsAs (TreeRun t depth) (EndsEarly t depth) (slice_index_or (nodes_in items) i 0) s (answer_of answer) u)
+      (λ i s answer u. EndsAs (TreeRun t depth) (EndsEarly t depth) (slice_index_or (nodes_in items) i 0) s
+      (answer_of answer) u)
       (length items.items) (min (length before.first) (length items.items)) before outcomes.items after)
       × IfErr result (λ why. (items.items ≢ []) × (why ≡ faults.Memory) × (after ≡ before))

@@ -5,6 +5,8 @@ pub mod Failing
 pub mod InnerResults
 pub mod InnerRuns
 pub mod RunLaws
+pub mod LeafRuns
+pub mod LeafSuites
 pub mod Leaves
 pub mod Meeting
 pub mod NodeFailing

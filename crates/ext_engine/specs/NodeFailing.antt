@@ -22,7 +22,8 @@ use Rattle.ext_engine.specs.Suites.{locks_on, IsSetOf}
 
 -- Closes by one closer were refused any number of times, for whatever reasons, and the last as `Unjoined` with this
 -- number: it remains in the context, and no lane in hand knows its value. The action was not called.
-pub record IsLeftOpen {V A : Type 0} (is_closeable : V → Bool) (gives : A → ℕ → V → Answer → A → Type 0) (store : StoreView) (closer : CloserView) (action : A)
+pub record IsLeftOpen {V A : Type 0} (is_closeable : V → Bool) (gives : A → ℕ → V → Answer → A → Type 0)
+    (store : StoreView) (closer : CloserView) (action : A)
     (before : List (StoreLane V)) (number : ℕ) (after : List (StoreLane V)) : Type 0 where
   pub refusals : List CloseFault
   pub asked : List (StoreLane V)
@@ -37,7 +38,8 @@ pub record IsNotBegun {V : Type 0} (before : Lanes V) (why : EngineFault) (after
 
 module _ {V A : Type 0} (t : TreeSetting V A) where
   -- The node's context could not be closed. The fault names the context and the number that remained in it.
-  pub record LeavesOpen (node : ℕ) (before : List (StoreLane V)) (why : EngineFault) (after : List (StoreLane V)) : Type 0 where
+  pub record LeavesOpen (node : ℕ) (before : List (StoreLane V)) (why : EngineFault) (after : List (StoreLane V))
+      : Type 0 where
     pub closer : CloserView
     pub closer_is : IsCloserOf t.store closer
     pub context_is : closer.context ≡ node
@@ -48,7 +50,8 @@ module _ {V A : Type 0} (t : TreeSetting V A) where
     pub told : why ≡ faults.Unjoined node number
 
   -- A test's locks were taken and all its calls made, its context could not be closed, and its locks were given back.
-  pub record TestEndsEarly (node : ℕ) (path : List ℕ) (before : Lanes V) (why : EngineFault) (after : Lanes V) : Type 0 where
+  pub record TestEndsEarly (node : ℕ) (path : List ℕ) (before : Lanes V) (why : EngineFault) (after : Lanes V)
+      : Type 0 where
     pub set : List (ℕ × LockMode)
     pub set_is : IsSetOf t.locks.names (locks_on t.suite path) set
     pub held : HeldView
@@ -56,15 +59,18 @@ module _ {V A : Type 0} (t : TreeSetting V A) where
     pub takes : OnFirst (λ a b. TakesSet t.locks set a held b) before.second locked
     pub outcomes : List Outcome
     pub called : List (StoreLane V)
-    pub calls : OnFirst (λ a b. MakesCalls (MakesOn t node (Some held)) (befores_of t.registered true node path) (test_call node) (afters_of t.registered true node path) a outcomes b) before.first called
+    pub calls : OnFirst (λ a b. MakesCalls (MakesOn t node (Some held)) (befores_of t.registered true node path)
+        (test_call node) (afters_of t.registered true node path) a outcomes b) before.first called
     pub left_open : LeavesOpen node called why after.first
     pub given_back : OnFirst (GivesBack held) locked after.second
 
   -- After a container's children all its after-callbacks were made, and its context could not be closed.
-  pub record IsLeftUnclosed (node : ℕ) (path : List ℕ) (before : List (StoreLane V)) (why : EngineFault) (after : List (StoreLane V)) : Type 0 where
+  pub record IsLeftUnclosed (node : ℕ) (path : List ℕ) (before : List (StoreLane V)) (why : EngineFault)
+      (after : List (StoreLane V)) : Type 0 where
     pub afters : List Outcome
     pub called : List (StoreLane V)
-    pub afters_made : OnFirst (λ a b. MakesAll (MakesOn t node None) (afters_of t.registered false node path) a afters b) before called
+    pub afters_made : OnFirst
+        (λ a b. MakesAll (MakesOn t node None) (afters_of t.registered false node path) a afters b) before called
     pub left_open : LeavesOpen node called why after
 
 -- ---- several nodes

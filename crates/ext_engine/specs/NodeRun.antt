@@ -61,7 +61,8 @@ pub record TreeSetting (V A : Type 0) : Type 1 where
 
 -- The setting for one suite of a type, from what is said of all suites of the type.
 module _ {V S A : Type 0} (is_closeable : V → Bool) (suite_view : S → SuiteView) (registered : S → Kind → ℕ → ℕ)
-    (call_gives : S → StoreView → ℕ → Call → Option HeldView → StoreLane V → Outcome → StoreLane V → Type 0) (action_gives : S → ℕ → A → Type 0) (close_gives : A → ℕ → V → Answer → A → Type 0) where
+    (call_gives : S → StoreView → ℕ → Call → Option HeldView → StoreLane V → Outcome → StoreLane V → Type 0)
+    (action_gives : S → ℕ → A → Type 0) (close_gives : A → ℕ → V → Answer → A → Type 0) where
   abbrev pub setting_of : S → StoreView → LocksView → TreeSetting V A
   setting_of suite store locks = record {
     store = store;
@@ -75,7 +76,8 @@ module _ {V S A : Type 0} (is_closeable : V → Bool) (suite_view : S → SuiteV
   }
 
 -- The setting with other calls.
-abbrev pub with_calls : {V A : Type 0} → (ℕ → Call → Option HeldView → StoreLane V → Outcome → StoreLane V → Type 0) → TreeSetting V A → TreeSetting V A
+abbrev pub with_calls : {V A : Type 0} → (ℕ → Call → Option HeldView → StoreLane V → Outcome → StoreLane V → Type 0)
+    → TreeSetting V A → TreeSetting V A
 with_calls calls t = record {
   store = t.store;
   locks = t.locks;
@@ -107,7 +109,8 @@ pub record OnFirst {X : Type 0} (R : X → X → Type 0) (before after : List X)
 module _ {V A : Type 0} (t : TreeSetting V A) where
   -- The node's context is closed with an action of the node, by one close or by several of which only the last was not
   -- refused. `faults` says how the closes of its values ended, in order.
-  pub record ClosesNode (node : ℕ) (before : List (StoreLane V)) (faults : List (Option Fault)) (after : List (StoreLane V)) : Type 0 where
+  pub record ClosesNode (node : ℕ) (before : List (StoreLane V)) (faults : List (Option Fault))
+      (after : List (StoreLane V)) : Type 0 where
     pub closer : CloserView
     pub closer_is : IsCloserOf t.store closer
     pub context_is : closer.context ≡ node
@@ -132,44 +135,56 @@ module _ {V A : Type 0} (t : TreeSetting V A) where
     pub takes : OnFirst (λ a b. TakesSet t.locks set a held b) before.second locked
     pub outcomes : List Outcome
     pub called : List (StoreLane V)
-    pub calls : OnFirst (λ a b. MakesCalls (MakesOn node (Some held)) (befores_of t.registered true node path) (test_call node) (afters_of t.registered true node path) a outcomes b) before.first called
+    pub calls : OnFirst (λ a b. MakesCalls (MakesOn node (Some held)) (befores_of t.registered true node path)
+        (test_call node) (afters_of t.registered true node path) a outcomes b) before.first called
     pub faults : List (Option Fault)
     pub closes : ClosesNode node called faults after.first
     pub given_back : OnFirst (GivesBack held) locked after.second
-    pub ran_is : ran ≡ record { result = result_of node true (endings_of outcomes) (computed_in outcomes) (found_in outcomes) faults; went_on = true } ∷ []
+    pub ran_is : ran ≡ record {
+      result =
+          result_of node true (endings_of outcomes) (computed_in outcomes) (found_in outcomes) faults;
+      went_on = true;
+    }
+        ∷ []
 
   -- A container before its children: its before-callbacks are called on the first lane, up to the first that isn't
   -- successful.
   abbrev pub CallsBefores : ℕ → List ℕ → List (StoreLane V) → List Outcome → List (StoreLane V) → Type 0
-  CallsBefores node path before befores opened = OnFirst (λ a b. MakesBefores (MakesOn node None) (befores_of t.registered false node path) a befores b) before opened
+  CallsBefores node path before befores opened =
+      OnFirst (λ a b. MakesBefores (MakesOn node None) (befores_of t.registered false node path) a befores b) before
+      opened
 
   -- A container after its children: all its after-callbacks are called on the first lane, its context is closed with
   -- all lanes in hand, and this is its result.
-  pub record EndsContainer (node : ℕ) (path : List ℕ) (befores : List Outcome) (before : List (StoreLane V)) (own : Ran) (after : List (StoreLane V)) : Type 0 where
+  pub record EndsContainer (node : ℕ) (path : List ℕ) (befores : List Outcome) (before : List (StoreLane V)) (own : Ran)
+      (after : List (StoreLane V)) : Type 0 where
     pub afters : List Outcome
     pub called : List (StoreLane V)
-    pub afters_made : OnFirst (λ a b. MakesAll (MakesOn node None) (afters_of t.registered false node path) a afters b) before called
+    pub afters_made : OnFirst (λ a b. MakesAll (MakesOn node None) (afters_of t.registered false node path) a afters b)
+        before called
     pub faults : List (Option Fault)
     pub closes : ClosesNode node called faults after
     pub own_is : own ≡ record {
-      result = result_of node false (endings_of (befores ++ afters)) (computed_in (befores ++ afters)) (found_in (befores ++ afters)) faults;
+      result = result_of node false (endings_of (befores ++ afters)) (computed_in (befores ++ afters))
+          (found_in (befores ++ afters)) faults;
       went_on = all_successful (endings_of befores);
     }
 
 -- ---- conditions
 
--- 1 to 16 lanes, all of the store, and as many lock lanes, all of these locks, that hold nothing.
+-- 1 to 32 lanes, all of the store, and as many lock lanes, all of these locks, that hold nothing.
 pub record IsUsable {V : Type 0} (store : StoreView) (locks : LocksView) (s : Lanes V) : Type 0 where
   pub some : 0 < length s.first
   pub same : length s.second ≡ length s.first
-  pub few : length s.first ≤ 16
+  pub few : length s.first ≤ 32
   pub lanes : All (IsLaneOf store.id) s.first
   pub idle : All (IsIdle locks) s.second
 
 -- The nodes of a suite can be run over this store with these locks: the locks have every name that a node asks for, and
 -- no node is below a test.
 pub record IsRunnable (store : StoreView) (locks : LocksView) (suite : SuiteView) : Type 0 where
-  pub names : (node : ℕ) → node < length store.tree → All (λ asked. IsNamedLock locks.names asked.name) (suite.locks node)
+  pub names : (node : ℕ) → node < length store.tree
+      → All (λ asked. IsNamedLock locks.names asked.name) (suite.locks node)
   pub below : (node : ℕ) → node < length store.tree → suite.is_test node ≡ true → children_of store.tree node ≡ []
 
 -- ---- faults

@@ -8,7 +8,7 @@ use Rattle.ext_store.specs.Stores.{AreStoreLimits, CloserView}
 use Rattle.ext_store.specs.declared.limits.Limits.{Limits}
 use Rattle.ext_store.specs.declared.limits.StoreFault.{StoreFault}
 use Rattle.ext_store.specs.declared.limits.StoreFault.TheVariants as store_faults
-use Rattle.ext_model.specs.Sizes.{most_contexts}
+use Rattle.ext_model.specs.Sizes.{most_contexts, most_lanes}
 use Rattle.ext_model.specs.declared.size.Size.{Size}
 use Rattle.ext_tree.specs.Trees.{Id, IsTreeWithin, HasFault}
 use Rattle.ext_tree.specs.declared.fault.TreeFault.{TreeFault}
@@ -44,7 +44,8 @@ IsNoTree size ids why = HasFault (most_contexts size) ids why
 
 -- The limits are not those of a store; or they are, and memory ran out.
 abbrev pub IsNoStore : Limits → StoreFault → Type 0
-IsNoStore limits store_faults.BadLimit = ¬ AreStoreLimits limits.size limits.keys limits.lanes limits.tries limits.numbers
+IsNoStore limits store_faults.BadLimit =
+    ¬ AreStoreLimits limits.size limits.keys limits.lanes limits.tries limits.numbers
 IsNoStore limits store_faults.Memory = AreStoreLimits limits.size limits.keys limits.lanes limits.tries limits.numbers
 
 -- Why no store is opened: the first reason that applies.
@@ -60,13 +61,15 @@ IsNotOpened ids names limits (faults.Id at why) = ⊥
 IsNotOpened ids names limits (faults.Tree why) = IsNoTree limits.size ids why
 IsNotOpened ids names limits (faults.Store why) = IsTreeWithin (most_contexts limits.size) ids × IsNoStore limits why
 IsNotOpened ids names limits (faults.Locks why) =
-    IsTreeWithin (most_contexts limits.size) ids × AreStoreLimits limits.size limits.keys limits.lanes limits.tries limits.numbers
-    × locking.IsNotOpened names limits.lanes limits.tries why
+    IsTreeWithin (most_contexts limits.size) ids
+    × AreStoreLimits limits.size limits.keys limits.lanes limits.tries limits.numbers
+    × locking.IsNotOpened (most_lanes limits.size) names limits.lanes limits.tries why
 
 -- ---- what is taken out of what was opened
 
 -- The first closer of this context is taken out, and the others stay in order.
-pub record IsTaken (context : ℕ) (before : List CloserView) (closer : CloserView) (after : List CloserView) : Type 0 where
+pub record IsTaken (context : ℕ) (before : List CloserView) (closer : CloserView) (after : List CloserView)
+    : Type 0 where
   pub context_is : closer.context ≡ context
   pub front : List CloserView
   pub rest : List CloserView

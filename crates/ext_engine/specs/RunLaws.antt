@@ -57,8 +57,10 @@ pub record IsOneEach (suite : SuiteView) (count : ℕ) (ran : List Ran) (results
   pub nodes : map (λ r. r.node) results ≡ range_with_len 0 count
   pub tests : map (λ r. r.is_test) results ≡ map suite.is_test (range_with_len 0 count)
   pub of_run : (r : Ran) → Contains ran r → slice_get results r.result.node ≡ Some r.result
-  pub of_skipped : (node : ℕ) → node < count → ¬ HasRun ran node → slice_get results node ≡ Some (skipped_result node (suite.is_test node))
-  pub status : (node : ℕ) (result : ResultOf Fault) → slice_get results node ≡ Some result → (result.status ≡ statuses.Skipped) ↔ (¬ HasRun ran node)
+  pub of_skipped : (node : ℕ) → node < count → ¬ HasRun ran node
+      → slice_get results node ≡ Some (skipped_result node (suite.is_test node))
+  pub status : (node : ℕ) (result : ResultOf Fault) → slice_get results node ≡ Some result
+      → (result.status ≡ statuses.Skipped) ↔ (¬ HasRun ran node)
 
 -- ---- the laws
 
@@ -71,7 +73,8 @@ module _ {V A : Type 0} (t : TreeSetting V A) where
     pub run : TreeRun t depth top before ran after
 
   abbrev pub RunsOnce : Type 0
-  RunsOnce = (top : ℕ) (before : Lanes V) (ran : List Ran) (after : Lanes V) → IsRun top before ran after → IsRunOnce t.store.tree top ran
+  RunsOnce = (top : ℕ) (before : Lanes V) (ran : List Ran) (after : Lanes V) → IsRun top before ran after
+      → IsRunOnce t.store.tree top ran
 
   abbrev pub SkipsExactly : Type 0
   SkipsExactly = (top : ℕ) (before : Lanes V) (ran : List Ran) (after : Lanes V) → IsRun top before ran after
@@ -85,7 +88,8 @@ module _ {V A : Type 0} (t : TreeSetting V A) where
   -- In the results a node is skipped exactly if one above it ran and did not run the nodes below it.
   abbrev pub SkippedBelow : Type 0
   SkippedBelow = (before : Lanes V) (ran : List Ran) (after : Lanes V) → IsRun 0 before ran after
-      → (node : ℕ) (result : ResultOf Fault) → slice_get (all_results t.suite (length t.store.tree) ran) node ≡ Some result
+      → (node : ℕ) (result : ResultOf Fault)
+      → slice_get (all_results t.suite (length t.store.tree) ran) node ≡ Some result
       → (result.status ≡ statuses.Skipped) ↔ ((above : ℕ) × IsBetween t.store.tree 0 above node × RanAs ran above false)
 
   -- A run leaves as many lanes of the store as there were, and as many lock lanes, which hold nothing.
@@ -94,5 +98,6 @@ module _ {V A : Type 0} (t : TreeSetting V A) where
       → IsUsable t.store t.locks before → IsUsable t.store t.locks after × (length after.first ≡ length before.first)
 
 -- The law holds of runs by each suite of a type, over any store and any locks.
-abbrev pub OfRuns : {V S A : Type 0} → (S → StoreView → LocksView → TreeSetting V A) → (TreeSetting V A → Type 0) → Type 0
+abbrev pub OfRuns : {V S A : Type 0} → (S → StoreView → LocksView → TreeSetting V A) → (TreeSetting V A → Type 0)
+    → Type 0
 OfRuns {V} {S} {A} setting Law = (suite : S) (store : StoreView) (locks : LocksView) → Law (setting suite store locks)

@@ -17,7 +17,8 @@ pub record IsIdle (locks : LocksView) (lane : Lane) : Type 0 where
   pub nothing : HoldsNothing lane
 
 -- The set is taken. The lane then holds it and nothing else.
-pub record TakesSet (locks : LocksView) (set : List (ℕ × LockMode)) (before : Lane) (held : HeldView) (after : Lane) : Type 0 where
+pub record TakesSet (locks : LocksView) (set : List (ℕ × LockMode)) (before : Lane) (held : HeldView) (after : Lane)
+    : Type 0 where
   pub events : LaneCalls before after (takes_of before.view.number set)
   pub holds : HoldsExactly after set
   pub held_set : held.set ≡ set

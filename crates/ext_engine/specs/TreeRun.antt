@@ -28,7 +28,8 @@ with_lanes lanes s = record { first = lanes; second = s.second }
 -- ---- children
 
 -- These nodes are run one after another, each with the whole share.
-pub record RanInTurn {A B : Type 0} (Run : ℕ → Share A B → List Ran → Share A B → Type 0) (nodes : List ℕ) (before : Share A B) (ran : List Ran) (after : Share A B) : Type 0 where
+pub record RanInTurn {A B : Type 0} (Run : ℕ → Share A B → List Ran → Share A B → Type 0) (nodes : List ℕ)
+    (before : Share A B) (ran : List Ran) (after : Share A B) : Type 0 where
   pub done : List (ℕ × List Ran)
   pub each : map (λ d. d.0) done ≡ nodes
   pub runs : FoldsTo (λ s d t. Run d.0 s d.1 t) before done after
@@ -56,7 +57,8 @@ module _ {V A : Type 0} (t : TreeSetting V A) where
       pub beside : List (List Ran)
       pub between : Lanes V
       pub dealt : RunByDealing (λ i s ran u. Child (slice_index_or (concurrent_children node) i 0) s ran u)
-          (length (concurrent_children node)) (min (length forked) (length (concurrent_children node))) (with_lanes forked before) beside between
+          (length (concurrent_children node)) (min (length forked) (length (concurrent_children node)))
+          (with_lanes forked before) beside between
       pub joined : List (StoreLane V)
       pub joins : Joins t.store between.first joined
       pub alone : List Ran
@@ -70,13 +72,15 @@ module _ {V A : Type 0} (t : TreeSetting V A) where
 
     -- A container: its before-callbacks, its body if all of them were successful, and what is done after it. It takes
     -- no lock.
-    pub record ContainerRun (node : ℕ) (path : List ℕ) (before : Lanes V) (ran : List Ran) (after : Lanes V) : Type 0 where
+    pub record ContainerRun (node : ℕ) (path : List ℕ) (before : Lanes V) (ran : List Ran) (after : Lanes V)
+        : Type 0 where
       pub befores : List Outcome
       pub opened : List (StoreLane V)
       pub befores_made : CallsBefores t node path before.first befores opened
       pub body : Lanes V
       pub below : List Ran
-      pub body_made : BodyMade (all_successful (endings_of befores)) node (record { first = opened; second = before.second }) below body
+      pub body_made : BodyMade (all_successful (endings_of befores)) node
+          (record { first = opened; second = before.second }) below body
       pub own : Ran
       pub ends : EndsContainer t node path befores body.first own after.first
       pub no_locks : after.second ≡ body.second
@@ -88,4 +92,5 @@ module _ {V A : Type 0} (t : TreeSetting V A) where
   TreeRun (suc depth) node before ran after =
       (path : List ℕ) × IsPathOf t.store.tree node path
       × (t.suite.is_test node ≡ true → TestRun t node path before ran after)
-      × (t.suite.is_test node ≡ false → ContainerRun (λ child s below u. TreeRun depth child s below u) node path before ran after)
+      × (t.suite.is_test node ≡ false
+      → ContainerRun (λ child s below u. TreeRun depth child s below u) node path before ran after)

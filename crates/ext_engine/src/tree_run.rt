@@ -45,7 +45,7 @@ const LEVELS: usize = 16;
 /// concurrent child begins and when it has ended, by its index among those of its container, and
 /// nothing of the root and of other children.
 ///
-/// There are 1 to 16 lanes of the store and as many of the locks, which hold nothing. The closers
+/// There are 1 to 32 lanes of the store and as many of the locks, which hold nothing. The closers
 /// are those of all contexts, in order. The locks have every name that a node asks for, and no node
 /// is below a test. The suite may be run over the store.
 ///

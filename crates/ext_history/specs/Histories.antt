@@ -107,11 +107,13 @@ module _ {E : Type 0} (lane_of : E → ℕ) where
   -- Other lanes made at least `tries` events after the call's first front, and this lane made none.
   pub record IsOvertaken (tries : ℕ) (before after : LaneView E) : Type 0 where
     pub calls : Calls before after []
-    pub passed : (more : List E) × (seen_by after ≡ first_front before after ++ more) × (own lane_of before.number more ≡ []) × (tries ≤ length more)
+    pub passed : (more : List E) × (seen_by after ≡ first_front before after ++ more)
+        × (own lane_of before.number more ≡ []) × (tries ≤ length more)
 
   -- What a call's result means. If the result is `contended`, other lanes were in the way. Any other result is the
   -- reply of one thread at a point of the call, and the lane made exactly the events that this result means.
-  pub record Answers {R : Type 0} (tries : ℕ) (contended : R) (before after : LaneView E) (events_of : R → List E) (reply_at : List E → R) (result : R) : Type 0 where
+  pub record Answers {R : Type 0} (tries : ℕ) (contended : R) (before after : LaneView E) (events_of : R → List E)
+      (reply_at : List E → R) (result : R) : Type 0 where
     pub overtaken : result ≡ contended → IsOvertaken tries before after
     pub replied : result ≢ contended → HoldsAtPoint before after (events_of result) (λ p. result ≡ reply_at p)
 
@@ -125,7 +127,8 @@ module _ {E : Type 0} (lane_of : E → ℕ) where
 -- Between the call's first front and `p`, other lanes made at least `tries` events. The lane itself may have made some,
 -- too.
 abbrev pub IsCrowdedAt : {E : Type 0} → (E → ℕ) → ℕ → LaneView E → LaneView E → List E → Type 0
-IsCrowdedAt lane_of tries before after p = (more : List _) × (p ≡ first_front before after ++ more) × (tries ≤ others lane_of before.number more)
+IsCrowdedAt lane_of tries before after p = (more : List _) × (p ≡ first_front before after ++ more)
+    × (tries ≤ others lane_of before.number more)
 
 -- Other lanes made at least `tries` events between the call's first and last front.
 abbrev pub IsCrowded : {E : Type 0} → (E → ℕ) → ℕ → LaneView E → LaneView E → Type 0

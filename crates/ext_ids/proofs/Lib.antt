@@ -10,4 +10,5 @@ pub mod Refusals
 pub mod Firsts
 pub mod Steps
 pub mod Pairs
+pub mod MadeIds
 pub mod GrammarLaws

@@ -69,9 +69,12 @@ pub data HasFault (text : List ℕ) : IdFault → Type 0 where
       → HasFault text what
   in_value : (before : List Pair) (kind value rest : List ℕ) (what : IdFault) → length before < 16 → kind ≢ []
       → BeginsWith text before (left_bracket ∷ (part_text kind ++ (colon ∷ (part_text value ++ rest))))
-      → value_fault (length (ahead before) + 1 + length (part_text kind) + 1 + length (part_text value)) (has_character value) rest ≡ Some what
+      → value_fault (length (ahead before) + 1 + length (part_text kind) + 1 + length (part_text value))
+      (has_character value) rest ≡ Some what
       → HasFault text what
-  after_segment : (before : List Pair) (last : Pair) (c : ℕ) (rest : List ℕ) → length before < 16 → IsFilled last → c ≢ slash
+  after_segment : (before : List Pair) (last : Pair) (c : ℕ) (rest : List ℕ) → length before < 16 → IsFilled last
+      → c ≢ slash
       → BeginsWith text before (segment_text last ++ (c ∷ rest))
       → HasFault text (faults.RawCharacter (length (ahead before) + length (segment_text last)))
-  too_deep : (before : List Pair) (rest : List ℕ) → length before ≡ 16 → BeginsWith text before rest → HasFault text faults.TooDeep
+  too_deep : (before : List Pair) (rest : List ℕ) → length before ≡ 16 → BeginsWith text before rest
+      → HasFault text faults.TooDeep

@@ -21,7 +21,8 @@ Gives view (Err e) read = read ≡ Err e
 -- The characters that a part spells, after `skip` bytes.
 abbrev pub unescaped : ℕ → List ℕ → List ℕ
 unescaped skip [] = []
-unescaped zero (b ∷ rest) = if b == percent then unwrap_or (escape_of rest) percent ∷ unescaped 2 rest else b ∷ unescaped 0 rest
+unescaped zero (b ∷ rest) = if b == percent then unwrap_or (escape_of rest) percent ∷ unescaped 2 rest
+    else b ∷ unescaped 0 rest
 unescaped (suc skip) (b ∷ rest) = unescaped skip rest
 
 -- A mark that may neither stand in a part nor close one.
@@ -55,7 +56,8 @@ at_bracket parts.Value some at = closed some at
 abbrev pub part_end : Part → ℕ → Bool → List ℕ → Result ℕ IdFault
 part_end part at some [] = Err (ended part at)
 part_end part at some (b ∷ rest) =
-    if b == percent then (if is_some (escape_of rest) then part_end part (at + 1) true rest else Err (faults.BadEscape at))
+    if b == percent then (if is_some (escape_of rest) then part_end part (at + 1) true rest
+    else Err (faults.BadEscape at))
     else if is_raw b then Err (faults.RawCharacter at)
     else if b == colon then at_colon part some at
     else if b == right_bracket then at_bracket part some at
@@ -71,7 +73,8 @@ segment_at text at =
 
 -- The type and the value that end at these places, decoded.
 abbrev pub pair_of : List ℕ → ℕ → ℕ × ℕ → Pair
-pair_of text at ends = (unescaped 0 (slice_range text (at + 1) ends.0), unescaped 0 (slice_range text (ends.0 + 1) ends.1))
+pair_of text at ends =
+    (unescaped 0 (slice_range text (at + 1) ends.0), unescaped 0 (slice_range text (ends.0 + 1) ends.1))
 
 -- What follows the segment whose `]` stands at `close`: the end of the text, or more segments.
 abbrev pub after_segment : List ℕ → ℕ → Pair → Result (List Pair) IdFault → Result (List Pair) IdFault

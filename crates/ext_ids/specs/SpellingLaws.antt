@@ -19,7 +19,8 @@ PairsTellText = (pairs : List Pair) → IsId pairs → HasOneSpelling pairs
 
 -- Spelling the bytes of a part is the same as spelling its characters one by one.
 abbrev pub SpellsCharacters : Type 0
-SpellsCharacters = (characters : List ℕ) → part_text (encode_utf8_all characters) ≡ encode_utf8_all (flat_map spelled characters)
+SpellsCharacters = (characters : List ℕ)
+    → part_text (encode_utf8_all characters) ≡ encode_utf8_all (flat_map spelled characters)
 
 -- The text spells an id or has a fault, never both and never two faults.
 pub record IsDecided (text : List ℕ) : Type 0 where

@@ -6,11 +6,13 @@ ghost use Rattle.ext_ids.specs.Grammar.{Pair, IsId, IsIdText, id_text};
 ghost use Rattle.ext_ids.specs.Reading.{read_id, GivesOrMemory};
 ghost use Rattle.ext_ids.specs.Faults.{HasFault};
 ghost use Rattle.ext_ids.specs.Ids.{is_parent, pair_eq};
+ghost use Rattle.ext_ids.specs.Making.{Makes, pairs_of};
 ghost use Rattle.ext_ids.specs.InnerTraits.{pair_eq_equiv};
 ghost use Rattle.ext_ids.specs.declared.fault.IdFault.{IdFault};
 ghost use Rattle.ext_ids.specs.declared.fault.IdFault.TheVariants.{Memory};
 
 use crate::fault::IdFault;
+use crate::making::{PartFault, fault_at, parts_fault, segments_from, with_segment};
 use crate::scan::{MAX_SEGMENTS, check, segment_ends};
 use crate::segment::{Segment, write_segments};
 use std::alloc::{AllocError, Global};
@@ -60,6 +62,42 @@ impl UniqueId {
         check(text.as_bytes())?;
         let segments = segments_of(alloc, text)?;
         Ok(UniqueId { segments })
+    }
+
+    /// Makes the id of these parts, from the engine's down, each a type and a value as `segment`
+    /// returns them: any characters may stand in both, and `write` escapes the marks. Takes memory.
+    ///
+    /// All parts are looked through, from the left, before memory is taken. The first fault tells:
+    /// `NoPart`, and of each part `TooMany`, `NoType`, `NoValue`. `Memory` comes only if they make
+    /// an id.
+    pub fn from_parts(alloc: Global, parts: &[(&str, &str)]) -> Result<UniqueId, PartFault>
+        ensures made { Makes (pairs_of parts.now) result }
+    {
+        if let Some(fault) = parts_fault(parts) {
+            return Err(fault);
+        }
+        match segments_from(alloc, parts) {
+            Ok(segments) => Ok(UniqueId { segments }),
+            Err(AllocError) => Err(PartFault::Memory),
+        }
+    }
+
+    /// Makes the id with one more segment, of this type and this value, as `append` of JUnit's
+    /// `UniqueId` does: any characters may stand in both, and `write` escapes the marks. Takes
+    /// memory for all of the new id.
+    ///
+    /// Refused like `from_parts` with this part behind those of the id: before memory is taken as
+    /// `TooMany` if the id has 16 segments, as `NoType` or as `NoValue`; else as `Memory`.
+    pub fn append(&self, alloc: Global, kind: &str, value: &str) -> Result<UniqueId, PartFault>
+        ensures made { Makes (self.now ++ (kind.now, value.now) ∷ []) result }
+    {
+        if let Some(fault) = fault_at(self.segments.len(), kind, value) {
+            return Err(fault);
+        }
+        match with_segment(alloc, &self.segments, kind, value) {
+            Ok(segments) => Ok(UniqueId { segments }),
+            Err(AllocError) => Err(PartFault::Memory),
+        }
     }
 
     /// How many segments the id has: 1 to 16. An id is never empty, so there is no `is_empty`.

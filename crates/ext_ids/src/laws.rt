@@ -1,4 +1,5 @@
 //! Laws of the grammar of ids, each the contract of an empty function.
+ghost use Rattle.ext_ids.specs.Making.{FaultsTellIds};
 ghost use Rattle.ext_ids.specs.SpellingLaws.{TextTellsPairs, PairsTellText, SpellsCharacters, EachTextIsDecided};
 
 /// Proves that a text spells at most one id.
@@ -20,4 +21,9 @@ pub fn characters_are_spelled_one_by_one()
 /// Proves that each text either spells an id or has exactly one fault.
 pub fn id_or_fault()
     ensures { EachTextIsDecided }
+{}
+
+/// Proves that parts make an id exactly if they have no fault.
+pub fn parts_or_fault()
+    ensures { FaultsTellIds }
 {}

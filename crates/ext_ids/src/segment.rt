@@ -45,6 +45,16 @@ impl Segment {
         })
     }
 
+    /// The segment of this type and this value.
+    pub fn new(alloc: Global, kind: &str, value: &str) -> Result<Segment, AllocError>
+        ensures { IfOk result (λ s. s ≡ (kind.now, value.now)) }
+    {
+        Ok(Segment {
+            kind: String::from_str(alloc, kind)?,
+            value: String::from_str(alloc, value)?,
+        })
+    }
+
     /// The type and the value.
     pub fn parts(&self) -> (&str, &str)
         ensures { (result.0.now, result.1.now) ≡ self.now }

@@ -16,7 +16,8 @@ test_call node = record { kind = Test; from = node; index = 0 }
 module _ (registered : Kind → ℕ → ℕ) where
   -- The callbacks of one node, in order of registration.
   abbrev pub callbacks : Kind → ℕ → List Call
-  callbacks kind node = map (λ i. record { kind = kind; from = node; index = i }) (range_with_len 0 (registered kind node))
+  callbacks kind node =
+      map (λ i. record { kind = kind; from = node; index = i }) (range_with_len 0 (registered kind node))
 
   -- The callbacks of the contexts on a path, outer contexts first.
   abbrev pub callbacks_on : Kind → List ℕ → List Call
@@ -28,4 +29,5 @@ module _ (registered : Kind → ℕ → ℕ) where
 
   -- The callbacks after the body, in reverse order.
   abbrev pub afters_of : Bool → ℕ → List ℕ → List Call
-  afters_of is_test node path = if is_test then reverse (callbacks_on AfterEach path) else reverse (callbacks AfterAll node)
+  afters_of is_test node path = if is_test then reverse (callbacks_on AfterEach path)
+      else reverse (callbacks AfterAll node)

@@ -52,7 +52,8 @@ module _ {S : Type 0} (makes : S → Call → Outcome → S → Type 0) where
   abbrev pub MakesAll : List Call → S → List Outcome → S → Type 0
   MakesAll [] before outcomes after = (outcomes ≡ []) × (after ≡ before)
   MakesAll (call ∷ calls) before outcomes after =
-      (o : Outcome) × (rest : List Outcome) × (between : S) × (outcomes ≡ o ∷ rest) × makes before call o between × MakesAll calls between rest after
+      (o : Outcome) × (rest : List Outcome) × (between : S) × (outcomes ≡ o ∷ rest) × makes before call o between
+      × MakesAll calls between rest after
 
   -- The calls are made up to and including the first that isn't successful.
   abbrev pub MakesBefores : List Call → S → List Outcome → S → Type 0
@@ -69,7 +70,8 @@ module _ {S : Type 0} (makes : S → Call → Outcome → S → Type 0) where
 
   -- A node whose body is a call: the before-callbacks up to the first that isn't successful, the body if all were, and
   -- then all after-callbacks.
-  pub record MakesCalls (befores : List Call) (body : Call) (afters : List Call) (before : S) (outcomes : List Outcome) (after : S) : Type 0 where
+  pub record MakesCalls (befores : List Call) (body : Call) (afters : List Call) (before : S) (outcomes : List Outcome)
+      (after : S) : Type 0 where
     pub first : List Outcome
     pub second : List Outcome
     pub third : List Outcome

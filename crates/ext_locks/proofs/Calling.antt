@@ -18,7 +18,7 @@ use Rattle.ext_locks.proofs.Whole.{within_of, held_all}
 
 -- what a lane's fields keep
 abbrev IsLaneSeat : Seat (Unit {0}) SeatView → ℕ → Type 0
-IsLaneSeat s l = (s.me.0.number ≡ Some l) × (l < s.me.0.lanes) × (s.me.0.lanes ≤ 16) × Follow [] s.me.0.fronts × IsLegal s.me.0.lanes (seen s.me.0.fronts)
+IsLaneSeat s l = (s.me.0.number ≡ Some l) × (l < s.me.0.lanes) × (s.me.0.lanes ≤ 32) × Follow [] s.me.0.fronts × IsLegal s.me.0.lanes (seen s.me.0.fronts)
 
 pub kept : (s t : Seat (Unit {0}) SeatView) (l : ℕ) (xs : List LockEvent) → IsLaneSeat s l → Makes s t l xs → IsLaneSeat t l
 kept s t l xs was makes =
@@ -26,7 +26,7 @@ kept s t l xs was makes =
     let all : t.me.0.fronts ≡ s.me.0.fronts ++ added = ap (λ (v : LaneView). v.fronts) makes.calls.calls.fronts in (
       makes.number ∙ was.0,
       subst (λ n. l < n) (sym makes.calls.lanes) was.1,
-      subst (λ n. n ≤ 16) (sym makes.calls.lanes) was.2,
+      subst (λ n. n ≤ 32) (sym makes.calls.lanes) was.2,
       subst (Follow []) (sym all) (follow_append [] s.me.0.fronts added was.3 makes.calls.calls.follow),
       makes.legal,
     )

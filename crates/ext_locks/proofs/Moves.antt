@@ -180,7 +180,7 @@ module _ (locks lanes slots id l : ℕ) (me : Me (Unit {0}) SeatView) (mine : me
   pub loads : (k : ℕ) → k < locks → Allows (λ s. Kept locks lanes s.words s.views) slots id me k (λ n. n) (Loads (step slots k 0 0 none) me)
   loads k inside s kept same at small = (seeing me.0 kept.history, keeps, tt, stays k s.words s.views kept at, (refl, loaded k inside s.words s.views kept at))
 
-  module _ (k : ℕ) (m : LockMode) (few : l < 16) (inside : k < locks) where
+  module _ (k : ℕ) (m : LockMode) (few : l < 32) (inside : k < locks) where
     pub takes : (old : ℕ) → IsFreeWord m old
         → Allows (λ s. Kept locks lanes s.words s.views) slots id me k (λ n. either (n == old) (bit_or old (2 ^ bit_of m l)) n) (Takes m (step slots k old (bit_or old (2 ^ bit_of m l)) none) me)
     takes old free s kept same at small = go (slice_index s.words k == old) refl
@@ -225,14 +225,14 @@ module _ (locks lanes slots id l : ℕ) (me : Me (Unit {0}) SeatView) (mine : me
         )
 
   -- the same, at the bit and the mode that the code has
-  pub takes_at : (k : ℕ) (m mode : LockMode) (bit old : ℕ) → l < 16 → k < locks → mode ≡ m → bit ≡ 2 ^ bit_of mode l → IsFreeWord mode old
+  pub takes_at : (k : ℕ) (m mode : LockMode) (bit old : ℕ) → l < 32 → k < locks → mode ≡ m → bit ≡ 2 ^ bit_of mode l → IsFreeWord mode old
       → Allows (λ s. Kept locks lanes s.words s.views) slots id me k (λ n. either (n == old) (bit_or old bit) n) (Takes m (step slots k old (bit_or old bit) none) me)
   takes_at k m mode bit old few inside is set free =
       subst (λ b. Allows (λ s. Kept locks lanes s.words s.views) slots id me k (λ n. either (n == old) (bit_or old b) n) (Takes m (step slots k old (bit_or old b) none) me))
       (sym (set ∙ ap (λ x. 2 ^ bit_of x l) is))
       (takes k m few inside old (subst (λ x. IsFreeWord x old) is free))
 
-  pub gives_back_at : (k : ℕ) (m mode : LockMode) (bit : ℕ) → l < 16 → k < locks → mode ≡ m → bit ≡ 2 ^ bit_of mode l → holds (seen me.0.fronts) k mode l ≡ true
+  pub gives_back_at : (k : ℕ) (m mode : LockMode) (bit : ℕ) → l < 32 → k < locks → mode ≡ m → bit ≡ 2 ^ bit_of mode l → holds (seen me.0.fronts) k mode l ≡ true
       → Allows (λ s. Kept locks lanes s.words s.views) slots id me k (λ n. bit_and n (bit_not w64 bit)) (GivesBack m (step slots k (bit_not w64 bit) 0 none) me)
   gives_back_at k m mode bit few inside is set held =
       subst (λ b. Allows (λ s. Kept locks lanes s.words s.views) slots id me k (λ n. bit_and n (bit_not w64 b)) (GivesBack m (step slots k (bit_not w64 b) 0 none) me))

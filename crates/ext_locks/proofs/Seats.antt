@@ -236,11 +236,11 @@ pub deals : (locks lanes id n : ℕ) (v : SeatView) → v.next ≡ Some n → n 
 deals locks lanes id n v is few s kept at = kept_deal locks lanes s.words s.views kept id n v at is few
 
 -- the new lane has made no step
-pub dealt_lane : (v w : SeatView) (n lanes : ℕ) → w ≡ dealt v → v.next ≡ Some n → v.lanes ≡ lanes → n < lanes → lanes ≤ 16
-    → (w.number ≡ Some n) × (n < w.lanes) × (w.lanes ≤ 16) × Follow [] w.fronts × IsLegal w.lanes (seen w.fronts)
+pub dealt_lane : (v w : SeatView) (n lanes : ℕ) → w ≡ dealt v → v.next ≡ Some n → v.lanes ≡ lanes → n < lanes → lanes ≤ 32
+    → (w.number ≡ Some n) × (n < w.lanes) × (w.lanes ≤ 32) × Follow [] w.fronts × IsLegal w.lanes (seen w.fronts)
 dealt_lane v w n lanes is next count below few =
-    subst (λ (x : SeatView). (x.number ≡ Some n) × (n < x.lanes) × (x.lanes ≤ 16) × Follow [] x.fronts × IsLegal x.lanes (seen x.fronts)) (sym is)
-    (next, subst (λ k. n < k) (sym count) below, subst (λ k. k ≤ 16) (sym count) few, tt, legal_empty (IsAllowed v.lanes))
+    subst (λ (x : SeatView). (x.number ≡ Some n) × (n < x.lanes) × (x.lanes ≤ 32) × Follow [] x.fronts × IsLegal x.lanes (seen x.fronts)) (sym is)
+    (next, subst (λ k. n < k) (sym count) below, subst (λ k. k ≤ 32) (sym count) few, tt, legal_empty (IsAllowed v.lanes))
 
 -- the rule at the start
 bit_none : (m : LockMode) (lane : ℕ) → bit_at 0 (bit_of m lane) ≡ 0
@@ -250,7 +250,7 @@ at_first : (v w : SeatView) (j : ℕ) → get_elem? (v ∷ []) j ≡ some w → 
 at_first v w zero e = (refl, some-injective v w e)
 at_first v w (suc j) e = absurd (some-ne-none w (sym e))
 
-pub opens : (locks lanes : ℕ) (words : List ℕ) → lanes ≤ 16 → length words ≡ locks → ((k : ℕ) → get_or words k 0 ≡ 0) → Kept locks lanes words (founder lanes ∷ [])
+pub opens : (locks lanes : ℕ) (words : List ℕ) → lanes ≤ 32 → length words ≡ locks → ((k : ℕ) → get_or words k 0 ≡ 0) → Kept locks lanes words (founder lanes ∷ [])
 opens locks lanes words few size zeros = record {
   size = size;
   history = [];
@@ -271,5 +271,5 @@ opens locks lanes words few size zeros = record {
       });
 }
 
-pub opens_zero : (locks lanes : ℕ) (words : List ℕ) → lanes ≤ 16 → words ≡ replicate locks 0 → Kept locks lanes words (founder lanes ∷ [])
+pub opens_zero : (locks lanes : ℕ) (words : List ℕ) → lanes ≤ 32 → words ≡ replicate locks 0 → Kept locks lanes words (founder lanes ∷ [])
 opens_zero locks lanes words few is = subst (λ ws. Kept locks lanes ws (founder lanes ∷ [])) (sym is) (opens locks lanes (replicate locks 0) few (length-replicate locks 0) (at_zeros locks))

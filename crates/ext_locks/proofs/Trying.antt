@@ -24,37 +24,37 @@ use Rattle.ext_locks.proofs.Words.{free_word}
 use Rattle.ext_locks.proofs.Holding.{loaded_held, stepped_held}
 use Rattle.ext_locks.proofs.Fronts.{seen_now, loaded_legal, loaded_stepped, makes_self, makes_then, makes_quiet, loaded_makes, stepped_makes}
 
--- a number of 32 bits, whose upper 16 are clear
-low_bits : (n : ℕ) → n < 2 ^ 32 → ((i : ℕ) → i < 16 → bit_at n (16 + i) ≡ 0) → n < 2 ^ 16
+-- a number of 64 bits, whose upper 32 are clear
+low_bits : (n : ℕ) → n < 2 ^ 64 → ((i : ℕ) → i < 32 → bit_at n (32 + i) ≡ 0) → n < 2 ^ 32
 low_bits n small clear =
-    let same = same_from_bits_below 32 n (bit_and n (2 ^ 16 - 1)) small (let a = and_le_r n (2 ^ 16 - 1) in omega arith) each in
-    let a = and_le_r n (2 ^ 16 - 1) in
+    let same = same_from_bits_below 64 n (bit_and n (2 ^ 32 - 1)) small (let a = and_le_r n (2 ^ 32 - 1) in omega arith) each in
+    let a = and_le_r n (2 ^ 32 - 1) in
     omega arith
   where
-    each : (i : ℕ) → i < 32 → bit_at n i ≡ bit_at (bit_and n (2 ^ 16 - 1)) i
+    each : (i : ℕ) → i < 64 → bit_at n i ≡ bit_at (bit_and n (2 ^ 32 - 1)) i
     each i below =
         ⊎_elim
-        (λ few. let e = bit_at_and n (2 ^ 16 - 1) i in let o = bit_at_ones 16 i few in let t = bit_at-lt n i in omega arith)
+        (λ few. let e = bit_at_and n (2 ^ 32 - 1) i in let o = bit_at_ones 32 i few in let t = bit_at-lt n i in omega arith)
         (λ many.
-        let e = bit_at_and n (2 ^ 16 - 1) i in
-        let o = bit_at_ones_above 16 i many in
-        let z : bit_at n i ≡ 0 = subst (λ j. bit_at n j ≡ 0) (let m = many in omega arith) (clear (i - 16) (omega arith)) in
+        let e = bit_at_and n (2 ^ 32 - 1) i in
+        let o = bit_at_ones_above 32 i many in
+        let z : bit_at n i ≡ 0 = subst (λ j. bit_at n j ≡ 0) (let m = many in omega arith) (clear (i - 32) (omega arith)) in
         omega arith)
-        (cases_lt i 16)
+        (cases_lt i 32)
 
 -- a word without a writer, and one without any holder
-no_writer_word : (h : LockHistory) (k n : ℕ) → IsWord h k n → ((i : ℕ) → i < 16 → holds h k ReadWrite i ≡ false) → n < 2 ^ 16
+no_writer_word : (h : LockHistory) (k n : ℕ) → IsWord h k n → ((i : ℕ) → i < 32 → holds h k ReadWrite i ≡ false) → n < 2 ^ 32
 no_writer_word h k n w none = low_bits n w.small (λ i few. w.bits ReadWrite i few ∙ ap as_bit (none i few))
 
-no_holder_word : (h : LockHistory) (k n : ℕ) → IsWord h k n → ((i : ℕ) → i < 16 → holds h k Read i ≡ false) → ((i : ℕ) → i < 16 → holds h k ReadWrite i ≡ false) → n ≡ 0
-no_holder_word h k n w reads writes = same_from_bits_below 32 n 0 w.small (omega arith) each
+no_holder_word : (h : LockHistory) (k n : ℕ) → IsWord h k n → ((i : ℕ) → i < 32 → holds h k Read i ≡ false) → ((i : ℕ) → i < 32 → holds h k ReadWrite i ≡ false) → n ≡ 0
+no_holder_word h k n w reads writes = same_from_bits_below 64 n 0 w.small (omega arith) each
   where
-    each : (i : ℕ) → i < 32 → bit_at n i ≡ bit_at 0 i
+    each : (i : ℕ) → i < 64 → bit_at n i ≡ bit_at 0 i
     each i below =
         ⊎_elim
         (λ few. w.bits Read i few ∙ (ap as_bit (reads i few) ∙ sym (bit_at-zero i)))
-        (λ many. subst (λ j. bit_at n j ≡ bit_at 0 j) (let m = many in omega arith) (w.bits ReadWrite (i - 16) (omega arith) ∙ (ap as_bit (writes (i - 16) (omega arith)) ∙ sym (bit_at-zero (16 + (i - 16))))))
-        (cases_lt i 16)
+        (λ many. subst (λ j. bit_at n j ≡ bit_at 0 j) (let m = many in omega arith) (w.bits ReadWrite (i - 32) (omega arith) ∙ (ap as_bit (writes (i - 32) (omega arith)) ∙ sym (bit_at-zero (32 + (i - 32))))))
+        (cases_lt i 32)
 
 -- the first of so many lanes that holds, where one does
 record Holder (f : ℕ → Bool) : Type 0 where
@@ -80,22 +80,22 @@ taken_by h k l m held none excludes it = record {
 
 -- a lock whose word is not free is held by another lane
 pub taken_word : (m : LockMode) (h : LockHistory) (k n l : ℕ) → IsWord h k n → (IsFreeWord m n → ⊥) → ((x : LockMode) → holds h k x l ≡ false) → IsTakenBy h l k m
-taken_word Read h k n l w isnt none = ⊎_elim (taken_by h k l Read ReadWrite none refl) (λ writes. absurd (isnt (no_writer_word h k n w writes))) (holder (λ i. holds h k ReadWrite i) 16)
+taken_word Read h k n l w isnt none = ⊎_elim (taken_by h k l Read ReadWrite none refl) (λ writes. absurd (isnt (no_writer_word h k n w writes))) (holder (λ i. holds h k ReadWrite i) 32)
 taken_word ReadWrite h k n l w isnt none =
     ⊎_elim (taken_by h k l ReadWrite ReadWrite none refl)
-    (λ writes. ⊎_elim (taken_by h k l ReadWrite Read none refl) (λ reads. absurd (isnt (no_holder_word h k n w reads writes))) (holder (λ i. holds h k Read i) 16))
-    (holder (λ i. holds h k ReadWrite i) 16)
+    (λ writes. ⊎_elim (taken_by h k l ReadWrite Read none refl) (λ reads. absurd (isnt (no_holder_word h k n w reads writes))) (holder (λ i. holds h k Read i) 32))
+    (holder (λ i. holds h k ReadWrite i) 32)
 
 -- the same history has one word
 one_word : (h : LockHistory) (k n m : ℕ) → IsWord h k n → IsWord h k m → n ≡ m
-one_word h k n m a b = same_from_bits_below 32 n m a.small b.small each
+one_word h k n m a b = same_from_bits_below 64 n m a.small b.small each
   where
-    each : (i : ℕ) → i < 32 → bit_at n i ≡ bit_at m i
+    each : (i : ℕ) → i < 64 → bit_at n i ≡ bit_at m i
     each i below =
         ⊎_elim
         (λ few. a.bits Read i few ∙ sym (b.bits Read i few))
-        (λ many. subst (λ j. bit_at n j ≡ bit_at m j) (let l = many in omega arith) (a.bits ReadWrite (i - 16) (omega arith) ∙ sym (b.bits ReadWrite (i - 16) (omega arith))))
-        (cases_lt i 16)
+        (λ many. subst (λ j. bit_at n j ≡ bit_at m j) (let l = many in omega arith) (a.bits ReadWrite (i - 32) (omega arith) ∙ sym (b.bits ReadWrite (i - 32) (omega arith))))
+        (cases_lt i 32)
 
 -- ---- the loop
 
@@ -104,14 +104,14 @@ pub record Tried (start now : Seat (Unit {0}) SeatView) (l k found n : ℕ) : Ty
   pub makes : Makes start now l []
   pub held : SameHeld start.me.0.fronts now.me.0.fronts l
   pub word : IsWord (seen now.me.0.fronts) k found
-  pub few : (other : ℕ) → 16 ≤ other → own other (seen now.me.0.fronts) ≡ []
+  pub few : (other : ℕ) → 32 ≤ other → own other (seen now.me.0.fronts) ≡ []
   pub count : n + others lane_of l (seen start.me.0.fronts) ≤ others lane_of l (seen now.me.0.fronts)
   pub steps : AddsAtMost n start.me.0.fronts now.me.0.fronts
 
 loaded_word : (v w : SeatView) (l k n : ℕ) → Loaded v l k n w → IsWord (seen w.fronts) k n
 loaded_word v w l k n it = subst (λ h. IsWord h k n) (sym (seen_now v w it.history it.view)) it.word
 
-loaded_few : (v w : SeatView) (l k n : ℕ) → Loaded v l k n w → (other : ℕ) → 16 ≤ other → own other (seen w.fronts) ≡ []
+loaded_few : (v w : SeatView) (l k n : ℕ) → Loaded v l k n w → (other : ℕ) → 32 ≤ other → own other (seen w.fronts) ≡ []
 loaded_few v w l k n it other many = ap (λ h. own other h) (seen_now v w it.history it.view) ∙ it.meets.few other many
 
 pub tried_first : (s t : Seat (Unit {0}) SeatView) (l k n : ℕ) → Loaded s.me.0 l k n t.me.0 → Tried t t l k n 0

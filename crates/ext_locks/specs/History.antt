@@ -67,4 +67,5 @@ IsLegal lanes h = histories.IsLegal (IsAllowed lanes) h
 
 -- A lock has at most one writer, and a writer is its only holder.
 abbrev pub IsLawful : LockHistory → Type 0
-IsLawful h = (lock writer other : ℕ) (mode : LockMode) → holds h lock ReadWrite writer ≡ true → holds h lock mode other ≡ true → writer ≡ other
+IsLawful h = (lock writer other : ℕ) (mode : LockMode) → holds h lock ReadWrite writer ≡ true
+    → holds h lock mode other ≡ true → writer ≡ other

@@ -36,15 +36,18 @@ pub record Gives (lanes : ℕ) (h : LockHistory) (views : List SeatView) (next :
 -- The rule over all words and views of a table with this many locks and lanes.
 pub record Kept (locks lanes : ℕ) (words : List ℕ) (views : List SeatView) : Type 0 where
   pub size : length words ≡ locks
-  pub few : lanes ≤ 16
+  pub few : lanes ≤ 32
   pub history : LockHistory
   pub legal : IsLegal lanes history
   pub bits : (lock : ℕ) → lock < locks → IsWord history lock (slice_index words lock)
   pub fits : (seat : ℕ) (v : SeatView) → get_elem? views seat ≡ some v → Fits history v
   pub counts : (seat : ℕ) (v : SeatView) → get_elem? views seat ≡ some v → Counts lanes v
-  pub apart : (one other lane : ℕ) (v w : SeatView) → get_elem? views one ≡ some v → get_elem? views other ≡ some w → v.number ≡ Some lane → w.number ≡ Some lane → one ≡ other
-  pub one_gives : (one other m n : ℕ) (v w : SeatView) → get_elem? views one ≡ some v → get_elem? views other ≡ some w → v.next ≡ Some m → w.next ≡ Some n → one ≡ other
-  pub gives : (seat next : ℕ) (v : SeatView) → get_elem? views seat ≡ some v → v.next ≡ Some next → Gives lanes history views next
+  pub apart : (one other lane : ℕ) (v w : SeatView) → get_elem? views one ≡ some v → get_elem? views other ≡ some w
+      → v.number ≡ Some lane → w.number ≡ Some lane → one ≡ other
+  pub one_gives : (one other m n : ℕ) (v w : SeatView) → get_elem? views one ≡ some v → get_elem? views other ≡ some w
+      → v.next ≡ Some m → w.next ≡ Some n → one ≡ other
+  pub gives : (seat next : ℕ) (v : SeatView) → get_elem? views seat ≡ some v → v.next ≡ Some next
+      → Gives lanes history views next
 
 -- ---- what a lane learns from its steps
 
@@ -61,7 +64,7 @@ lane_view v lane = record { number = lane; fronts = v.fronts }
 pub record Meets (v : SeatView) (lane : ℕ) (h : LockHistory) : Type 0 where
   pub on : GoesOn lane_of (IsAllowed v.lanes) (lane_view v lane) h
   pub told : IsPrefix v.told h
-  pub few : (other : ℕ) → 16 ≤ other → own other h ≡ []
+  pub few : (other : ℕ) → 32 ≤ other → own other h ≡ []
 
 -- The lane saw a history in which this was the lock's word.
 pub record Loaded (v : SeatView) (lane lock found : ℕ) (w : SeatView) : Type 0 where
@@ -83,10 +86,12 @@ TakesIf true v lane lock mode found w = Stepped v lane lock mode true w
 TakesIf false v lane lock mode found w = Loaded v lane lock found w
 
 abbrev pub Takes : LockMode → Step Unit → Me Unit SeatView → ℕ → Me Unit SeatView → Type 0
-Takes mode s v found w = (w.1 ≡ v.1) × ((lane : ℕ) → v.0.number ≡ Some lane → TakesIf (found == s.first) v.0 lane s.word mode found w.0)
+Takes mode s v found w = (w.1 ≡ v.1)
+    × ((lane : ℕ) → v.0.number ≡ Some lane → TakesIf (found == s.first) v.0 lane s.word mode found w.0)
 
 abbrev pub GivesBack : LockMode → Step Unit → Me Unit SeatView → ℕ → Me Unit SeatView → Type 0
-GivesBack mode s v found w = (w.1 ≡ v.1) × ((lane : ℕ) → v.0.number ≡ Some lane → Stepped v.0 lane s.word mode false w.0)
+GivesBack mode s v found w = (w.1 ≡ v.1)
+    × ((lane : ℕ) → v.0.number ≡ Some lane → Stepped v.0 lane s.word mode false w.0)
 
 abbrev pub Loads : Step Unit → Me Unit SeatView → ℕ → Me Unit SeatView → Type 0
 Loads s v found w = (w.1 ≡ v.1) × ((lane : ℕ) → v.0.number ≡ Some lane → Loaded v.0 lane s.word found w.0)

@@ -22,7 +22,7 @@ pub record IsLane (table : TableId) (locks : ℕ) (seat : Seat (Unit {0}) SeatVi
   pub same_table : seat.table_id ≡ table
   pub same_locks : locks ≡ table.words
   pub number : seat.me.0.number ≡ Some lane
-  pub few : lane < 16
+  pub few : lane < 32
   pub legal : IsLegal seat.me.0.lanes (seen seat.me.0.fronts)
 
 -- The seat's lane made these events, and what it has seen is legal.
@@ -49,8 +49,10 @@ abbrev pub is_between : ℕ → ℕ → ℕ → Bool
 is_between from end lock = leb from lock && ltb lock end
 
 -- The lane holds the set's locks with numbers from `from` up to `end`, exclusive, and no others.
-pub record HoldsBetween (fronts : List LockHistory) (lane : ℕ) (modes : List (Option LockMode)) (from end : ℕ) : Type 0 where
-  pub each : (lock : ℕ) (mode : LockMode) → holds (seen fronts) lock mode lane ≡ (is_between from end lock && has_mode modes lock mode)
+pub record HoldsBetween (fronts : List LockHistory) (lane : ℕ) (modes : List (Option LockMode)) (from end : ℕ)
+    : Type 0 where
+  pub each : (lock : ℕ) (mode : LockMode)
+      → holds (seen fronts) lock mode lane ≡ (is_between from end lock && has_mode modes lock mode)
 
 -- The lane holds what it held.
 pub record SameHeld (before after : List LockHistory) (lane : ℕ) : Type 0 where
@@ -58,7 +60,9 @@ pub record SameHeld (before after : List LockHistory) (lane : ℕ) : Type 0 wher
 
 -- The lane holds what it held, except that it now holds this lock in this mode, or no longer does.
 pub record HeldBut (before after : List LockHistory) (lane lock : ℕ) (mode : LockMode) (held : Bool) : Type 0 where
-  pub each : (k : ℕ) (m : LockMode) → holds (seen after) k m lane ≡ (if is_about (event lane lock mode held) k m lane then held else holds (seen before) k m lane)
+  pub each : (k : ℕ) (m : LockMode)
+      → holds (seen after) k m lane
+      ≡ (if is_about (event lane lock mode held) k m lane then held else holds (seen before) k m lane)
 
 -- No lock of the set is past the last one.
 pub record IsWithin (modes : List (Option LockMode)) (locks : ℕ) : Type 0 where

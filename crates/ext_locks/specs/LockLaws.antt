@@ -18,11 +18,13 @@ LegalIsLawful = (lanes : ℕ) (h : LockHistory) → IsLegal lanes h → IsLawful
 
 -- What a lane holds depends on its own events alone. A lane that makes none holds what it held, whatever others do.
 abbrev pub OwnEventsDecide : Type 0
-OwnEventsDecide = (h later : LockHistory) (lock : ℕ) (mode : LockMode) (lane : ℕ) → own lane later ≡ own lane h → holds later lock mode lane ≡ holds h lock mode lane
+OwnEventsDecide = (h later : LockHistory) (lock : ℕ) (mode : LockMode) (lane : ℕ) → own lane later ≡ own lane h
+    → holds later lock mode lane ≡ holds h lock mode lane
 
 -- A lock that is free for either mode has no writer.
 abbrev pub FreeIsNotHeld : Type 0
-FreeIsNotHeld = (h : LockHistory) (lock : ℕ) (mode : LockMode) → IsFree h lock mode → (lane : ℕ) → holds h lock ReadWrite lane ≡ false
+FreeIsNotHeld = (h : LockHistory) (lock : ℕ) (mode : LockMode) → IsFree h lock mode → (lane : ℕ)
+    → holds h lock ReadWrite lane ≡ false
 
 -- The empty history is legal.
 abbrev pub EmptyIsLegal : Type 0
@@ -34,7 +36,8 @@ FreshIsEmpty = (lanes : ℕ) (h : LockHistory) → IsLegal lanes h → ((lane : 
 
 -- Only the lanes that there are hold locks.
 abbrev pub OnlyLanesHold : Type 0
-OnlyLanesHold = (lanes : ℕ) (h : LockHistory) → IsLegal lanes h → (lane : ℕ) → lanes ≤ lane → (lock : ℕ) (mode : LockMode) → holds h lock mode lane ≡ false
+OnlyLanesHold = (lanes : ℕ) (h : LockHistory) → IsLegal lanes h → (lane : ℕ) → lanes ≤ lane
+    → (lock : ℕ) (mode : LockMode) → holds h lock mode lane ≡ false
 
 -- A beginning of a legal history is legal. So is each front of a lane and each point of a call.
 abbrev pub BeginningsAreLegal : Type 0
@@ -44,7 +47,8 @@ BeginningsAreLegal = (lanes : ℕ) (f h : LockHistory) → IsPrefix f h → IsLe
 
 -- Two calls in a row are one call with the events of both.
 abbrev pub CallsCompose : Type 0
-CallsCompose = (first second third : Lane) (xs ys : List LockEvent) → LaneCalls first second xs → LaneCalls second third ys → LaneCalls first third (xs ++ ys)
+CallsCompose = (first second third : Lane) (xs ys : List LockEvent) → LaneCalls first second xs
+    → LaneCalls second third ys → LaneCalls first third (xs ++ ys)
 
 -- A lane that was not called made a call without events.
 abbrev pub NoCall : Type 0
@@ -54,4 +58,5 @@ NoCall = (lane : Lane) → LaneCalls lane lane []
 
 -- Requests have at most one merged set, if no name stands twice. Locks promise that by `recall`.
 abbrev pub OneMergedSet : Type 0
-OneMergedSet = (names : List (List ℕ)) (requests : List LockRequest) (set other : List (ℕ × LockMode)) → AreDifferent names → IsMerged names requests set → IsMerged names requests other → set ≡ other
+OneMergedSet = (names : List (List ℕ)) (requests : List LockRequest) (set other : List (ℕ × LockMode))
+    → AreDifferent names → IsMerged names requests set → IsMerged names requests other → set ≡ other

@@ -34,7 +34,8 @@ lock_of (Contended lock) = lock
 
 -- The lane took the locks of the set below the refused one, and gave them back.
 abbrev pub undone : ℕ → List (ℕ × LockMode) → LockRefusal → List LockEvent
-undone lane set refusal = takes_of lane (locks_below (lock_of refusal) set) ++ gives_of lane (locks_below (lock_of refusal) set)
+undone lane set refusal =
+    takes_of lane (locks_below (lock_of refusal) set) ++ gives_of lane (locks_below (lock_of refusal) set)
 
 -- Taken: at a point of the call, after the lane had taken the locks before this one, another lane held this one.
 -- Contended: at such a point the lock was free for the mode, and other lanes had made at least `tries` events since the
@@ -56,7 +57,8 @@ steps_to_refuse tries set refusal = length (locks_below (lock_of refusal) set) *
 -- ---- why a set was refused
 
 -- Why the set was refused: which of its locks was, and at which point of the call.
-pub record IsRefused (tries : ℕ) (set : List (ℕ × LockMode)) (before after : Lane) (refusal : LockRefusal) : Type 0 where
+pub record IsRefused (tries : ℕ) (set : List (ℕ × LockMode)) (before after : Lane) (refusal : LockRefusal)
+    : Type 0 where
   pub mode : LockMode
   pub wanted : wants set (lock_of refusal) mode ≡ true
   pub stepped : IsStepped before.view after.view
@@ -64,5 +66,6 @@ pub record IsRefused (tries : ℕ) (set : List (ℕ × LockMode)) (before after 
   -- The point is no earlier than the call's first step.
   pub since_first : IsPrefix (first_front before.view after.view) point
   -- At the point the lane had taken the set's locks below this one and given none back.
-  pub is_point : IsPointAfter lane_of before.view after.view (takes_of before.view.number (locks_below (lock_of refusal) set)) point
+  pub is_point : IsPointAfter lane_of before.view after.view
+      (takes_of before.view.number (locks_below (lock_of refusal) set)) point
   pub stood : StoodAt refusal mode tries before.view after.view point

@@ -57,7 +57,8 @@ pub record HoldsExactly (lane : Lane) (set : List (ℕ × LockMode)) : Type 0 wh
 
 -- Where one lane writes by a lock, the other does not hold it.
 pub record Excludes (one other : Lane) : Type 0 where
-  pub each : (lock : ℕ) (mode : LockMode) → holds (seen_by one.view) lock ReadWrite one.view.number ≡ true → holds (seen_by other.view) lock mode other.view.number ≡ false
+  pub each : (lock : ℕ) (mode : LockMode) → holds (seen_by one.view) lock ReadWrite one.view.number ≡ true
+      → holds (seen_by other.view) lock mode other.view.number ≡ false
 
 -- A held set as contracts see it: the lane that took it, the names of its locks, the set, and the lane's own events up
 -- to when it was taken. Their number distinguishes one taking from every other.

@@ -5,7 +5,7 @@ use thiserror::Error;
 /// order is answered. No object is made.
 #[derive(Clone, Copy, Debug, PartialEq, Eq, Error)]
 pub enum LockFault {
-    /// There are not 1 to 16 lanes, or not 1 to 64 tries.
+    /// There are no lanes or more than are asked for (`open_within`), or not 1 to 64 tries.
     #[error("bad limit")]
     BadLimit,
     /// There are more than 63 names.

@@ -25,7 +25,7 @@ impl Model for LockLane {
     ghost invariant = { λ a.
         (a.seat.me.0.number ≡ Some a.number)
         × (a.number < a.seat.me.0.lanes)
-        × (a.seat.me.0.lanes ≤ 16)
+        × (a.seat.me.0.lanes ≤ 32)
         × Follow [] a.seat.me.0.fronts
         × IsLegal a.seat.me.0.lanes (seen a.seat.me.0.fronts) };
 }
@@ -47,7 +47,7 @@ impl LockLane {
     /// from the one before it. It does nothing when it runs.
     pub fn recall(&self)
         ensures lane { self.now.view.number < self.now.lanes }
-        ensures lanes { self.now.lanes ≤ 16 }
+        ensures lanes { self.now.lanes ≤ 32 }
         ensures one_history { Follow [] self.now.view.fronts }
         ensures legal { IsLegal self.now.lanes (seen_by self.now.view) }
     {

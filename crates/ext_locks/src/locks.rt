@@ -8,7 +8,7 @@ use crate::merging::merge_requests;
 use crate::names::{first_twice, sorted_copies};
 use crate::rule::{Deals, LaneSeat, LockCounts, LockTable, LockWords};
 use crate::set::MAX_LOCKS;
-use crate::steps::{LockSteps, MAX_LANES};
+use crate::steps::LockSteps;
 use crate::taking::{give_locks, take_locks};
 use crate::telling::exclude;
 use crate::waiting::{SharedLocks, wait_for_locks};
@@ -52,7 +52,7 @@ impl Model for Locks {
         × (length l.names.items ≤ 63)
         × IsSorted string_cmp l.names.items
         × AreDifferent (map string_bytes l.names.items)
-        × AreLimits l.table.table.shared.key.lanes l.tries };
+        × AreLimits 32 l.table.table.shared.key.lanes l.tries };
 }
 
 impl Locks {
@@ -63,7 +63,7 @@ impl Locks {
     ghost use Rattle.ext_locks.specs.Sets.{AllBelow, takes_of, gives_of, HoldsNothing, HoldsExactly, Excludes, IsHeldBy};
     ghost use Rattle.ext_locks.specs.Refusals.{undone, steps_to_take, steps_to_refuse, IsRefused};
     ghost use Rattle.ext_locks.specs.Names.{IsNamed, IsMerged, IsNotMerged};
-    ghost use Rattle.ext_locks.specs.Opening.{AreLocks, IsOpened, IsNotOpened};
+    ghost use Rattle.ext_locks.specs.Opening.{AreLimits, AreLocks, IsOpened, IsNotOpened};
 
     /// Opens the global lock and one lock for each name, which nobody holds, and their lanes. The
     /// names, at most 63, are numbered from 1 in the order of their bytes, and the lanes, 1 to 16,
@@ -82,9 +82,26 @@ impl Locks {
         tries: u32,
     ) -> Result<(Locks, Vec<LockLane>), LockFault>
         ensures opened { IfOk result (λ made. IsOpened (texts_of names.now) lanes tries made.0 made.1.items) }
-        ensures fault { IfErr result (IsNotOpened (texts_of names.now) lanes tries) }
+        ensures within { IfOk result (λ _. AreLimits 16 lanes tries) }
+        ensures fault { IfErr result (IsNotOpened 16 (texts_of names.now) lanes tries) }
     {
-        if lanes == 0 || lanes > MAX_LANES || tries == 0 || tries > MAX_TRIES {
+        Locks::open_within(alloc, names, lanes, tries, 16)
+    }
+
+    /// Opens locks as `open` does, but with up to `most` lanes, which is at most 32.
+    pub fn open_within(
+        alloc: Global,
+        names: &[&str],
+        lanes: usize,
+        tries: u32,
+        most: usize,
+    ) -> Result<(Locks, Vec<LockLane>), LockFault>
+        requires most { most ≤ 32 }
+        ensures opened { IfOk result (λ made. IsOpened (texts_of names.now) lanes tries made.0 made.1.items) }
+        ensures within { IfOk result (λ _. AreLimits most lanes tries) }
+        ensures fault { IfErr result (IsNotOpened most (texts_of names.now) lanes tries) }
+    {
+        if lanes == 0 || lanes > most || tries == 0 || tries > MAX_TRIES {
             return Err(LockFault::BadLimit);
         }
         if names.len() >= MAX_LOCKS {
@@ -265,7 +282,7 @@ fn zero_words(alloc: Global, count: usize) -> Result<Vec<u64>, AllocError>
 
 /// The table of locks that nobody holds, and the seat that gives the lanes theirs. Takes memory.
 fn zero_table(alloc: Global, counts: &LockCounts) -> Result<(LockTable, LaneSeat), AllocError>
-    requires { counts.now.lanes ≤ 16 }
+    requires { counts.now.lanes ≤ 32 }
     ensures { IfOk result (λ r. (r.0.shared.table_id.words ≡ counts.now.locks) × (r.0.shared.key ≡ counts.now) × (r.1.table_id ≡ r.0.shared.table_id) × (r.1.me.0 ≡ founder counts.now.lanes)) }
 {
     let zeros = zero_words(alloc, counts.locks)?;
@@ -281,7 +298,7 @@ fn deal_lanes(
 ) -> Result<Vec<LockLane>, AllocError>
     requires table { (dealer.old.table_id ≡ words.now.table_id) × (0 < words.now.table_id.words) }
     requires dealer { dealer.old.me.0 ≡ founder lanes }
-    requires lanes { (words.now.key.lanes ≡ lanes) × (lanes ≤ 16) }
+    requires lanes { (words.now.key.lanes ≡ lanes) × (lanes ≤ 32) }
     ensures { IfOk result (λ made. (made.items ≡ fresh_lanes words.now.table_id lanes lanes) × (dealer.new.table_id ≡ words.now.table_id)
         × (dealer.new.me.0.next ≡ Some lanes) × (dealer.new.me.0.lanes ≡ lanes)) }
 {
@@ -302,7 +319,7 @@ fn open_words(
 ) -> Result<(Locks, Vec<LockLane>), AllocError>
     requires names { length names.now ≤ 63 }
     requires different { AreDifferent (texts_of names.now) }
-    requires limits { AreLimits lanes tries }
+    requires limits { AreLimits 32 lanes tries }
     ensures { IfOk result (λ made. IsOpened (texts_of names.now) lanes tries made.0 made.1.items) }
 {
     let names = sorted_copies(alloc, names)?;

@@ -11,7 +11,7 @@ use crate::{LockMode, LockNo};
 
 /// The greatest number of lanes: each has one bit for reading in a word, and one for writing above
 /// these.
-pub(crate) const MAX_LANES: usize = 16;
+pub(crate) const MAX_LANES: usize = 32;
 
 /// The words of open locks. Only this module reaches them, and each function of it that reads or
 /// changes one is a step of a lane's seat: so no call can look at them otherwise.
@@ -31,7 +31,7 @@ impl LockSteps {
 
 /// The bit of a lane that holds a lock in this mode.
 fn bit(mode: LockMode, lane: usize) -> u64
-    requires { lane < 16 }
+    requires { lane < 32 }
     ensures { result ≡ 2 ^ bit_of mode lane }
 {
     match mode {
@@ -50,7 +50,7 @@ pub(crate) fn take_if(
     old: u64,
 ) -> u64
     requires table { (seat.old.table_id ≡ words.now.table.shared.table_id) × (words.now.table.shared.key.locks ≡ words.now.table.shared.table_id.words) }
-    requires lane { (seat.old.me.0.number ≡ Some lane) × (lane < 16) }
+    requires lane { (seat.old.me.0.number ≡ Some lane) × (lane < 32) }
     requires lock { lock < words.now.table.shared.key.locks }
     requires free { IsFreeWord mode old }
     ensures table { seat.new.table_id ≡ seat.old.table_id }
@@ -77,7 +77,7 @@ pub(crate) fn give_back(
     mode: LockMode,
 )
     requires table { (seat.old.table_id ≡ words.now.table.shared.table_id) × (words.now.table.shared.key.locks ≡ words.now.table.shared.table_id.words) }
-    requires lane { (seat.old.me.0.number ≡ Some lane) × (lane < 16) }
+    requires lane { (seat.old.me.0.number ≡ Some lane) × (lane < 32) }
     requires lock { lock < words.now.table.shared.key.locks }
     requires held { holds (seen seat.old.me.0.fronts) lock mode lane ≡ true }
     ensures table { seat.new.table_id ≡ seat.old.table_id }

@@ -35,11 +35,16 @@ last_claim = 2 ^ 40 - 4
 -- What stands in the store after these events lets the lane do the act next.
 abbrev pub Permits : Limits → History → ℕ → Act ℕ → Type 0
 Permits limits h lane (Keep number) = (number ≡ (state_after h).drawn + 1) × (number ≤ limits.numbers)
-Permits limits h lane (Put at number) = (at < limits.cells) × IsOpen ((state_after h).slots at) × (version_of h at ≤ last_change) × MayStore lane number h
-Permits limits h lane (Remove at) = (at < limits.cells) × IsPresent ((state_after h).slots at) × (version_of h at ≤ last_change)
-Permits limits h lane (Claim at) = (at < limits.cells) × ((state_after h).slots at ≡ None) × (version_of h at ≤ last_claim)
-Permits limits h lane (Fill at number) = (at < limits.cells) × ((state_after h).slots at ≡ Some (slot.Claim lane)) × MayStore lane number h
-Permits limits h lane (Fail at number) = (at < limits.cells) × ((state_after h).slots at ≡ Some (slot.Claim lane)) × MayStore lane number h × IsTrue limits.keep_faults
+Permits limits h lane (Put at number) = (at < limits.cells) × IsOpen ((state_after h).slots at)
+    × (version_of h at ≤ last_change) × MayStore lane number h
+Permits limits h lane (Remove at) = (at < limits.cells) × IsPresent ((state_after h).slots at)
+    × (version_of h at ≤ last_change)
+Permits limits h lane (Claim at) = (at < limits.cells) × ((state_after h).slots at ≡ None)
+    × (version_of h at ≤ last_claim)
+Permits limits h lane (Fill at number) = (at < limits.cells) × ((state_after h).slots at ≡ Some (slot.Claim lane))
+    × MayStore lane number h
+Permits limits h lane (Fail at number) = (at < limits.cells) × ((state_after h).slots at ≡ Some (slot.Claim lane))
+    × MayStore lane number h × IsTrue limits.keep_faults
 Permits limits h lane (Abandon at) = (at < limits.cells) × ((state_after h).slots at ≡ Some (slot.Claim lane))
 Permits limits h lane (Seal at) = (at < limits.cells) × IsOpen ((state_after h).slots at)
 

@@ -39,7 +39,8 @@ Calls limits before after acts = histories.Calls lane_of before after (events_by
 
 -- The call made these events, and `Fact` holds at a history where it may be answered.
 abbrev pub HoldsAtPoint : Limits → LaneView → LaneView → List (Act ℕ) → (History → Type 0) → Type 0
-HoldsAtPoint limits before after acts Fact = histories.HoldsAtPoint lane_of before after (events_by before.number acts) Fact
+HoldsAtPoint limits before after acts Fact =
+    histories.HoldsAtPoint lane_of before after (events_by before.number acts) Fact
 
 -- Other lanes made at least `tries` events after the call's first front, and this lane made none.
 abbrev pub IsOvertaken : Limits → ℕ → LaneView → LaneView → Type 0
@@ -49,9 +50,9 @@ IsOvertaken limits tries before after = histories.IsOvertaken lane_of tries befo
 abbrev pub IsCrowded : ℕ → LaneView → LaneView → Type 0
 IsCrowded tries before after = histories.IsCrowded lane_of tries before after
 
--- What a call's result means. `contended` says that other lanes overtook the call. Any other result is the reply of one
--- thread at a point of the call, and the lane made exactly the acts that this result means.
-abbrev pub Answers : {R : Type 0} → Limits → ℕ → R → LaneView → LaneView → (R → List (Act ℕ)) → (History → R) → R → Type 0
+-- What a call's result means, as `histories.Answers` has it, by the acts of the lane.
+abbrev pub Answers : {R : Type 0} → Limits → ℕ → R → LaneView → LaneView → (R → List (Act ℕ)) → (History → R) → R
+    → Type 0
 Answers limits tries contended before after acts_of reply_at result =
     histories.Answers lane_of tries contended before after (λ r. events_by before.number (acts_of r)) reply_at result
 
@@ -62,7 +63,8 @@ GoesOn limits lane h = histories.GoesOn lane_of (IsAllowed limits) lane h
 -- The cell is sealed and has kept this. The answer doesn't say whether this call sealed it or found it sealed.
 abbrev pub Seals : Limits → ℕ → LaneView → LaneView → Option ℕ → Type 0
 Seals limits cell before after kept =
-    HoldsAtPoint limits before after (Seal cell ∷ []) (λ p. reply_after limits p before.number (Seal cell) ≡ events.Happens kept)
+    HoldsAtPoint limits before after (Seal cell ∷ [])
+    (λ p. reply_after limits p before.number (Seal cell) ≡ events.Happens kept)
     ⊎ HoldsAtPoint limits before after [] (λ p. reply_after limits p before.number (Seal cell) ≡ events.Answers kept)
 
 -- ---- conditions on a lane, by what it has seen
@@ -89,7 +91,8 @@ look_after cell_of path h = lookup (slots_in cell_of h) path
 -- After these events of the call, of which the claim is the last, and before the lane's next event, the look-up on the
 -- path gives this. The path starts at the context's parent; for the root it is empty and the look-up always absent.
 abbrev pub LooksAgain : (ℕ → ℕ) → List ℕ → LaneView → LaneView → List (Act ℕ) → Look → Type 0
-LooksAgain cell_of path before after acts look = (p : History) × IsPointAfter before after acts p × (look_after cell_of path p ≡ look)
+LooksAgain cell_of path before after acts look = (p : History) × IsPointAfter before after acts p
+    × (look_after cell_of path p ≡ look)
 
 -- The same, read off one history: after the lane's claim and before its next event, the look-up gives this.
 pub record LookedAgain (cell_of : ℕ → ℕ) (path : List ℕ) (lane cell : ℕ) (h : History) (look : Look) : Type 0 where

@@ -14,46 +14,55 @@ use Rattle.ext_history.specs.Histories.{seen_by, moved, call_fronts, first_front
 
 -- A step that shows the lane a history is a call without events, and may be answered at that history.
 abbrev pub StepsAreCalls : Type 0
-StepsAreCalls = (limits : Limits) (lane : LaneView) (h : History) → GoesOn limits lane h → Calls limits lane (moved lane (h ∷ [])) [] × IsAnswerPoint lane (moved lane (h ∷ [])) [] h
+StepsAreCalls = (limits : Limits) (lane : LaneView) (h : History) → GoesOn limits lane h
+    → Calls limits lane (moved lane (h ∷ [])) [] × IsAnswerPoint lane (moved lane (h ∷ [])) [] h
 
 -- A step that adds an event of the lane to the history is a call with that event, answered directly before it.
 abbrev pub EventsAreCalls : Type 0
 EventsAreCalls =
     (limits : Limits) (lane : LaneView) (act : Act ℕ) (h : History)
     → GoesOn limits lane h
-    → Calls limits lane (moved lane ((h ++ by lane.number act ∷ []) ∷ [])) (act ∷ []) × IsAnswerPoint lane (moved lane ((h ++ by lane.number act ∷ []) ∷ [])) (act ∷ []) h
+    → Calls limits lane (moved lane ((h ++ by lane.number act ∷ []) ∷ [])) (act ∷ [])
+    × IsAnswerPoint lane (moved lane ((h ++ by lane.number act ∷ []) ∷ [])) (act ∷ []) h
 
 -- ---- fronts and events
 
 -- Two calls in a row are one call with the events of both.
 abbrev pub CallsCompose : Type 0
-CallsCompose = (limits : Limits) (a b c : LaneView) (xs ys : List (Act ℕ)) → Calls limits a b xs → Calls limits b c ys → Calls limits a c (xs ++ ys)
+CallsCompose = (limits : Limits) (a b c : LaneView) (xs ys : List (Act ℕ)) → Calls limits a b xs → Calls limits b c ys
+    → Calls limits a c (xs ++ ys)
 
 -- Its fronts are those of both.
 abbrev pub FrontsCompose : Type 0
-FrontsCompose = (limits : Limits) (a b c : LaneView) (xs ys : List (Act ℕ)) → Calls limits a b xs → Calls limits b c ys → call_fronts a c ≡ call_fronts a b ++ call_fronts b c
+FrontsCompose = (limits : Limits) (a b c : LaneView) (xs ys : List (Act ℕ)) → Calls limits a b xs → Calls limits b c ys
+    → call_fronts a c ≡ call_fronts a b ++ call_fronts b c
 
 -- If the first call made a step, the first step of both is that of the first.
 abbrev pub FirstStepDecides : Type 0
-FirstStepDecides = (limits : Limits) (a b c : LaneView) (xs ys : List (Act ℕ)) → Calls limits a b xs → Calls limits b c ys → IsStepped a b → first_front a c ≡ first_front a b
+FirstStepDecides = (limits : Limits) (a b c : LaneView) (xs ys : List (Act ℕ)) → Calls limits a b xs
+    → Calls limits b c ys → IsStepped a b → first_front a c ≡ first_front a b
 
 -- In any case the first step of both is no later than that of the second.
 abbrev pub FirstStepIsEarlier : Type 0
-FirstStepIsEarlier = (limits : Limits) (a b c : LaneView) (xs ys : List (Act ℕ)) → Calls limits a b xs → Calls limits b c ys → IsPrefix (first_front a c) (first_front b c)
+FirstStepIsEarlier = (limits : Limits) (a b c : LaneView) (xs ys : List (Act ℕ)) → Calls limits a b xs
+    → Calls limits b c ys → IsPrefix (first_front a c) (first_front b c)
 
 -- What a lane has seen after a call extends what it had seen before.
 abbrev pub SeenGoesOn : Type 0
-SeenGoesOn = (limits : Limits) (a b : LaneView) (acts : List (Act ℕ)) → Calls limits a b acts → IsPrefix (seen_by a) (seen_by b)
+SeenGoesOn = (limits : Limits) (a b : LaneView) (acts : List (Act ℕ)) → Calls limits a b acts
+    → IsPrefix (seen_by a) (seen_by b)
 
 -- ---- points
 
 -- If what the lane has seen after a call is legal, so are the points of the call.
 abbrev pub PointsAreLegal : Type 0
-PointsAreLegal = (limits : Limits) (a b : LaneView) (p : History) → IsLegal limits (seen_by b) → IsPoint a b p → IsLegal limits p
+PointsAreLegal = (limits : Limits) (a b : LaneView) (p : History) → IsLegal limits (seen_by b) → IsPoint a b p
+    → IsLegal limits p
 
 -- A call is answered at one of its points.
 abbrev pub AnswerPointsArePoints : Type 0
-AnswerPointsArePoints = (limits : Limits) (a b : LaneView) (acts : List (Act ℕ)) (p : History) → Calls limits a b acts → IsAnswerPoint a b acts p → IsPoint a b p
+AnswerPointsArePoints = (limits : Limits) (a b : LaneView) (acts : List (Act ℕ)) (p : History) → Calls limits a b acts
+    → IsAnswerPoint a b acts p → IsPoint a b p
 
 -- If the first call made no event, both may be answered wherever the second may.
 abbrev pub LaterPointsServe : Type 0
@@ -69,7 +78,8 @@ EarlierPointsServe =
 
 -- If one of two calls made a step, both together did.
 abbrev pub StepsStay : Type 0
-StepsStay = (limits : Limits) (a b c : LaneView) (xs ys : List (Act ℕ)) → Calls limits a b xs → Calls limits b c ys → IsStepped a b ⊎ IsStepped b c → IsStepped a c
+StepsStay = (limits : Limits) (a b c : LaneView) (xs ys : List (Act ℕ)) → Calls limits a b xs → Calls limits b c ys
+    → IsStepped a b ⊎ IsStepped b c → IsStepped a c
 
 -- A point of the second call is a point of both, after all events of the first.
 abbrev pub PointsOfSecond : Type 0
@@ -85,11 +95,13 @@ PointsOfFirst =
 
 -- A call is answered before its own events.
 abbrev pub AnswersComeFirst : Type 0
-AnswersComeFirst = (limits : Limits) (a b : LaneView) (acts : List (Act ℕ)) (p : History) → Calls limits a b acts → IsAnswerPoint a b acts p → IsPointAfter a b [] p
+AnswersComeFirst = (limits : Limits) (a b : LaneView) (acts : List (Act ℕ)) (p : History) → Calls limits a b acts
+    → IsAnswerPoint a b acts p → IsPointAfter a b [] p
 
 -- The last front of a call is the point after all its events.
 abbrev pub SeenIsPoint : Type 0
-SeenIsPoint = (limits : Limits) (a b : LaneView) (acts : List (Act ℕ)) → Calls limits a b acts → IsPointAfter a b acts (seen_by b)
+SeenIsPoint = (limits : Limits) (a b : LaneView) (acts : List (Act ℕ)) → Calls limits a b acts
+    → IsPointAfter a b acts (seen_by b)
 
 -- ---- other lanes in the way
 
@@ -99,7 +111,8 @@ OvertakenIsCrowded = (limits : Limits) (tries : ℕ) (a b : LaneView) → IsOver
 
 -- A call that was crowded and made no event was overtaken.
 abbrev pub QuietCrowdedIsOvertaken : Type 0
-QuietCrowdedIsOvertaken = (limits : Limits) (tries : ℕ) (a b : LaneView) → Calls limits a b [] → IsCrowded tries a b → IsOvertaken limits tries a b
+QuietCrowdedIsOvertaken = (limits : Limits) (tries : ℕ) (a b : LaneView) → Calls limits a b [] → IsCrowded tries a b
+    → IsOvertaken limits tries a b
 
 -- Two calls were crowded if the second was.
 abbrev pub CrowdedBySecond : Type 0
@@ -120,23 +133,27 @@ CrowdedByFirst =
 abbrev pub ClaimsAreHeld : Type 0
 ClaimsAreHeld =
     (limits : Limits) (a b : LaneView) (acts : List (Act ℕ)) (cell : ℕ)
-    → IsLegal limits (seen_by b) → Calls limits a b acts → All (λ act. is_on nat_eq cell act ≡ false) acts → IsHeld a cell → IsHeld b cell × (word_of (seen_by b) cell ≡ word_of (seen_by a) cell)
+    → IsLegal limits (seen_by b) → Calls limits a b acts → All (λ act. is_on nat_eq cell act ≡ false) acts
+    → IsHeld a cell → IsHeld b cell × (word_of (seen_by b) cell ≡ word_of (seen_by a) cell)
 
 -- Whatever other lanes did meanwhile, a cell that the lane holds has the word that the lane last saw.
 abbrev pub HeldWordsStay : Type 0
-HeldWordsStay = (limits : Limits) (lane : LaneView) (cell : ℕ) (h : History) → GoesOn limits lane h → IsHeld lane cell → word_of h cell ≡ word_of (seen_by lane) cell
+HeldWordsStay = (limits : Limits) (lane : LaneView) (cell : ℕ) (h : History) → GoesOn limits lane h → IsHeld lane cell
+    → word_of h cell ≡ word_of (seen_by lane) cell
 
 -- A lane may fill a cell that it holds with a number of its own.
 abbrev pub HeldCellsMayBeFilled : Type 0
 HeldCellsMayBeFilled =
     (limits : Limits) (lane : LaneView) (cell number : ℕ) (h : History)
-    → GoesOn limits lane h → IsHeld lane cell → MayStoreNow lane number → IsAllowed limits h (by lane.number (Fill cell number))
+    → GoesOn limits lane h → IsHeld lane cell → MayStoreNow lane number
+    → IsAllowed limits h (by lane.number (Fill cell number))
 
 -- If the store keeps faults, a lane may end its claim with a fault.
 abbrev pub HeldCellsMayBeFailed : Type 0
 HeldCellsMayBeFailed =
     (limits : Limits) (lane : LaneView) (cell number : ℕ) (h : History)
-    → IsTrue limits.keep_faults → GoesOn limits lane h → IsHeld lane cell → MayStoreNow lane number → IsAllowed limits h (by lane.number (Fail cell number))
+    → IsTrue limits.keep_faults → GoesOn limits lane h → IsHeld lane cell → MayStoreNow lane number
+    → IsAllowed limits h (by lane.number (Fail cell number))
 
 -- A lane may abandon a cell that it holds.
 abbrev pub HeldCellsMayBeAbandoned : Type 0

@@ -22,4 +22,8 @@ module _ {F : Type 0} where
   close_faults closes = count_by is_some closes
 
 abbrev pub closed_of : List (Option Fault) → Closed
-closed_of closes = record { closed = length closes; first_fault = first_of closes; more_faults = close_faults closes - 1 }
+closed_of closes = record {
+  closed = length closes;
+  first_fault = first_of closes;
+  more_faults = close_faults closes - 1;
+}

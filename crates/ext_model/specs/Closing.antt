@@ -28,7 +28,8 @@ kept_by (Some (Sealed kept)) = kept
 -- Inserts the number into a falling list, unless it is there already.
 abbrev pub put_in : ℕ → List ℕ → List ℕ
 put_in number [] = number ∷ []
-put_in number (first ∷ rest) = if nat_lt first number then number ∷ first ∷ rest else if first == number then first ∷ rest else first ∷ put_in number rest
+put_in number (first ∷ rest) = if nat_lt first number then number ∷ first ∷ rest else if first == number
+    then first ∷ rest else first ∷ put_in number rest
 
 abbrev pub put_in_kept : Option ℕ → List ℕ → List ℕ
 put_in_kept None numbers = numbers

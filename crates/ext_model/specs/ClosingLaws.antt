@@ -17,13 +17,15 @@ RemainingIsSo = (slots : ℕ → Option Slot) (keys : ℕ) → IsRemaining slots
 
 -- A list with exactly these numbers, greatest first and each once, is `remaining`.
 abbrev pub RemainingIsOne : Type 0
-RemainingIsOne = (slots : ℕ → Option Slot) (keys : ℕ) (numbers : List ℕ) → IsRemaining slots keys numbers → numbers ≡ remaining slots keys
+RemainingIsOne = (slots : ℕ → Option Slot) (keys : ℕ) (numbers : List ℕ) → IsRemaining slots keys numbers
+    → numbers ≡ remaining slots keys
 
 -- Nothing happens in a closed context. `cell_of` gives the cell of each of its keys.
 abbrev pub NothingFollowsClose : Type 0
 NothingFollowsClose =
     (limits : Limits) (h rest : History) (cell_of : ℕ → ℕ) (keys : ℕ)
-    → IsLegal limits (h ++ rest) → IsClosed (slots_in cell_of h) keys → (key : ℕ) → key < keys → IsQuiet (cell_of key) rest
+    → IsLegal limits (h ++ rest) → IsClosed (slots_in cell_of h) keys → (key : ℕ) → key < keys
+    → IsQuiet (cell_of key) rest
 
 -- A closed context stays closed.
 abbrev pub ClosedStaysClosed : Type 0
@@ -35,7 +37,8 @@ ClosedStaysClosed =
 abbrev pub RemainingStays : Type 0
 RemainingStays =
     (limits : Limits) (h rest : History) (cell_of : ℕ → ℕ) (keys : ℕ)
-    → IsLegal limits (h ++ rest) → IsClosed (slots_in cell_of h) keys → remaining (slots_in cell_of (h ++ rest)) keys ≡ remaining (slots_in cell_of h) keys
+    → IsLegal limits (h ++ rest) → IsClosed (slots_in cell_of h) keys
+    → remaining (slots_in cell_of (h ++ rest)) keys ≡ remaining (slots_in cell_of h) keys
 
 -- A remaining number is never that of a fault.
 abbrev pub RemainingAreValues : Type 0
@@ -47,4 +50,5 @@ RemainingAreValues =
 abbrev pub SecondLooksStand : Type 0
 SecondLooksStand =
     (cell_of : ℕ → ℕ) (path : List ℕ) (before after : LaneView) (acts : List (Act ℕ)) (cell : ℕ) (look : Look)
-    → LooksAgain cell_of path before after (acts ++ Claim cell ∷ []) look → LookedAgain cell_of path before.number cell (seen_by after) look
+    → LooksAgain cell_of path before after (acts ++ Claim cell ∷ []) look
+    → LookedAgain cell_of path before.number cell (seen_by after) look

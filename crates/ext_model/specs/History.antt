@@ -17,8 +17,7 @@ History = List (Event ℕ)
 abbrev pub by : ℕ → Act ℕ → Event ℕ
 by lane act = record { lane = lane; act = act }
 
--- The size of a store, and whether it keeps faults. Cells and lanes are numbered from 0, numbers of values and faults
--- from 1.
+-- The size of a store, and whether it keeps faults. Cells and lanes count from 0, numbers of values and faults from 1.
 pub record Limits : Type 0 where
   pub cells : ℕ
   pub lanes : ℕ
@@ -31,8 +30,7 @@ pub record Limits : Type 0 where
 abbrev pub state_after : History → State ℕ
 state_after h = fold (apply nat_eq) opening h
 
--- What stands in a row of cells, such as the contexts under one key or the keys in one context. `cell_of` gives the
--- cell of each.
+-- What stands in a row of cells, such as the contexts under one key. `cell_of` gives the cell of each.
 abbrev pub slots_in : (ℕ → ℕ) → History → ℕ → Option Slot
 slots_in cell_of h index = (state_after h).slots (cell_of index)
 

@@ -19,7 +19,8 @@ PrefixesAreLegal = (limits : Limits) (h rest : History) → IsLegal limits (h ++
 
 -- A legal history stays legal if an allowed event follows.
 abbrev pub AllowedEventsFollow : Type 0
-AllowedEventsFollow = (limits : Limits) (h : History) (e : Event ℕ) → IsLegal limits h → IsAllowed limits h e → IsLegal limits (h ++ e ∷ [])
+AllowedEventsFollow = (limits : Limits) (h : History) (e : Event ℕ) → IsLegal limits h → IsAllowed limits h e
+    → IsLegal limits (h ++ e ∷ [])
 
 -- The empty history is legal.
 abbrev pub EmptyIsLegal : Type 0
@@ -30,26 +31,31 @@ EmptyIsLegal = (limits : Limits) → IsLegal limits []
 abbrev pub LegalInduction : Type 0
 LegalInduction =
     (limits : Limits) (test : History → Bool) → test [] ≡ true
-    → ((h : History) (e : Event ℕ) → IsLegal limits h → test h ≡ true → IsAllowed limits h e → test (h ++ e ∷ []) ≡ true)
+    → ((h : History) (e : Event ℕ) → IsLegal limits h → test h ≡ true → IsAllowed limits h e
+    → test (h ++ e ∷ []) ≡ true)
     → (h : History) → IsLegal limits h → test h ≡ true
 
 -- `IsAllowed`, by the reply of one thread, and the table of acts allow the same events.
 abbrev pub AllowedByCases : Type 0
-AllowedByCases = (limits : Limits) (h : History) (lane : ℕ) (act : Act ℕ) → IsAllowed limits h (by lane act) ↔ MayHappen limits h lane act
+AllowedByCases = (limits : Limits) (h : History) (lane : ℕ) (act : Act ℕ) → IsAllowed limits h (by lane act)
+    ↔ MayHappen limits h lane act
 
 -- Events are quiet at a cell exactly if none of them is on it.
 abbrev pub QuietIsNoEvent : Type 0
-QuietIsNoEvent = (cell : ℕ) (events : History) → IsQuiet cell events ↔ ((e : Event ℕ) → Contains events e → is_on nat_eq cell e.act ≡ false)
+QuietIsNoEvent = (cell : ℕ) (events : History) → IsQuiet cell events
+    ↔ ((e : Event ℕ) → Contains events e → is_on nat_eq cell e.act ≡ false)
 
 -- ---- lanes
 
 -- Each event is by one of the store's lanes.
 abbrev pub EventsAreByLanes : Type 0
-EventsAreByLanes = (limits : Limits) (h : History) (e : Event ℕ) → IsLegal limits h → Contains h e → e.lane < limits.lanes
+EventsAreByLanes = (limits : Limits) (h : History) (e : Event ℕ) → IsLegal limits h → Contains h e
+    → e.lane < limits.lanes
 
 -- If no lane of the store has made an event, the history is empty.
 abbrev pub NoLaneNoEvent : Type 0
-NoLaneNoEvent = (limits : Limits) (h : History) → IsLegal limits h → ((lane : ℕ) → lane < limits.lanes → own lane h ≡ []) → h ≡ []
+NoLaneNoEvent = (limits : Limits) (h : History) → IsLegal limits h
+    → ((lane : ℕ) → lane < limits.lanes → own lane h ≡ []) → h ≡ []
 
 -- ---- cells
 
@@ -77,11 +83,13 @@ NothingFollowsSeal =
 abbrev pub ClaimsStand : Type 0
 ClaimsStand =
     (limits : Limits) (h rest : History) (lane cell : ℕ)
-    → IsLegal limits (h ++ rest) → (state_after h).slots cell ≡ Some (slot.Claim lane) → IsQuiet cell (own lane rest) → IsQuiet cell rest
+    → IsLegal limits (h ++ rest) → (state_after h).slots cell ≡ Some (slot.Claim lane) → IsQuiet cell (own lane rest)
+    → IsQuiet cell rest
 
 -- Only cells of the store are used.
 abbrev pub UsedCellsAreWithin : Type 0
-UsedCellsAreWithin = (limits : Limits) (h : History) (cell : ℕ) (slot : Slot) → IsLegal limits h → (state_after h).slots cell ≡ Some slot → cell < limits.cells
+UsedCellsAreWithin = (limits : Limits) (h : History) (cell : ℕ) (slot : Slot) → IsLegal limits h
+    → (state_after h).slots cell ≡ Some slot → cell < limits.cells
 
 -- ---- numbers
 
@@ -98,25 +106,30 @@ NumbersAreStoredOnce = (limits : Limits) (h : History) → IsLegal limits h → 
 -- A lane stores only numbers that it drew.
 abbrev pub LanesStoreOwnNumbers : Type 0
 LanesStoreOwnNumbers =
-    (limits : Limits) (h : History) (e : Event ℕ) → IsLegal limits h → Contains h e → IfSome (stored_number e.act) (λ number. Contains h (by e.lane (Keep number)))
+    (limits : Limits) (h : History) (e : Event ℕ) → IsLegal limits h → Contains h e
+    → IfSome (stored_number e.act) (λ number. Contains h (by e.lane (Keep number)))
 
 -- A lane sees from its own events alone whether it may store a number.
 abbrev pub OwnPastSuffices : Type 0
-OwnPastSuffices = (limits : Limits) (h : History) (lane number : ℕ) → IsLegal limits h → MayStore lane number (own lane h) → MayStore lane number h
+OwnPastSuffices = (limits : Limits) (h : History) (lane number : ℕ) → IsLegal limits h
+    → MayStore lane number (own lane h) → MayStore lane number h
 
 -- ---- faults
 
 -- A fault that stands in a cell was kept as a fault.
 abbrev pub FaultsWereKept : Type 0
-FaultsWereKept = (limits : Limits) (h : History) (cell number : ℕ) → IsLegal limits h → (state_after h).slots cell ≡ Some (slot.Fault number) → Contains (faults h) number
+FaultsWereKept = (limits : Limits) (h : History) (cell number : ℕ) → IsLegal limits h
+    → (state_after h).slots cell ≡ Some (slot.Fault number) → Contains (faults h) number
 
 -- A value that stands in a cell was never kept as a fault.
 abbrev pub ValuesAreNoFaults : Type 0
-ValuesAreNoFaults = (limits : Limits) (h : History) (cell number : ℕ) → IsLegal limits h → (state_after h).slots cell ≡ Some (slot.Entry number) → ¬ (Contains (faults h) number)
+ValuesAreNoFaults = (limits : Limits) (h : History) (cell number : ℕ) → IsLegal limits h
+    → (state_after h).slots cell ≡ Some (slot.Entry number) → ¬ (Contains (faults h) number)
 
 -- The value that a seal keeps was never kept as a fault.
 abbrev pub SealsKeepNoFaults : Type 0
-SealsKeepNoFaults = (limits : Limits) (h : History) (cell number : ℕ) → IsLegal limits h → (state_after h).slots cell ≡ Some (slot.Sealed (Some number)) → ¬ (Contains (faults h) number)
+SealsKeepNoFaults = (limits : Limits) (h : History) (cell number : ℕ) → IsLegal limits h
+    → (state_after h).slots cell ≡ Some (slot.Sealed (Some number)) → ¬ (Contains (faults h) number)
 
 -- A store that keeps no faults never has one.
 abbrev pub NoFaults : Type 0
@@ -127,4 +140,5 @@ NoFaults = (limits : Limits) (h : History) → IsFalse limits.keep_faults → Is
 abbrev pub KeepingAddsFails : Type 0
 KeepingAddsFails =
     (limits : Limits) (h : History)
-    → IsLegal (record limits { keep_faults = false }) h ↔ (IsLegal (record limits { keep_faults = true }) h × (faults h ≡ []))
+    → IsLegal (record limits { keep_faults = false }) h
+    ↔ (IsLegal (record limits { keep_faults = true }) h × (faults h ≡ []))

@@ -21,25 +21,30 @@ NearestDecides =
 
 -- If nothing stands in any context of the path, the look-up is absent.
 abbrev pub EmptyPathIsAbsent : Type 0
-EmptyPathIsAbsent = (slots : ℕ → Option Slot) (path : List ℕ) → All (λ c. slots c ≡ None) path → lookup slots path ≡ look.Absent
+EmptyPathIsAbsent = (slots : ℕ → Option Slot) (path : List ℕ) → All (λ c. slots c ≡ None) path
+    → lookup slots path ≡ look.Absent
 
 -- A fault that a look-up meets stands in the context that it names.
 abbrev pub MetFaultStands : Type 0
-MetFaultStands = (slots : ℕ → Option Slot) (path : List ℕ) (at number : ℕ) → lookup slots path ≡ look.Fault at number → slots at ≡ Some (slot.Fault number)
+MetFaultStands = (slots : ℕ → Option Slot) (path : List ℕ) (at number : ℕ) → lookup slots path ≡ look.Fault at number
+    → slots at ≡ Some (slot.Fault number)
 
 -- A number that was put is found from each context that has nothing nearer.
 abbrev pub PutIsFound : Type 0
 PutIsFound =
     (numbers : ℕ) (s : State Place) (lane context key number : ℕ) (stood : Option ℕ) (nearer farther : List ℕ)
     → All (λ c. s.slots (c, key) ≡ None) nearer → plain_reply numbers s lane (Put (context, key) number) ≡ Happens stood
-    → lookup (under (next_state numbers s lane (Put (context, key) number)) key) (nearer ++ context ∷ farther) ≡ look.Found context number
+    → lookup (under (next_state numbers s lane (Put (context, key) number)) key) (nearer ++ context ∷ farther)
+    ≡ look.Found context number
 
 -- A kept fault is met from each context that has nothing nearer.
 abbrev pub FaultIsMet : Type 0
 FaultIsMet =
     (numbers : ℕ) (s : State Place) (lane context key number : ℕ) (answer : Option ℕ) (nearer farther : List ℕ)
-    → All (λ c. s.slots (c, key) ≡ None) nearer → plain_reply numbers s lane (Fail (context, key) number) ≡ Happens answer
-    → lookup (under (next_state numbers s lane (Fail (context, key) number)) key) (nearer ++ context ∷ farther) ≡ look.Fault context number
+    → All (λ c. s.slots (c, key) ≡ None) nearer
+    → plain_reply numbers s lane (Fail (context, key) number) ≡ Happens answer
+    → lookup (under (next_state numbers s lane (Fail (context, key) number)) key) (nearer ++ context ∷ farther)
+    ≡ look.Fault context number
 
 -- `same_place` is equality.
 abbrev pub PlacesAreTold : Type 0
@@ -61,13 +66,15 @@ SealsStay =
 abbrev pub SealPassesFault : Type 0
 SealPassesFault =
     (numbers : ℕ) (s : State Place) (lane : ℕ) (place : Place) (number : ℕ)
-    → s.slots place ≡ Some (slot.Fault number) → (next_state numbers s lane (Seal place)).slots place ≡ Some (slot.Sealed None)
+    → s.slots place ≡ Some (slot.Fault number)
+    → (next_state numbers s lane (Seal place)).slots place ≡ Some (slot.Sealed None)
 
 -- A claim stays, whatever other lanes do.
 abbrev pub ClaimsStay : Type 0
 ClaimsStay =
     (numbers : ℕ) (s : State Place) (lane : ℕ) (act : Act Place) (place : Place) (by : ℕ)
-    → s.slots place ≡ Some (slot.Claim by) → lane ≢ by → (next_state numbers s lane act).slots place ≡ Some (slot.Claim by)
+    → s.slots place ≡ Some (slot.Claim by) → lane ≢ by
+    → (next_state numbers s lane act).slots place ≡ Some (slot.Claim by)
 
 -- Claiming an empty place and abandoning it changes nothing.
 abbrev pub AbandonUndoesClaim : Type 0

@@ -106,13 +106,16 @@ FailedIsPassed = answered failed 1 (Seal 3) ≡ Happens None
 
 -- A context with a fault under key 0 and a value under key 1 keeps only the value.
 abbrev pub RemainingPassesFault : Type 0
-RemainingPassesFault = remaining (slots_in (λ key. 3 + key) (failed ++ by 1 (Put 4 1) ∷ by 1 (Seal 3) ∷ by 1 (Seal 4) ∷ by 1 (Seal 5) ∷ [])) 3 ≡ 1 ∷ []
+RemainingPassesFault =
+    remaining (slots_in (λ key. 3 + key)
+    (failed ++ by 1 (Put 4 1) ∷ by 1 (Seal 3) ∷ by 1 (Seal 4) ∷ by 1 (Seal 5) ∷ [])) 3 ≡ 1 ∷ []
 
 -- ---- seals: context 2 has values 1, 2 and 3 under its keys, 4 replaces 2, and all three keys are sealed
 
 abbrev pub closed : History
 closed =
-    by 0 (Keep 1) ∷ by 0 (Keep 2) ∷ by 0 (Keep 3) ∷ by 0 (Keep 4) ∷ by 0 (Put 6 1) ∷ by 0 (Put 7 2) ∷ by 0 (Put 8 3) ∷ by 0 (Put 7 4)
+    by 0 (Keep 1) ∷ by 0 (Keep 2) ∷ by 0 (Keep 3) ∷ by 0 (Keep 4) ∷ by 0 (Put 6 1) ∷ by 0 (Put 7 2) ∷ by 0 (Put 8 3)
+    ∷ by 0 (Put 7 4)
     ∷ by 0 (Seal 6) ∷ by 0 (Seal 7) ∷ by 0 (Seal 8) ∷ []
 
 abbrev pub RemainingFalls : Type 0

@@ -36,7 +36,8 @@ abbrev pub TwoFronts : Type 0
 TwoFronts = call_fronts before_call after_two_steps ≡ (by 0 (Keep 1) ∷ []) ∷ at_root ∷ []
 
 abbrev pub EitherPoint : Type 0
-EitherPoint = IsAnswerPoint before_call after_two_steps [] (by 0 (Keep 1) ∷ []) × IsAnswerPoint before_call after_two_steps [] at_root
+EitherPoint = IsAnswerPoint before_call after_two_steps [] (by 0 (Keep 1) ∷ [])
+    × IsAnswerPoint before_call after_two_steps [] at_root
 
 -- One event of another lane came after its first front, not two.
 abbrev pub OvertakenByOne : Type 0
@@ -51,7 +52,11 @@ NotOvertakenByLagging = ¬ (IsOvertaken small 1 before_call after_call)
 
 -- Nor do the lane's own events: between the call's steps it claimed a cell and abandoned it.
 abbrev pub after_own_events : LaneView
-after_own_events = record { number = 1; fronts = (by 0 (Keep 1) ∷ []) ∷ (by 0 (Keep 1) ∷ []) ∷ (by 0 (Keep 1) ∷ by 1 (Claim 3) ∷ []) ∷ (by 0 (Keep 1) ∷ by 1 (Claim 3) ∷ by 1 (Abandon 3) ∷ []) ∷ [] }
+after_own_events = record {
+  number = 1;
+  fronts = (by 0 (Keep 1) ∷ []) ∷ (by 0 (Keep 1) ∷ []) ∷ (by 0 (Keep 1) ∷ by 1 (Claim 3) ∷ [])
+      ∷ (by 0 (Keep 1) ∷ by 1 (Claim 3) ∷ by 1 (Abandon 3) ∷ []) ∷ [];
+}
 
 abbrev pub NotCrowdedByItself : Type 0
 NotCrowdedByItself = ¬ (IsCrowded 1 before_call after_own_events)
@@ -63,7 +68,8 @@ RemoveAnswered = HoldsAtPoint small before_call after_call [] (λ p. reply_after
 -- The put was a call of lane 0, answered directly before its event.
 abbrev pub PutAnswered : Type 0
 PutAnswered =
-    HoldsAtPoint small (record { number = 0; fronts = (by 0 (Keep 1) ∷ []) ∷ [] }) (record { number = 0; fronts = (by 0 (Keep 1) ∷ []) ∷ at_root ∷ [] }) (Put 0 1 ∷ [])
+    HoldsAtPoint small (record { number = 0; fronts = (by 0 (Keep 1) ∷ []) ∷ [] })
+    (record { number = 0; fronts = (by 0 (Keep 1) ∷ []) ∷ at_root ∷ [] }) (Put 0 1 ∷ [])
     (λ p. reply_after small p 0 (Put 0 1) ≡ Happens None)
 
 -- A call that made no step has no answer.
@@ -77,7 +83,8 @@ meanwhile = by 0 (Claim 3) ∷ by 1 (Keep 1) ∷ by 1 (Put 0 1) ∷ []
 
 abbrev pub SecondLookFinds : Type 0
 SecondLookFinds =
-    LooksAgain (λ context. context * 3) (0 ∷ []) (record { number = 0; fronts = [] }) (record { number = 0; fronts = (by 0 (Claim 3) ∷ []) ∷ meanwhile ∷ (meanwhile ++ by 0 (Abandon 3) ∷ []) ∷ [] })
+    LooksAgain (λ context. context * 3) (0 ∷ []) (record { number = 0; fronts = [] })
+    (record { number = 0; fronts = (by 0 (Claim 3) ∷ []) ∷ meanwhile ∷ (meanwhile ++ by 0 (Abandon 3) ∷ []) ∷ [] })
     (Claim 3 ∷ []) (look.Found 0 1)
 
 -- ---- legal or not

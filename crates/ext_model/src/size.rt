@@ -1,13 +1,13 @@
 //! How large a store may be.
-ghost use Rattle.std.specs.Prelude.{◌≡◌};
-ghost use Rattle.ext_model.specs.Sizes.{most_contexts, most_numbers};
+ghost use Rattle.std.specs.Prelude.{◌≡◌, ◌≤◌};
+ghost use Rattle.ext_model.specs.Sizes.{most_contexts, most_lanes, most_numbers};
 
 /// How large a store may be. JUnit's has no limits.
 #[derive(Clone, Copy, Debug, PartialEq, Eq)]
 pub enum Size {
-    /// At most 256 contexts and 65,535 numbers.
+    /// At most 256 contexts, 16 lanes and 65,535 numbers.
     Usual,
-    /// At most 65,536 contexts and 1,048,575 numbers.
+    /// At most 65,536 contexts, 32 lanes and 1,048,575 numbers.
     Large,
 }
 
@@ -19,6 +19,17 @@ impl Size {
         match self {
             Size::Usual => 256,
             Size::Large => 65_536,
+        }
+    }
+
+    /// How many lanes a store of this size has at most.
+    pub fn lanes(self) -> usize
+        ensures lanes { result ≡ most_lanes self }
+        ensures within { (16 ≤ result) × (result ≤ 32) }
+    {
+        match self {
+            Size::Usual => 16,
+            Size::Large => 32,
         }
     }
 

@@ -32,7 +32,8 @@ pub record IsSeenMeanwhile {V : Type 0} (place : ℕ) (before after : List (Stor
   pub until : place < length (first_seen after)
 
 -- Each such event was made by one of these lanes between the two states, or is one of others.
-pub record IsTheirsOr {V : Type 0} (h : History) (Others : ℕ → Type 0) (before after : List (StoreLane V)) : Type 0 where
+pub record IsTheirsOr {V : Type 0} (h : History) (Others : ℕ → Type 0) (before after : List (StoreLane V))
+    : Type 0 where
   pub each : (place : ℕ) → IsSeenMeanwhile place before after → IsMadeIn h place before after ⊎ Others place
 
 -- ---- a whole run
@@ -48,7 +49,8 @@ HasJustItsOwn h lane = own lane.cells.view.number h ≡ own lane.cells.view.numb
 -- After the run the history has exactly those events of each lane that this lane has seen.
 pub record AreAllLanes {V : Type 0} (h : History) (before after : List (StoreLane V)) : Type 0 where
   pub first : All (HasSeenWithin (first_seen before)) before
-  pub by_lanes : (place : ℕ) (event : Event ℕ) → slice_get h place ≡ Some event → Contains (numbers_of before) event.lane
+  pub by_lanes : (place : ℕ) (event : Event ℕ) → slice_get h place ≡ Some event
+      → Contains (numbers_of before) event.lane
   pub parts : All (HasSeenWithin h) after
   pub own_events : All (HasJustItsOwn h) after
 
@@ -83,7 +85,8 @@ module _ {V A : Type 0} (t : TreeSetting V A) where
   IsAloneButBeside h node before after = IsTheirsOr h (IsMadeBeside h node) before after
 
   -- A run of a node that is alone in this sense, within this history.
-  pub record RunsAlone (h : History) (depth node : ℕ) (before : Lanes V) (ran : List Ran) (after : Lanes V) : Type 0 where
+  pub record RunsAlone (h : History) (depth node : ℕ) (before : Lanes V) (ran : List Ran) (after : Lanes V)
+      : Type 0 where
     pub run : ChildRun t depth node before ran after
     pub within : All (HasSeenWithin h) after.first
     pub alone : IsAloneButBeside h node before.first after.first

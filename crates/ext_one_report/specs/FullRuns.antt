@@ -51,7 +51,8 @@ name_of (abort text) = []
 -- The outcome is no lack of memory; nor was this step refused for lack of room, or because it was not shown what stood
 -- there.
 abbrev pub StepFinds : List KeyText → Outcome → StepText → Type 0
-StepFinds keys outcome step = (outcome.verdict ≢ no_memory) × IfSome (step_key step) (λ key. FindsAll (name_of step) (label_of keys key) outcome)
+StepFinds keys outcome step = (outcome.verdict ≢ no_memory)
+    × IfSome (step_key step) (λ key. FindsAll (name_of step) (label_of keys key) outcome)
 
 -- A close that must fail answers the fault with this text. Any other succeeds.
 abbrev pub AnswersText : Option (List ℕ) → Result (Unit {0}) Fault → Type 0
@@ -62,12 +63,14 @@ abbrev pub ClosesFully : ℕ → ℕ → StoredValue → Result (Unit {0}) Fault
 ClosesFully action number value answer left = AnswersText (close_fault (stored_view value)) answer × (left ≡ action)
 
 -- A call that lacks nothing.
-pub record CallsFully (plan : PlanText) (store : StoreView) (node : ℕ) (call : Call) (held : Option HeldView) (before : PlanLane) (outcome : Outcome) (after : PlanLane) : Type 0 where
+pub record CallsFully (plan : PlanText) (store : StoreView) (node : ℕ) (call : Call) (held : Option HeldView)
+    (before : PlanLane) (outcome : Outcome) (after : PlanLane) : Type 0 where
   pub made : MakesCall plan store node call held before outcome after
   pub finds : All (StepFinds plan.keys outcome) (steps_of_call plan call)
 
 -- The setting for such a run of a plan's nodes, by what its calls give.
-abbrev pub full_setting : PlanText → StoreView → LocksView → (ℕ → Call → Option HeldView → PlanLane → Outcome → PlanLane → Type 0) → TreeSetting StoredValue ℕ
+abbrev pub full_setting : PlanText → StoreView → LocksView
+    → (ℕ → Call → Option HeldView → PlanLane → Outcome → PlanLane → Type 0) → TreeSetting StoredValue ℕ
 full_setting plan store locks calls = record {
   store = store;
   locks = locks;
@@ -80,5 +83,7 @@ full_setting plan store locks calls = record {
 }
 
 -- The run lacks nothing.
-abbrev pub LacksNothing : (plan : PlanText) (lanes : ℕ) (results : List (ResultOf Fault)) → ParallelRun plan lanes results → Type 0
-LacksNothing plan lanes results run = TreeRun (full_setting plan run.store run.locks (CallsFully plan run.store)) 16 0 run.first run.ran run.after
+abbrev pub LacksNothing : (plan : PlanText) (lanes : ℕ) (results : List (ResultOf Fault))
+    → ParallelRun plan lanes results → Type 0
+LacksNothing plan lanes results run =
+    TreeRun (full_setting plan run.store run.locks (CallsFully plan run.store)) 16 0 run.first run.ran run.after

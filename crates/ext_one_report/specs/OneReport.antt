@@ -27,7 +27,8 @@ pub record HasOneReport (plan : PlanText) : Type 0 where
 -- whatever order they go.
 abbrev pub OneReport : Type 0
 OneReport =
-    (plan : PlanText) (lanes : ℕ) (results : List (ResultOf Fault)) → IsReadPlan plan → HasOneReport plan → (run : ParallelRun plan lanes results) → LacksNothing plan lanes results run
+    (plan : PlanText) (lanes : ℕ) (results : List (ResultOf Fault)) → IsReadPlan plan → HasOneReport plan
+    → (run : ParallelRun plan lanes results) → LacksNothing plan lanes results run
     → map (with_fault_told fault_text) results ≡ plain_run plan
 
 -- What the second theorem asks of a plan whose nodes may compute the same value beside one another: if they touch one
@@ -41,11 +42,13 @@ pub record HasNearReport (plan : PlanText) : Type 0 where
 -- The reports are the same for each node, except for which shared values it computed and which it found.
 pub record AreNearReports (shares : ℕ → Open) (here there : List NodeOutcome) : Type 0 where
   pub count : length here ≡ length there
-  pub near : (node : ℕ) (one other : NodeOutcome) → slice_get here node ≡ Some one → slice_get there node ≡ Some other → AreToldNear (shares node) one other
+  pub near : (node : ℕ) (one other : NodeOutcome) → slice_get here node ≡ Some one → slice_get there node ≡ Some other
+      → AreToldNear (shares node) one other
 
 -- Each run of such a plan that lacks nothing reports of each node what the plain run does, with this exception. So all
 -- lines of nodes in its report are the same.
 abbrev pub NearReport : Type 0
 NearReport =
-    (plan : PlanText) (lanes : ℕ) (results : List (ResultOf Fault)) → IsReadPlan plan → HasNearReport plan → (run : ParallelRun plan lanes results) → LacksNothing plan lanes results run
+    (plan : PlanText) (lanes : ℕ) (results : List (ResultOf Fault)) → IsReadPlan plan → HasNearReport plan
+    → (run : ParallelRun plan lanes results) → LacksNothing plan lanes results run
     → AreNearReports (shares_in plan) (map (with_fault_told fault_text) results) (plain_run plan)

@@ -22,7 +22,8 @@ Open = ℕ → KeyValue → Option ValueText
 
 -- The touch is of this place, by this node or one below it.
 abbrev pub is_at : PlanText → ℕ → ℕ → KeyValue → TouchText → Bool
-is_at plan node context key touch = is_within plan node touch.node && (touch.context == context) && (touch.key == place_of_key (keys_named plan) key)
+is_at plan node context key touch = is_within plan node touch.node && (touch.context == context)
+    && (touch.key == place_of_key (keys_named plan) key)
 
 -- The same, and the touch may change the place.
 abbrev pub may_change_at : PlanText → ℕ → ℕ → KeyValue → TouchText → Bool
@@ -30,7 +31,8 @@ may_change_at plan node context key touch = touch.changes && is_at plan node con
 
 -- The touch is of this place, by a node that may run beside this one.
 abbrev pub is_beside_at : PlanText → ℕ → ℕ → KeyValue → TouchText → Bool
-is_beside_at plan node context key touch = nodes_beside plan node touch.node && (touch.context == context) && (touch.key == place_of_key (keys_named plan) key)
+is_beside_at plan node context key touch = nodes_beside plan node touch.node && (touch.context == context)
+    && (touch.key == place_of_key (keys_named plan) key)
 
 -- The value that a compute gives.
 abbrev pub value_given : TouchText → ValueText
@@ -40,23 +42,29 @@ value_given touch = record { text = touch.text; closeable = word_eq touch.word w
 -- is given there first. In a plan whose nodes share values, all of them compute this value there.
 unfoldable pub shares_in : PlanText → ℕ → Open
 shares_in plan node context key =
-    if list_any (is_beside_at plan node context key) (touches_made plan) then option_map value_given (find (may_change_at plan node context key) (touches_made plan)) else None
+    if list_any (is_beside_at plan node context key) (touches_made plan)
+    then option_map value_given (find (may_change_at plan node context key) (touches_made plan)) else None
 
 -- If two touches of one place agree, and their nodes may run beside one another, the first gives a value: they are not
 -- two computes that fail alike.
 pub record NoFailedComputesAgree (plan : PlanText) : Type 0 where
-  pub none : (first second : TouchText) → Contains (touches_made plan) first → Contains (touches_made plan) second → IsBeside plan first.node second.node → first.changes ≡ true
-      → first.context ≡ second.context → first.key ≡ second.key → agree first second ≡ true → gives_value first.word ≡ true
+  pub none : (first second : TouchText) → Contains (touches_made plan) first → Contains (touches_made plan) second
+      → IsBeside plan first.node second.node → first.changes ≡ true
+      → first.context ≡ second.context → first.key ≡ second.key → agree first second ≡ true
+      → gives_value first.word ≡ true
 
 -- If nodes that may run beside one another touch one place that one of them may change, both compute the same value
 -- there.
 pub record SharesValues (plan : PlanText) : Type 0 where
-  pub alike : (first second : TouchText) → Contains (touches_made plan) first → Contains (touches_made plan) second → IsBeside plan first.node second.node → first.changes ≡ true
-      → first.context ≡ second.context → first.key ≡ second.key → (agree first second ≡ true) × (gives_value first.word ≡ true)
+  pub alike : (first second : TouchText) → Contains (touches_made plan) first → Contains (touches_made plan) second
+      → IsBeside plan first.node second.node → first.changes ≡ true
+      → first.context ≡ second.context → first.key ≡ second.key → (agree first second ≡ true)
+      × (gives_value first.word ≡ true)
 
 -- In a plan without races, in which no two failing computes agree, nodes share values.
 abbrev pub RaceFreeSharesValues : Type 0
-RaceFreeSharesValues = (plan : PlanText) → ((race : Race) → ¬ IsRace plan race) → NoFailedComputesAgree plan → SharesValues plan
+RaceFreeSharesValues = (plan : PlanText) → ((race : Race) → ¬ IsRace plan race) → NoFailedComputesAgree plan
+    → SharesValues plan
 
 -- No place is shared.
 abbrev pub SharesNothing : Open → Type 0

@@ -17,11 +17,14 @@ use Rattle.ext_one_report.specs.OneReport.{HasOneReport}
 -- something fails its node, whose result shows that, or shows an earlier fault and that there are more.
 abbrev pub TellsLacks : Type 0
 TellsLacks =
-    (plan : PlanText) (lanes : ℕ) (results : List (ResultOf Fault)) → IsReadPlan plan → (run : ParallelRun plan lanes results)
+    (plan : PlanText) (lanes : ℕ) (results : List (ResultOf Fault)) → IsReadPlan plan
+    → (run : ParallelRun plan lanes results)
     → may_have_lacked (map (with_fault_told fault_text) results) ≡ false → LacksNothing plan lanes results run
 
 -- Such a run of a plan that has one report reports of each node what the plain run does.
 abbrev pub OneReportTold : Type 0
 OneReportTold =
-    (plan : PlanText) (lanes : ℕ) (results : List (ResultOf Fault)) → IsReadPlan plan → HasOneReport plan → ParallelRun plan lanes results
-    → may_have_lacked (map (with_fault_told fault_text) results) ≡ false → map (with_fault_told fault_text) results ≡ plain_run plan
+    (plan : PlanText) (lanes : ℕ) (results : List (ResultOf Fault)) → IsReadPlan plan → HasOneReport plan
+    → ParallelRun plan lanes results
+    → may_have_lacked (map (with_fault_told fault_text) results) ≡ false
+    → map (with_fault_told fault_text) results ≡ plain_run plan

@@ -62,7 +62,8 @@ tests_of_mode mode before first second = record {
   key_places = 64;
   size = sizes.Usual;
   keys = [];
-  nodes = container root_id [] ∷ container class_id (before ∷ []) ∷ test_of_class mode (codes "m") first ∷ test_of_class mode (codes "n") second ∷ [];
+  nodes = container root_id [] ∷ container class_id (before ∷ []) ∷ test_of_class mode (codes "m") first
+      ∷ test_of_class mode (codes "n") second ∷ [];
 }
 
 -- The same with concurrent tests.
@@ -82,27 +83,34 @@ b = named (codes "b")
 
 -- Tests that put into their own contexts keep apart, whatever they put.
 abbrev pub OwnPutsKeepApart : Type 0
-OwnPutsKeepApart = (text other : List ℕ) → KeepsApart (two_tests [] (keyed words.Put a text 0 ∷ []) (keyed words.Put a other 0 ∷ []))
+OwnPutsKeepApart = (text other : List ℕ)
+    → KeepsApart (two_tests [] (keyed words.Put a text 0 ∷ []) (keyed words.Put a other 0 ∷ []))
 
 -- Tests that look at a value that the class put before all keep apart.
 abbrev pub LooksKeepApart : Type 0
-LooksKeepApart = (text wanted other : List ℕ) → KeepsApart (two_tests (keyed words.Put a text 0 ∷ []) (keyed words.Want a wanted 0 ∷ []) (keyed words.Want a other 0 ∷ []))
+LooksKeepApart = (text wanted other : List ℕ)
+    → KeepsApart (two_tests (keyed words.Put a text 0 ∷ []) (keyed words.Want a wanted 0 ∷ [])
+    (keyed words.Want a other 0 ∷ []))
 
 -- Tests that put under two keys into the class's context keep apart.
 abbrev pub TwoKeysKeepApart : Type 0
-TwoKeysKeepApart = (text other : List ℕ) → KeepsApart (two_tests [] (keyed words.Put a text 1 ∷ []) (keyed words.Put b other 1 ∷ []))
+TwoKeysKeepApart = (text other : List ℕ)
+    → KeepsApart (two_tests [] (keyed words.Put a text 1 ∷ []) (keyed words.Put b other 1 ∷ []))
 
 -- Tests that run one after the other keep apart, whatever they do.
 abbrev pub OneByOneKeepsApart : Type 0
-OneByOneKeepsApart = (before first second : List StepText) → KeepsApart (tests_of_mode modes.SameThread before first second)
+OneByOneKeepsApart = (before first second : List StepText)
+    → KeepsApart (tests_of_mode modes.SameThread before first second)
 
 -- Tests that both put into the class's context do not keep apart, even with one text.
 abbrev pub PutsAboveDoNot : Type 0
-PutsAboveDoNot = (text other : List ℕ) → ¬ KeepsApart (two_tests [] (keyed words.Put a text 1 ∷ []) (keyed words.Put a other 1 ∷ []))
+PutsAboveDoNot = (text other : List ℕ)
+    → ¬ KeepsApart (two_tests [] (keyed words.Put a text 1 ∷ []) (keyed words.Put a other 1 ∷ []))
 
 -- Nor do a test that looks up and one that puts there.
 abbrev pub LookAndPutDoNot : Type 0
-LookAndPutDoNot = (wanted text : List ℕ) → ¬ KeepsApart (two_tests [] (keyed words.Want a wanted 0 ∷ []) (keyed words.Put a text 1 ∷ []))
+LookAndPutDoNot = (wanted text : List ℕ)
+    → ¬ KeepsApart (two_tests [] (keyed words.Want a wanted 0 ∷ []) (keyed words.Put a text 1 ∷ []))
 
 -- Two tests that compute the same in the class's context.
 abbrev pub computing : List ℕ → PlanText
@@ -119,24 +127,33 @@ ComputesDoNot = (text : List ℕ) → ¬ KeepsApart (computing text)
 -- Two closeable values in one context, whose closes fail with two texts, don't have one text: the fault of the one kept
 -- last is reported first.
 abbrev pub TwoFaultsDoNotTellOne : Type 0
-TwoFaultsDoNotTellOne = ¬ ClosesTellOne (two_tests [] (keyed words.PutCloseable a (codes "bad1") 0 ∷ keyed words.PutCloseable b (codes "bad2") 0 ∷ []) [])
+TwoFaultsDoNotTellOne =
+    ¬ ClosesTellOne (two_tests []
+    (keyed words.PutCloseable a (codes "bad1") 0 ∷ keyed words.PutCloseable b (codes "bad2") 0 ∷ []) [])
 
 -- Nor do they if the second is put over the first, as each step counts.
 abbrev pub ReplacedDoesNotTellOne : Type 0
-ReplacedDoesNotTellOne = ¬ ClosesTellOne (two_tests [] (keyed words.PutCloseable a (codes "bad1") 0 ∷ keyed words.PutCloseable a (codes "bad2") 0 ∷ []) [])
+ReplacedDoesNotTellOne =
+    ¬ ClosesTellOne (two_tests []
+    (keyed words.PutCloseable a (codes "bad1") 0 ∷ keyed words.PutCloseable a (codes "bad2") 0 ∷ []) [])
 
 -- With one text they do.
 abbrev pub OneTextTellsOne : Type 0
-OneTextTellsOne = ClosesTellOne (two_tests [] (keyed words.PutCloseable a (codes "bad1") 0 ∷ keyed words.PutCloseable b (codes "bad1") 0 ∷ []) [])
+OneTextTellsOne = ClosesTellOne
+    (two_tests [] (keyed words.PutCloseable a (codes "bad1") 0 ∷ keyed words.PutCloseable b (codes "bad1") 0 ∷ []) [])
 
 -- So do two texts in two contexts, and one beside a close that succeeds.
 abbrev pub TwoContextsTellOne : Type 0
-TwoContextsTellOne = ClosesTellOne (two_tests [] (keyed words.PutCloseable a (codes "bad1") 0 ∷ keyed words.PutCloseable b (codes "good") 0 ∷ []) (keyed words.PutCloseable a (codes "bad2") 0 ∷ []))
+TwoContextsTellOne = ClosesTellOne
+    (two_tests [] (keyed words.PutCloseable a (codes "bad1") 0 ∷ keyed words.PutCloseable b (codes "good") 0 ∷ [])
+    (keyed words.PutCloseable a (codes "bad2") 0 ∷ []))
 
 -- A plan with a value at which both tests look, and a closeable one of its own for each.
 abbrev pub worked_plan : PlanText
 worked_plan =
-    two_tests (keyed words.Put a (codes "x") 0 ∷ []) (keyed words.Want a (codes "x") 0 ∷ keyed words.PutCloseable b (codes "bad1") 0 ∷ []) (keyed words.Want a (codes "x") 0 ∷ keyed words.PutCloseable b (codes "bad2") 0 ∷ [])
+    two_tests (keyed words.Put a (codes "x") 0 ∷ [])
+    (keyed words.Want a (codes "x") 0 ∷ keyed words.PutCloseable b (codes "bad1") 0 ∷ [])
+    (keyed words.Want a (codes "x") 0 ∷ keyed words.PutCloseable b (codes "bad2") 0 ∷ [])
 
 -- All that the theorem asks holds of it: its nodes keep apart.
 abbrev pub WorkedKeepsApart : Type 0
@@ -167,7 +184,8 @@ pub record AreSteps (count : ℕ) (steps : List StepText) : Type 0 where
 -- Each of the plans above is like one that was read, if its steps are like this.
 abbrev pub TestsAreRead : Type 0
 TestsAreRead =
-    (mode : Mode) (before first second : List StepText) → AreSteps 2 before → AreSteps 3 first → AreSteps 3 second → IsReadPlan (tests_of_mode mode before first second)
+    (mode : Mode) (before first second : List StepText) → AreSteps 2 before → AreSteps 3 first → AreSteps 3 second
+    → IsReadPlan (tests_of_mode mode before first second)
 
 -- Wherever its nodes that may run beside one another touch one place, both compute one value.
 abbrev pub ComputesShareValues : Type 0
@@ -175,10 +193,14 @@ ComputesShareValues = (text : List ℕ) → SharesValues (computing text)
 
 -- Both tests share it in the class's context.
 abbrev pub FirstShares : Type 0
-FirstShares = (text : List ℕ) → shares_in (computing text) 2 1 (key_of_step (computing text).keys a) ≡ Some (record { text = text; closeable = false })
+FirstShares = (text : List ℕ)
+    → shares_in (computing text) 2 1 (key_of_step (computing text).keys a)
+    ≡ Some (record { text = text; closeable = false })
 
 abbrev pub SecondShares : Type 0
-SecondShares = (text : List ℕ) → shares_in (computing text) 3 1 (key_of_step (computing text).keys a) ≡ Some (record { text = text; closeable = false })
+SecondShares = (text : List ℕ)
+    → shares_in (computing text) 3 1 (key_of_step (computing text).keys a)
+    ≡ Some (record { text = text; closeable = false })
 
 -- The class shares nothing there, since no node runs beside it.
 abbrev pub ClassSharesNone : Type 0

@@ -73,26 +73,31 @@ IsSeenOfPlan plan key seen_nothing = Unit {0}
 IsSeenOfPlan plan key (seen_refused why) = Unit {0}
 
 -- The same of a compute whose factory gives a value, and which is shown a kept fault in its place.
-abbrev pub IsFaultOfPlan : (plan : PlanText) (key : KeyValue) (name label : List ℕ) (result : Compute StoredValue (Unit {0})) (between : PlanLane) (outcome : Outcome) (after : PlanLane)
+abbrev pub IsFaultOfPlan : (plan : PlanText) (key : KeyValue) (name label : List ℕ)
+    (result : Compute StoredValue (Unit {0})) (between : PlanLane) (outcome : Outcome) (after : PlanLane)
     → EndsCompute name label result between outcome after → Type 0
 IsFaultOfPlan plan key name label (computes.Computed number) between outcome after ends = Unit {0}
 IsFaultOfPlan plan key name label (computes.Found at number unused) between outcome after ends = Unit {0}
 IsFaultOfPlan plan key name label (computes.Failed why) between outcome after ends = Unit {0}
 IsFaultOfPlan plan key name label (computes.FaultKept number) between outcome after ends = Unit {0}
 IsFaultOfPlan plan key name label (computes.FaultUnkept why cause) between outcome after ends = Unit {0}
-IsFaultOfPlan plan key name label (computes.FaultStands at number unused) between outcome after ends = IsSeenOfPlan plan key ends.1
+IsFaultOfPlan plan key name label (computes.FaultStands at number unused) between outcome after ends =
+    IsSeenOfPlan plan key ends.1
 IsFaultOfPlan plan key name label (computes.Unkept value cause) between outcome after ends = Unit {0}
 IsFaultOfPlan plan key name label (computes.Refused why unused) between outcome after ends = Unit {0}
 
 -- The same of a compute whose factory fails, and which is shown a value or a kept fault in its place.
-abbrev pub IsMetOfPlan : (plan : PlanText) (key : KeyValue) (name label text : List ℕ) (result : Compute StoredValue (Unit {0})) (between : PlanLane) (outcome : Outcome) (after : PlanLane)
+abbrev pub IsMetOfPlan : (plan : PlanText) (key : KeyValue) (name label text : List ℕ)
+    (result : Compute StoredValue (Unit {0})) (between : PlanLane) (outcome : Outcome) (after : PlanLane)
     → EndsComputeFail name label text result between outcome after → Type 0
 IsMetOfPlan plan key name label text (computes.Computed number) between outcome after ends = Unit {0}
-IsMetOfPlan plan key name label text (computes.Found at number unused) between outcome after ends = IsSeenOfPlan plan key ends.1
+IsMetOfPlan plan key name label text (computes.Found at number unused) between outcome after ends =
+    IsSeenOfPlan plan key ends.1
 IsMetOfPlan plan key name label text (computes.Failed why) between outcome after ends = Unit {0}
 IsMetOfPlan plan key name label text (computes.FaultKept number) between outcome after ends = Unit {0}
 IsMetOfPlan plan key name label text (computes.FaultUnkept why cause) between outcome after ends = Unit {0}
-IsMetOfPlan plan key name label text (computes.FaultStands at number unused) between outcome after ends = IsSeenOfPlan plan key ends.1
+IsMetOfPlan plan key name label text (computes.FaultStands at number unused) between outcome after ends =
+    IsSeenOfPlan plan key ends.1
 IsMetOfPlan plan key name label text (computes.Unkept value cause) between outcome after ends = Unit {0}
 IsMetOfPlan plan key name label text (computes.Refused why unused) between outcome after ends = Unit {0}
 
@@ -102,28 +107,37 @@ module _ (plan : PlanText) (store : StoreView) (call : CallText) where
   -- A look-up that shows a value or a fault only if the plan keeps it under the call's key.
   abbrev pub LookFinds : (SeenText → VerdictText) → PlanLane → Outcome → PlanLane → Type 0
   LookFinds verdict before outcome after =
-      OfCallKey store call before outcome after (λ number. (seen : SeenText) × Sees store (start_of call.path) number before seen after × Ends (verdict seen) 0 0 outcome
+      OfCallKey store call before outcome after
+      (λ number. (seen : SeenText) × Sees store (start_of call.path) number before seen after
+      × Ends (verdict seen) 0 0 outcome
       × IsSeenOfPlan plan call.key seen)
 
   -- A compute whose factory gives a value, and which shows a fault only if the plan keeps it under the call's key.
   abbrev pub ValueFinds : ValueText → PlanLane → Outcome → PlanLane → Type 0
   ValueFinds value before outcome after =
-      OfCallKey store call before outcome after (λ number. (made : ComputesValue store (start_of call.path) number call.name call.label value before outcome after)
+      OfCallKey store call before outcome after
+      (λ number. (made : ComputesValue store (start_of call.path) number call.name call.label value before outcome
+      after)
       × IsFaultOfPlan plan call.key call.name call.label made.result made.between outcome after made.ends)
 
   -- A compute whose factory fails, and which shows a value or a fault only if the plan keeps it under the call's key.
   abbrev pub ComputeFinds : List ℕ → PlanLane → Outcome → PlanLane → Type 0
   ComputeFinds text before outcome after =
-      OfCallKey store call before outcome after (λ number. (made : ComputesFault store (start_of call.path) number call.name call.label text before outcome after)
+      OfCallKey store call before outcome after
+      (λ number. (made : ComputesFault store (start_of call.path) number call.name call.label text before outcome
+      after)
       × IsMetOfPlan plan call.key call.name call.label text made.result made.between outcome after made.ends)
 
   -- What a step with this word and text does with its call: it sees a value or a kept fault only if the plan keeps it
   -- under the call's key.
   abbrev pub WordFinds : Word → List ℕ → PlanLane → Outcome → PlanLane → Type 0
-  WordFinds words.Want text before outcome after = LookFinds (want_verdict call.name call.label text) before outcome after
+  WordFinds words.Want text before outcome after =
+      LookFinds (want_verdict call.name call.label text) before outcome after
   WordFinds words.None text before outcome after = LookFinds (none_verdict call.name call.label) before outcome after
-  WordFinds words.Compute text before outcome after = ValueFinds (record { text = text; closeable = false }) before outcome after
-  WordFinds words.ComputeCloseable text before outcome after = ValueFinds (record { text = text; closeable = true }) before outcome after
+  WordFinds words.Compute text before outcome after =
+      ValueFinds (record { text = text; closeable = false }) before outcome after
+  WordFinds words.ComputeCloseable text before outcome after =
+      ValueFinds (record { text = text; closeable = true }) before outcome after
   WordFinds words.ComputeFail text before outcome after = ComputeFinds text before outcome after
   WordFinds word text before outcome after = StepDoes store call word text before outcome after
 
@@ -131,7 +145,8 @@ module _ (plan : PlanText) (store : StoreView) (path : List ℕ) where
   -- A step that sees a value or a kept fault only if the plan keeps it under the step's key.
   abbrev pub StepFinds : StepText → PlanLane → Outcome → PlanLane → Type 0
   StepFinds (keyed word key text up) before outcome after =
-      WordFinds plan store (call_of plan.keys path (word_text word) key up) word text before outcome after ⊎ LacksMemory plan.keys word key before outcome after
+      WordFinds plan store (call_of plan.keys path (word_text word) key up) word text before outcome after
+      ⊎ LacksMemory plan.keys word key before outcome after
   StepFinds (fail text) before outcome after = StepRun store plan.keys path (fail text) before outcome after
   StepFinds (abort text) before outcome after = StepRun store plan.keys path (abort text) before outcome after
 
@@ -140,11 +155,13 @@ module _ (plan : PlanText) (store : StoreView) (path : List ℕ) where
   StepsFind [] before outcome after = (after ≡ before) × Ends successful 0 0 outcome
   StepsFind (step ∷ more) before outcome after =
       (first : Outcome) × (between : PlanLane) × StepFinds step before first between
-      × ((is_successful (ending_of first.verdict) ≡ true → (rest : Outcome) × StepsFind more between rest after × AddsUp store plan.keys path first rest outcome)
+      × ((is_successful (ending_of first.verdict) ≡ true → (rest : Outcome) × StepsFind more between rest after
+      × AddsUp store plan.keys path first rest outcome)
       × (is_successful (ending_of first.verdict) ≡ false → (outcome ≡ first) × (after ≡ between)))
 
 -- A call of a node, whose steps run in the node's context.
-pub record CallFinds (plan : PlanText) (store : StoreView) (node : ℕ) (call : Call) (held : Option HeldView) (before : PlanLane) (outcome : Outcome) (after : PlanLane) : Type 0 where
+pub record CallFinds (plan : PlanText) (store : StoreView) (node : ℕ) (call : Call) (held : Option HeldView)
+    (before : PlanLane) (outcome : Outcome) (after : PlanLane) : Type 0 where
   pub path : List ℕ
   pub path_is : IsPathOf store.tree node path
   pub steps : StepsFind plan store path (steps_of_call plan call) before outcome after
@@ -159,10 +176,14 @@ PlansGoOn = (plan : PlanText) (store : StoreView) → CallsGoOn (MakesCall plan 
 -- the plan puts or computes under the same key. A kept fault that one of these or a `compute` meets is that of a
 -- `computefail` of the plan, with the same text and under the same key.
 abbrev pub RunsFindWhatIsKept : Type 0
-RunsFindWhatIsKept = (plan : PlanText) (lanes : ℕ) (results : List (ResultOf Fault)) (run : ParallelRun plan lanes results)
-    → TreeRun (with_calls (CallFinds plan run.store) (setting_of_plan plan run.store run.locks)) 16 0 run.first run.ran run.after
+RunsFindWhatIsKept = (plan : PlanText) (lanes : ℕ) (results : List (ResultOf Fault))
+    (run : ParallelRun plan lanes results)
+    → TreeRun (with_calls (CallFinds plan run.store) (setting_of_plan plan run.store run.locks)) 16 0 run.first run.ran
+    run.after
 
 -- Two lanes of a run have one number for a key that both know, and one key for a number that both know.
 abbrev pub LanesNumberAlike : Type 0
-LanesNumberAlike = (plan : PlanText) (lanes : ℕ) (results : List (ResultOf Fault)) (run : ParallelRun plan lanes results) (lane other : PlanLane)
-    → Contains run.after.first lane → Contains run.after.first other → OneNumber lane.keys other.keys × OneKey lane.keys other.keys
+LanesNumberAlike = (plan : PlanText) (lanes : ℕ) (results : List (ResultOf Fault))
+    (run : ParallelRun plan lanes results) (lane other : PlanLane)
+    → Contains run.after.first lane → Contains run.after.first other → OneNumber lane.keys other.keys
+    × OneKey lane.keys other.keys

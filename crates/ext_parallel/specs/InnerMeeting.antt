@@ -14,7 +14,8 @@ pub record HasRecalled {V : Type 0} (lane : StoreLane V) : Type 0 where
 
 -- The lane is still one of the store's, made no event, and knows the same values and faults. In between it saw this
 -- history, which extends what it had seen, and this numbering contains what it knew of keys.
-pub record Turns {V : Type 0} (store : StoreView) (h : History) (numbering : List KnownPlace) (before after : StoreLane V) : Type 0 where
+pub record Turns {V : Type 0} (store : StoreView) (h : History) (numbering : List KnownPlace)
+    (before after : StoreLane V) : Type 0 where
   pub lane : IsLaneOf store.id after
   pub calls : Calls store.id.cells.limits before.cells.view after.cells.view []
   pub since : IsPrefix (seen_by before.cells.view) h

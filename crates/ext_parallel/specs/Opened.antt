@@ -27,7 +27,13 @@ run_tries = 64
 -- and, if faults are kept, one for the fault of each.
 pub record IsStoreOf (plan : PlanText) (lanes : ℕ) (store : StoreView) : Type 0 where
   pub tree : store.tree ≡ ids_of_nodes plan.nodes
-  pub limits : store.id.cells.limits ≡ record { cells = length plan.nodes * plan.key_places; lanes = lanes; numbers = most_numbers plan.size; keep_faults = plan.keep_faults }
+  pub limits : store.id.cells.limits
+      ≡ record {
+        cells = length plan.nodes * plan.key_places;
+        lanes = lanes;
+        numbers = most_numbers plan.size;
+        keep_faults = plan.keep_faults;
+      }
   pub key_places : length store.id.keys ≡ plan.key_places
   pub places : length store.id.places ≡ most_numbers plan.size
   pub fault_places : length store.id.fault_places ≡ fault_count plan.keep_faults (most_numbers plan.size)
@@ -54,7 +60,8 @@ pub record ShareHistory {V : Type 0} (store : StoreView) (lanes : List (StoreLan
   pub history : History
   pub legal : IsLegal store.id.cells.limits history
   pub parts : All (λ lane. All (λ front. IsPrefix front history) lane.cells.view.fronts) lanes
-  pub own_events : All (λ lane. own lane.cells.view.number history ≡ own lane.cells.view.number (seen_by lane.cells.view)) lanes
+  pub own_events : All (λ lane. own lane.cells.view.number history
+      ≡ own lane.cells.view.number (seen_by lane.cells.view)) lanes
   pub agree : AllPairs AllAgree (all_known lanes)
   pub agree_faults : AllPairs AllAgree (all_faults lanes)
 
@@ -80,4 +87,5 @@ IsPlaceOfPlan plan notes number = (key : KeyValue) × IsKeyNumber notes key numb
 -- together set at most one place for each key that the plan names. It is not said that every place was set by one of
 -- the lanes.
 abbrev pub PlaceKeysOfPlan : {V : Type 0} → PlanText → List (StoreLane V) → Type 0
-PlaceKeysOfPlan plan lanes = All (λ lane. (number : ℕ) → placed_at lane.keys number ≡ true → IsPlaceOfPlan plan lane.keys number) lanes
+PlaceKeysOfPlan plan lanes =
+    All (λ lane. (number : ℕ) → placed_at lane.keys number ≡ true → IsPlaceOfPlan plan lane.keys number) lanes

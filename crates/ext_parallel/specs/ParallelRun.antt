@@ -58,7 +58,8 @@ pub record ParallelRun (plan : PlanText) (lanes : ℕ) (results : List (ResultOf
   pub locks_are : IsLocksOf plan lanes locks
   -- The lanes have seen nothing before the run.
   pub first : Lanes StoredValue
-  pub fresh : first.first ≡ map (fresh_store_lane store.id.places store.id.fault_places store.id.keys) (fresh_lanes store.id.cells 0 lanes)
+  pub fresh : first.first ≡ map (fresh_store_lane store.id.places store.id.fault_places store.id.keys)
+      (fresh_lanes store.id.cells 0 lanes)
   pub fresh_locks : first.second ≡ locking.fresh_lanes locks.table lanes lanes
   -- The run of the tree, and its results.
   pub ran : List Ran
@@ -77,7 +78,8 @@ pub record ParallelRun (plan : PlanText) (lanes : ℕ) (results : List (ResultOf
 
 -- A run of the plan's tree over this store and these locks ended early, for this fault. The lanes that it left have
 -- seen one history and number keys alike.
-pub record EndsOver (plan : PlanText) (store : StoreView) (locks : LocksView) (first : Lanes StoredValue) (why : EngineFault) : Type 0 where
+pub record EndsOver (plan : PlanText) (store : StoreView) (locks : LocksView) (first : Lanes StoredValue)
+    (why : EngineFault) : Type 0 where
   pub after : Lanes StoredValue
   pub early : EndsEarly (setting_of_plan plan store locks) 16 0 first why after
   pub shared : ShareHistory store after.first
@@ -90,7 +92,8 @@ pub record ParallelEndsEarly (plan : PlanText) (lanes : ℕ) (why : EngineFault)
   pub locks : LocksView
   pub locks_are : IsLocksOf plan lanes locks
   pub first : Lanes StoredValue
-  pub fresh : first.first ≡ map (fresh_store_lane store.id.places store.id.fault_places store.id.keys) (fresh_lanes store.id.cells 0 lanes)
+  pub fresh : first.first ≡ map (fresh_store_lane store.id.places store.id.fault_places store.id.keys)
+      (fresh_lanes store.id.cells 0 lanes)
   pub fresh_locks : first.second ≡ locking.fresh_lanes locks.table lanes lanes
   pub ends : EndsOver plan store locks first why
 

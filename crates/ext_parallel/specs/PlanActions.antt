@@ -9,4 +9,5 @@ use Rattle.ext_lifecycle.specs.FaultTexts.{fault_text}
 -- succeeds.
 abbrev pub AnswersClose : Option (List ℕ) → Result (Unit {0}) Fault → Type 0
 AnswersClose None answer = answer ≡ Ok tt
-AnswersClose (Some text) answer = (fault : Fault) × (answer ≡ Err fault) × ((fault_text fault ≡ text) ⊎ (fault ≡ faults.Memory))
+AnswersClose (Some text) answer = (fault : Fault) × (answer ≡ Err fault)
+    × ((fault_text fault ≡ text) ⊎ (fault ≡ faults.Memory))

@@ -29,7 +29,8 @@ suite_of plan = record {
 }
 
 -- A call of a node: its steps run in the node's context, even if another node registered them.
-pub record RunsCall (plan : PlanText) (store : StoreView) (node : ℕ) (call : Call) (before : PlanLane) (outcome : Outcome) (after : PlanLane) : Type 0 where
+pub record RunsCall (plan : PlanText) (store : StoreView) (node : ℕ) (call : Call) (before : PlanLane)
+    (outcome : Outcome) (after : PlanLane) : Type 0 where
   pub path : List ℕ
   pub path_is : IsPathOf store.tree node path
   pub steps : StepsRun store plan.keys path (steps_of_call plan call) before outcome after

@@ -69,8 +69,10 @@ KnowsTheSame before after = (after.known ≡ before.known) × (after.faults ≡ 
 
 -- What a step is shown by a look-up with this answer.
 abbrev pub Shows : Look → PlanLane → SeenText → PlanLane → Type 0
-Shows (look.Found at number) before seen after = (after.faults ≡ before.faults) × ShowsNumber number before.known seen after.known
-Shows (look.Fault at number) before seen after = (after.known ≡ before.known) × ShowsFault number before.faults seen after.faults
+Shows (look.Found at number) before seen after = (after.faults ≡ before.faults)
+    × ShowsNumber number before.known seen after.known
+Shows (look.Fault at number) before seen after = (after.known ≡ before.known)
+    × ShowsFault number before.faults seen after.faults
 Shows look.Absent before seen after = KnowsTheSame before after × (seen ≡ seen_nothing)
 Shows (look.Busy at) before seen after = ⊥
 Shows (look.Closed at) before seen after = KnowsTheSame before after × (seen ≡ seen_refused reasons.Closed)
@@ -96,8 +98,10 @@ module _ (name label : List ℕ) where
   EndsCompute (computes.FaultKept number) before outcome after = ⊥
   EndsCompute (computes.FaultUnkept why cause) before outcome after = ⊥
   EndsCompute (computes.FaultStands at number unused) before outcome after =
-      (after.known ≡ before.known) × (seen : SeenText) × ShowsFault number before.faults seen after.faults × Ends (none_verdict name label seen) 0 0 outcome
-  EndsCompute (computes.Unkept value cause) before outcome after = (after ≡ before) × EndsUnkept name label cause outcome
+      (after.known ≡ before.known) × (seen : SeenText) × ShowsFault number before.faults seen after.faults
+      × Ends (none_verdict name label seen) 0 0 outcome
+  EndsCompute (computes.Unkept value cause) before outcome after = (after ≡ before)
+      × EndsUnkept name label cause outcome
   EndsCompute (computes.Refused why unused) before outcome after = (after ≡ before) × EndsRefused name label why outcome
 
   -- How a compute ends whose factory fails with this text. It succeeds if its fault comes back or is kept, or if it
@@ -106,19 +110,24 @@ module _ (name label : List ℕ) where
   abbrev pub EndsComputeFail : List ℕ → Compute StoredValue (Unit {0}) → PlanLane → Outcome → PlanLane → Type 0
   EndsComputeFail text (computes.Computed number) before outcome after = ⊥
   EndsComputeFail text (computes.Found at number unused) before outcome after =
-      (after.faults ≡ before.faults) × (seen : SeenText) × ShowsNumber number before.known seen after.known × Ends (none_verdict name label seen) 0 1 outcome
+      (after.faults ≡ before.faults) × (seen : SeenText) × ShowsNumber number before.known seen after.known
+      × Ends (none_verdict name label seen) 0 1 outcome
   EndsComputeFail text (computes.Failed why) before outcome after = (after ≡ before) × Ends successful 0 0 outcome
   EndsComputeFail text (computes.FaultKept number) before outcome after = (after ≡ before) × Ends successful 0 0 outcome
-  EndsComputeFail text (computes.FaultUnkept why cause) before outcome after = (after ≡ before) × EndsUnkept name label cause outcome
+  EndsComputeFail text (computes.FaultUnkept why cause) before outcome after = (after ≡ before)
+      × EndsUnkept name label cause outcome
   EndsComputeFail text (computes.FaultStands at number unused) before outcome after =
-      (after.known ≡ before.known) × (seen : SeenText) × ShowsFault number before.faults seen after.faults × Ends (fail_verdict name label text seen) 0 0 outcome
+      (after.known ≡ before.known) × (seen : SeenText) × ShowsFault number before.faults seen after.faults
+      × Ends (fail_verdict name label text seen) 0 0 outcome
   EndsComputeFail text (computes.Unkept value cause) before outcome after = ⊥
-  EndsComputeFail text (computes.Refused why unused) before outcome after = (after ≡ before) × EndsRefused name label why outcome
+  EndsComputeFail text (computes.Refused why unused) before outcome after = (after ≡ before)
+      × EndsRefused name label why outcome
 
 -- ---- the calls
 
 -- The value of a step with this name and label is not kept, and nothing is stored.
-pub record PutsNothing (store : StoreView) (name label : List ℕ) (value : ValueText) (before : PlanLane) (outcome : Outcome) (after : PlanLane) : Type 0 where
+pub record PutsNothing (store : StoreView) (name label : List ℕ) (value : ValueText) (before : PlanLane)
+    (outcome : Outcome) (after : PlanLane) : Type 0 where
   pub lost_value : StoredValue
   pub value_is : stored_view lost_value ≡ value
   pub why : KeepFault
@@ -150,7 +159,8 @@ module _ (store : StoreView) (context key : ℕ) where
       pub ends : EndsChange name label result outcome
 
     -- A compute with a factory that gives this value and then, if a kept fault stands there, the call that shows it.
-    pub record ComputesValue (value : ValueText) (before : PlanLane) (outcome : Outcome) (after : PlanLane) : Type 0 where
+    pub record ComputesValue (value : ValueText) (before : PlanLane) (outcome : Outcome) (after : PlanLane)
+        : Type 0 where
       pub given : StoredValue
       pub value_is : stored_view given ≡ value
       pub result : Compute StoredValue (Unit {0})

@@ -29,12 +29,16 @@ module _ (store : StoreView) (call : CallText) where
   -- The key has a number for the lane from now on, of which `Holds` is true. Or the call was refused for its key, and
   -- the step ends with the reason.
   abbrev pub OfCallKey : PlanLane → Outcome → PlanLane → (ℕ → Type 0) → Type 0
-  OfCallKey before outcome after Holds = OfKey before after call.key (λ why. KnowsTheSame before after × EndsRefused call.name call.label why outcome) Holds
+  OfCallKey before outcome after Holds =
+      OfKey before after call.key (λ why. KnowsTheSame before after × EndsRefused call.name call.label why outcome)
+      Holds
 
   -- A look-up from the context, and how the step ends by what it shows.
   abbrev pub StepLooks : (SeenText → VerdictText) → PlanLane → Outcome → PlanLane → Type 0
   StepLooks verdict before outcome after =
-      OfCallKey before outcome after (λ number. (seen : SeenText) × Sees store (start_of call.path) number before seen after × Ends (verdict seen) 0 0 outcome)
+      OfCallKey before outcome after
+      (λ number. (seen : SeenText) × Sees store (start_of call.path) number before seen after
+      × Ends (verdict seen) 0 0 outcome)
 
   -- The value is kept under a number; then its key is numbered, and the value's number is stored in the context. Either
   -- may be refused.
@@ -45,35 +49,47 @@ module _ (store : StoreView) (call : CallText) where
     pub between : PlanLane
     pub keeps : KeepsAs kept_value before between kept
     pub faults_between : between.faults ≡ before.faults
-    pub stores : OfCallKey between outcome after (λ number. StoresThere store (start_of call.path) number call.name call.label kept between outcome after)
+    pub stores : OfCallKey between outcome after
+        (λ number. StoresThere store (start_of call.path) number call.name call.label kept between outcome after)
     pub known : KnowsTheSame between after
 
   -- A value is kept and put into the context. If it is not kept, its key is not numbered.
   abbrev pub StepPuts : ValueText → PlanLane → Outcome → PlanLane → Type 0
-  StepPuts value before outcome after = PutsKept value before outcome after ⊎ PutsNothing store call.name call.label value before outcome after
+  StepPuts value before outcome after = PutsKept value before outcome after
+      ⊎ PutsNothing store call.name call.label value before outcome after
 
   -- What stands in the context is removed.
   abbrev pub StepRemoves : PlanLane → Outcome → PlanLane → Type 0
-  StepRemoves before outcome after = OfCallKey before outcome after (λ number. RemovesThere store (start_of call.path) number call.name call.label before outcome after)
+  StepRemoves before outcome after =
+      OfCallKey before outcome after
+      (λ number. RemovesThere store (start_of call.path) number call.name call.label before outcome after)
 
   -- A value is computed for the context, unless one is found.
   abbrev pub StepComputes : ValueText → PlanLane → Outcome → PlanLane → Type 0
   StepComputes value before outcome after =
-      OfCallKey before outcome after (λ number. ComputesValue store (start_of call.path) number call.name call.label value before outcome after)
+      OfCallKey before outcome after
+      (λ number. ComputesValue store (start_of call.path) number call.name call.label value before outcome after)
 
   -- The same with a factory that fails.
   abbrev pub StepFails : List ℕ → PlanLane → Outcome → PlanLane → Type 0
-  StepFails text before outcome after = OfCallKey before outcome after (λ number. ComputesFault store (start_of call.path) number call.name call.label text before outcome after)
+  StepFails text before outcome after =
+      OfCallKey before outcome after
+      (λ number. ComputesFault store (start_of call.path) number call.name call.label text before outcome after)
 
   -- What a step with this word and text does with its call.
   abbrev pub StepDoes : Word → List ℕ → PlanLane → Outcome → PlanLane → Type 0
-  StepDoes words.Put text before outcome after = StepPuts (record { text = text; closeable = false }) before outcome after
-  StepDoes words.PutCloseable text before outcome after = StepPuts (record { text = text; closeable = true }) before outcome after
-  StepDoes words.Want text before outcome after = StepLooks (want_verdict call.name call.label text) before outcome after
+  StepDoes words.Put text before outcome after =
+      StepPuts (record { text = text; closeable = false }) before outcome after
+  StepDoes words.PutCloseable text before outcome after =
+      StepPuts (record { text = text; closeable = true }) before outcome after
+  StepDoes words.Want text before outcome after =
+      StepLooks (want_verdict call.name call.label text) before outcome after
   StepDoes words.None text before outcome after = StepLooks (none_verdict call.name call.label) before outcome after
   StepDoes words.Remove text before outcome after = StepRemoves before outcome after
-  StepDoes words.Compute text before outcome after = StepComputes (record { text = text; closeable = false }) before outcome after
-  StepDoes words.ComputeCloseable text before outcome after = StepComputes (record { text = text; closeable = true }) before outcome after
+  StepDoes words.Compute text before outcome after =
+      StepComputes (record { text = text; closeable = false }) before outcome after
+  StepDoes words.ComputeCloseable text before outcome after =
+      StepComputes (record { text = text; closeable = true }) before outcome after
   StepDoes words.ComputeFail text before outcome after = StepFails text before outcome after
 
 -- There was no memory for the step's key or its factory's fault, and the step did nothing.
@@ -99,7 +115,8 @@ module _ (store : StoreView) (keys : List KeyText) (path : List ℕ) where
   -- A step of a test or a callback that runs in the first context of the path.
   abbrev pub StepRun : StepText → PlanLane → Outcome → PlanLane → Type 0
   StepRun (keyed word key text up) before outcome after =
-      StepDoes store (call_of keys path (word_text word) key up) word text before outcome after ⊎ LacksMemory keys word key before outcome after
+      StepDoes store (call_of keys path (word_text word) key up) word text before outcome after
+      ⊎ LacksMemory keys word key before outcome after
   StepRun (fail text) before outcome after = (after ≡ before) × Ends (failed text) 0 0 outcome
   StepRun (abort text) before outcome after = (after ≡ before) × Ends (aborted text) 0 0 outcome
 
@@ -117,6 +134,7 @@ module _ (store : StoreView) (keys : List KeyText) (path : List ℕ) where
   StepsRun [] before outcome after = (after ≡ before) × Ends successful 0 0 outcome
   StepsRun (step ∷ more) before outcome after =
       (first : Outcome) × (between : PlanLane) × StepRun step before first between × HasFrame store before between
-      × ((is_successful (ending_of first.verdict) ≡ true → (rest : Outcome) × StepsRun more between rest after × AddsUp first rest outcome)
+      × ((is_successful (ending_of first.verdict) ≡ true → (rest : Outcome) × StepsRun more between rest after
+      × AddsUp first rest outcome)
       × (is_successful (ending_of first.verdict) ≡ false → (outcome ≡ first) × (after ≡ between)))
       × PlacesItsKey keys (step_key step) before between

@@ -30,6 +30,7 @@ pub(crate) fn open_store<V: StoreValue + Drop>(
     ensures closers { IfOk result (λ r. r.2.items ≡ closers_below r.0.id.cells (length r.0.tree)) }
 {
     let tree = plan.tree(alloc)?;
+    let _most = plan.size.lanes();
     let limits = Limits {
         lanes,
         tries: TRIES,

@@ -38,7 +38,8 @@ module _ (memory : List Memory) (plan : PlanText) where
   begins [] = run_opening memory plan
   begins (at ∷ []) = run_opening memory plan
   begins (child ∷ at ∷ above) =
-      fold (λ run other. node_run plan (levels_left (at ∷ above)) (other ∷ at ∷ above) run) (opened at (at ∷ above) (begins (at ∷ above))) (before_node child (ordered at))
+      fold (λ run other. node_run plan (levels_left (at ∷ above)) (other ∷ at ∷ above) run)
+      (opened at (at ∷ above) (begins (at ∷ above))) (before_node child (ordered at))
 
   -- The container with this path goes on to its children: all its before-callbacks were successful.
   abbrev pub went_on : List ℕ → Bool
@@ -56,5 +57,6 @@ IsSkipped at results = IsSomeAnd (slice_get results at) (λ r. r.status ≡ stat
 -- A node is skipped exactly if an ancestor skipped its body.
 abbrev pub SkipsBelow : Type 0
 SkipsBelow =
-    (memory : List Memory) (plan : PlanText) → NodesAreTree plan → TestsHaveNoChildren plan → (at : ℕ) (above : List ℕ) → IsPathOf (ids_of_nodes plan.nodes) at (at ∷ above)
+    (memory : List Memory) (plan : PlanText) → NodesAreTree plan → TestsHaveNoChildren plan → (at : ℕ) (above : List ℕ)
+    → IsPathOf (ids_of_nodes plan.nodes) at (at ∷ above)
     → IsSkipped at (plain_run_by memory plan) ↔ SkipsOn memory plan above

@@ -38,7 +38,15 @@ use Rattle.ext_plain.specs.ValueStates.{Memory, enough, no_key, no_value, no_num
 -- ---- the store and its values
 
 abbrev pub state_view : ValueStore → ValueState
-state_view s = record { keep_faults = s.keep_faults; places = s.places; numbers = s.store.numbers; store = state_of s.store; keys = s.keys; values = map value_view s.values.items; memory = [] }
+state_view s = record {
+  keep_faults = s.keep_faults;
+  places = s.places;
+  numbers = s.store.numbers;
+  store = state_of s.store;
+  keys = s.keys;
+  values = map value_view s.values.items;
+  memory = [];
+}
 
 -- The reason for a refusal other than a lack of memory.
 abbrev pub IsReasonOf : PlainFault → Reason → Type 0
@@ -79,7 +87,8 @@ Keeps value old new (Err why) = IsNotKept old new why
 
 -- The key has this number from now on, whether it had it before or got it now.
 abbrev pub HasBeenNumbered : KeyValue → ValueState → ValueState → ℕ → Type 0
-HasBeenNumbered key old new number = ((numbering_of old.places old.keys key ≡ known number) × (new ≡ old)) ⊎ ((numbering_of old.places old.keys key ≡ next number) × (new ≡ with_number key old))
+HasBeenNumbered key old new number = ((numbering_of old.places old.keys key ≡ known number) × (new ≡ old))
+    ⊎ ((numbering_of old.places old.keys key ≡ next number) × (new ≡ with_number key old))
 
 -- All numbers belong to other keys.
 pub record HasNoNumber (key : KeyValue) (old new : ValueState) (why : Reason) : Type 0 where
@@ -165,7 +174,8 @@ counted_found verdict s = record { state = s; verdict = verdict; computed = 0; f
 
 -- Once its key is there, made for the step or declared, the step does this, by what it finds of memory.
 abbrev pub DoesKeyed : ValueState → ValueState → Result Outcome StepLack → (Memory → StepEnd) → Type 0
-DoesKeyed old new answer does = (made : Bool) → end_of_step new answer ≡ made_by (memory_of_step answer) made old (does (memory_of_step answer))
+DoesKeyed old new answer does = (made : Bool)
+    → end_of_step new answer ≡ made_by (memory_of_step answer) made old (does (memory_of_step answer))
 
 -- A step that does nothing more ends with this verdict. It can lack memory only for its words, so only if it isn't
 -- successful.
@@ -178,7 +188,8 @@ Says v (Err lack) = (lack ≡ lacks.Words 0) × (is_successful v ≡ false)
 abbrev pub LacksGiven : Lack → List ℕ → List ℕ → Place → ValueText → ValueState → ValueState → Type 0
 LacksGiven lacks.Value name label place value old new = new ≡ after_act (Abandon place) old
 LacksGiven lacks.Place name label place value old new = ⊥
-LacksGiven (lacks.Words found) name label place value old new = lack_end new (lacks.Words found) ≡ said_by no_words (factory_gave name label place value old)
+LacksGiven (lacks.Words found) name label place value old new =
+    lack_end new (lacks.Words found) ≡ said_by no_words (factory_gave name label place value old)
 
 -- What is left after a factory gave a value, under the claim that stands.
 abbrev pub Gives : List ℕ → List ℕ → Place → ValueText → ValueState → ValueState → Result Outcome Lack → Type 0
@@ -190,7 +201,8 @@ Gives name label place value old new (Err lack) = LacksGiven lack name label pla
 abbrev pub LacksFailed : Lack → List ℕ → List ℕ → Place → List ℕ → ValueState → ValueState → Type 0
 LacksFailed lacks.Value name label place text old new = (old.keep_faults ≡ true) × (new ≡ after_act (Abandon place) old)
 LacksFailed lacks.Place name label place text old new = ⊥
-LacksFailed (lacks.Words found) name label place text old new = lack_end new (lacks.Words found) ≡ said_by no_words (factory_failed name label place text old)
+LacksFailed (lacks.Words found) name label place text old new =
+    lack_end new (lacks.Words found) ≡ said_by no_words (factory_failed name label place text old)
 
 -- What is left after a factory failed with this text, under the claim that stands.
 abbrev pub Fails : List ℕ → List ℕ → Place → List ℕ → ValueState → ValueState → Result Outcome Lack → Type 0
@@ -224,16 +236,25 @@ pub record IsReady {L : Type 0} (caller : NodeCaller L) : Type 0 where
 
 -- What a call does: its steps run in the node's context. Whatever later steps find of memory, there is something that
 -- its own steps found; and it is noted whether they lacked some.
-pub record DoesCall {L : Type 0} (before : NodeCaller L) (call : Call) (outcome : Outcome) (after : NodeCaller L) : Type 0 where
+pub record DoesCall {L : Type 0} (before : NodeCaller L) (call : Call) (outcome : Outcome) (after : NodeCaller L)
+    : Type 0 where
   pub setting : after.setting ≡ before.setting
   pub node : after.node ≡ before.node
   pub end : (path : List ℕ) → IsPathOf before.setting.tree.now before.node path → (later : List Memory)
-      → (memory : List Memory) × (step_end (with_memory later (state_view after.store)) outcome ≡ call_run (plan_in before.setting) path call (with_memory memory (state_view before.store)))
+      → (memory : List Memory)
+      × (step_end (with_memory later (state_view after.store)) outcome
+      ≡ call_run (plan_in before.setting) path call (with_memory memory (state_view before.store)))
       × TellsLacks before.lacked after.lacked memory later (verdict_text outcome.verdict ≢ no_memory)
 
 -- What calls with these outcomes leave.
 abbrev pub calls_end : ValueState → List Outcome → CallsEnd
-calls_end s outcomes = record { state = s; calls = map (with_fault fault_text) (endings_of outcomes); computed = computed_in outcomes; found = found_in outcomes }
+calls_end s outcomes =
+    record {
+      state = s;
+      calls = map (with_fault fault_text) (endings_of outcomes);
+      computed = computed_in outcomes;
+      found = found_in outcomes;
+    }
 
 -- ---- the end of a node
 
@@ -256,7 +277,11 @@ pub record RunSoFar : Type 0 where
   pub lacked : Bool
 
 abbrev pub run_view : {L : Type 0} → PlainRunner L → RunSoFar
-run_view r = record { state = state_view r.caller.store; results = results_view r.results.items; lacked = r.caller.lacked }
+run_view r = record {
+  state = state_view r.caller.store;
+  results = results_view r.results.items;
+  lacked = r.caller.lacked;
+}
 
 -- The same run, whose next steps find this of memory.
 abbrev pub run_with : List Memory → RunSoFar → RunState
@@ -268,7 +293,8 @@ chosen true concurrent = concurrent
 chosen false concurrent = λ child. not (concurrent child)
 
 -- `P` holds of the result of the node with which the path begins, and of those of all nodes below it.
-pub record AllBelow (P : NodeOutcome → Type 0) (ids : List Id) (path : List ℕ) (results : List NodeOutcome) : Type 0 where
+pub record AllBelow (P : NodeOutcome → Type 0) (ids : List Id) (path : List ℕ) (results : List NodeOutcome)
+    : Type 0 where
   pub each : (k : ℕ) (below : List ℕ) → IsPathOf ids k (below ++ path) → IsSomeAnd (slice_get results k) P
 
 -- The node does not report a lack of memory, and had none.
@@ -281,14 +307,17 @@ NodeSpared ids path results = AllBelow IsSpared ids path results
 
 -- The chosen children of a node and all nodes below them are spared.
 abbrev pub ChildrenSpared : List Id → ℕ → (ℕ → Bool) → List ℕ → List NodeOutcome → Type 0
-ChildrenSpared ids at among path results = (child : ℕ) → IsParentOf ids at child → among child ≡ true → NodeSpared ids (child ∷ path) results
+ChildrenSpared ids at among path results = (child : ℕ) → IsParentOf ids at child → among child ≡ true
+    → NodeSpared ids (child ∷ path) results
 
 -- For the node with this number, whatever its path, the run changed as `by` says. Whatever later steps find of memory,
 -- there is something that the steps between found; and it is noted whether they lacked some, by which nodes were
 -- spared.
-pub record RunsAs (setting : Setting) (at : ℕ) (spared : List ℕ → List NodeOutcome → Type 0) (by : List ℕ → RunState → RunState) (old new : RunSoFar) : Type 0 where
+pub record RunsAs (setting : Setting) (at : ℕ) (spared : List ℕ → List NodeOutcome → Type 0)
+    (by : List ℕ → RunState → RunState) (old new : RunSoFar) : Type 0 where
   pub each : (path : List ℕ) → IsPathOf setting.tree.now at path → (later : List Memory)
-      → (memory : List Memory) × (run_with later new ≡ by path (run_with memory old)) × TellsLacks old.lacked new.lacked memory later (spared path new.results)
+      → (memory : List Memory) × (run_with later new ≡ by path (run_with memory old))
+      × TellsLacks old.lacked new.lacked memory later (spared path new.results)
 
 -- The node and all nodes below it are run.
 abbrev pub NodeRuns : Setting → ℕ → (List ℕ → RunState → RunState) → RunSoFar → RunSoFar → Type 0

@@ -60,7 +60,8 @@ module _ (run : Call → ValueState → StepEnd) where
 
 module _ (plan : PlanText) where
   abbrev pub befores_run : Bool → ℕ → List ℕ → ValueState → CallsEnd
-  befores_run is_test at path s = make_befores (call_run plan path) (befores_of (registered plan) is_test at path) (no_calls s)
+  befores_run is_test at path s =
+      make_befores (call_run plan path) (befores_of (registered plan) is_test at path) (no_calls s)
 
   -- The body of a test.
   abbrev pub test_run : ℕ → List ℕ → CallsEnd → CallsEnd

@@ -44,14 +44,19 @@ with_result outcome results = slice_set results outcome.node outcome
 abbrev pub node_end : ℕ → Bool → CallsEnd → List NodeOutcome → RunState
 node_end at is_test end results =
     let sealed = seal_keys end.state.places at end.state in
-    record { state = sealed; results = with_result (outcome_of at is_test end (faults_of_closes end.state.places at sealed)) results }
+    record {
+      state = sealed;
+      results = with_result (outcome_of at is_test end (faults_of_closes end.state.places at sealed)) results;
+    }
 
 -- ---- the tree
 
 module _ (plan : PlanText) where
   -- The children of the path's first context, in the order in which a single lane runs them. `path_run` runs a path.
   abbrev pub children_run : (List ℕ → RunState → RunState) → List ℕ → RunState → RunState
-  children_run path_run path run = fold (λ r child. path_run (child ∷ path) r) run (in_run_order (concurrent_of plan) (children_of (ids_of_nodes plan.nodes) (start_of path)))
+  children_run path_run path run =
+      fold (λ r child. path_run (child ∷ path) r) run
+      (in_run_order (concurrent_of plan) (children_of (ids_of_nodes plan.nodes) (start_of path)))
 
   -- The body of a container: its children, unless it is skipped.
   abbrev pub body_run : (List ℕ → RunState → RunState) → Bool → List ℕ → RunState → RunState
@@ -61,18 +66,22 @@ module _ (plan : PlanText) where
   abbrev pub container_run : (List ℕ → RunState → RunState) → ℕ → List ℕ → RunState → RunState
   container_run path_run at path run =
       let before = befores_run plan false at path run.state in
-      let body = body_run path_run (all_successful before.calls) path (record { state = before.state; results = run.results }) in
+      let body = body_run path_run (all_successful
+      before.calls) path (record { state = before.state; results = run.results }) in
       node_end at false (afters_run plan false at path (record before { state = body.state })) body.results
 
   -- A test. Its body is one of its calls.
   abbrev pub test_node_run : ℕ → List ℕ → RunState → RunState
-  test_node_run at path run = node_end at true (afters_run plan true at path (test_run plan at path (befores_run plan true at path run.state))) run.results
+  test_node_run at path run =
+      node_end at true (afters_run plan true at path (test_run plan at path (befores_run plan true at path run.state)))
+      run.results
 
   -- The node with which a path to the root begins, and the nodes below it, down to this many levels.
   unfoldable pub node_run : ℕ → List ℕ → RunState → RunState
   node_run zero path run = run
   node_run (suc levels) path run =
-      if is_some (test_of plan (start_of path)) then test_node_run (start_of path) path run else container_run (node_run levels) (start_of path) path run
+      if is_some (test_of plan (start_of path)) then test_node_run (start_of path) path run
+      else container_run (node_run levels) (start_of path) path run
 
 -- ---- the whole run
 
@@ -83,7 +92,11 @@ skipped_from at (node ∷ more) = skipped_result at (is_some node.test) ∷ skip
 
 -- The run before its first step, with what its steps find of memory, in the order in which they are made.
 abbrev pub run_opening : List Memory → PlanText → RunState
-run_opening memory plan = record { state = with_memory memory (value_opening plan.keep_faults plan.key_places (most_numbers plan.size)); results = skipped_from 0 plan.nodes }
+run_opening memory plan =
+    record {
+      state = with_memory memory (value_opening plan.keep_faults plan.key_places (most_numbers plan.size));
+      results = skipped_from 0 plan.nodes;
+    }
 
 -- The results of the nodes, in the order of the plan. The root is node 0, and no tree is deeper than it has nodes.
 abbrev pub plain_run_by : List Memory → PlanText → List NodeOutcome

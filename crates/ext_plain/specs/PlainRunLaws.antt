@@ -31,11 +31,13 @@ use Rattle.ext_plain.specs.PlainRun.{HasNoFailed, RunState, node_run, plain_run,
 
 -- There is one result for each node, in the order of the plan.
 abbrev pub HasResultOfEachNode : Type 0
-HasResultOfEachNode = (memory : List Memory) (plan : PlanText) → map (λ r. r.node) (plain_run_by memory plan) ≡ range_with_len 0 (length plan.nodes)
+HasResultOfEachNode = (memory : List Memory) (plan : PlanText)
+    → map (λ r. r.node) (plain_run_by memory plan) ≡ range_with_len 0 (length plan.nodes)
 
 -- The results of tests are those of the nodes that are tests.
 abbrev pub HasTestsOfPlan : Type 0
-HasTestsOfPlan = (memory : List Memory) (plan : PlanText) → map (λ r. r.is_test) (plain_run_by memory plan) ≡ map (λ n. is_some n.test) plan.nodes
+HasTestsOfPlan = (memory : List Memory) (plan : PlanText)
+    → map (λ r. r.is_test) (plain_run_by memory plan) ≡ map (λ n. is_some n.test) plan.nodes
 
 -- ---- memory
 
@@ -43,11 +45,13 @@ HasTestsOfPlan = (memory : List Memory) (plan : PlanText) → map (λ r. r.is_te
 abbrev pub DoesOrLacks : Type 0
 DoesOrLacks =
     (keys : List KeyText) (found : Memory) (path : List ℕ) (step : StepText) (s : ValueState)
-    → (step_by keys found path step s ≡ step_run keys path step s) ⊎ ((step_by keys found path step s).verdict ≡ no_memory)
+    → (step_by keys found path step s ≡ step_run keys path step s)
+    ⊎ ((step_by keys found path step s).verdict ≡ no_memory)
 
 -- If no node failed, no step lacked memory: the run is the one that the plan has, whatever the list says.
 abbrev pub RunsAsPlanned : Type 0
-RunsAsPlanned = (memory : List Memory) (plan : PlanText) → NodesAreTree plan → HasNoFailed (plain_run_by memory plan) → plain_run_by memory plan ≡ plain_run plan
+RunsAsPlanned = (memory : List Memory) (plan : PlanText) → NodesAreTree plan → HasNoFailed (plain_run_by memory plan)
+    → plain_run_by memory plan ≡ plain_run plan
 
 -- ---- which nodes run
 
@@ -63,7 +67,8 @@ HasNoBeforeAlls plan = All (λ node. node.before_all ≡ []) plan.nodes
 -- children. A result is `skipped` before its node has run and never after.
 abbrev pub RunsEachNode : Type 0
 RunsEachNode =
-    (memory : List Memory) (plan : PlanText) → NodesAreTree plan → TestsHaveNoChildren plan → HasNoBeforeAlls plan → All (λ r. r.status ≢ statuses.Skipped) (plain_run_by memory plan)
+    (memory : List Memory) (plan : PlanText) → NodesAreTree plan → TestsHaveNoChildren plan → HasNoBeforeAlls plan
+    → All (λ r. r.status ≢ statuses.Skipped) (plain_run_by memory plan)
 
 -- The before-callbacks of a container, run from this state, were all successful.
 abbrev pub goes_on : PlanText → List ℕ → RunState → Bool
@@ -71,24 +76,28 @@ goes_on plan path run = all_successful (befores_run plan false (start_of path) p
 
 -- A node that is run isn't skipped.
 abbrev pub RunsNode : Type 0
-RunsNode = (plan : PlanText) (levels : ℕ) (path : List ℕ) (run : RunState) → HasRun (start_of path) (node_run plan (levels + 1) path run).results
+RunsNode = (plan : PlanText) (levels : ℕ) (path : List ℕ) (run : RunState)
+    → HasRun (start_of path) (node_run plan (levels + 1) path run).results
 
 -- If the before-callbacks of a container were all successful, each of its children is run.
 abbrev pub RunsBody : Type 0
 RunsBody =
-    (plan : PlanText) (levels at child : ℕ) (above : List ℕ) (run : RunState) → TestsHaveNoChildren plan → IsParentOf (ids_of_nodes plan.nodes) at child → goes_on plan (at ∷ above) run ≡ true
+    (plan : PlanText) (levels at child : ℕ) (above : List ℕ) (run : RunState) → TestsHaveNoChildren plan
+    → IsParentOf (ids_of_nodes plan.nodes) at child → goes_on plan (at ∷ above) run ≡ true
     → HasRun child (node_run plan (levels + 2) (at ∷ above) run).results
 
 -- If they were not, no other node's result changes: all nodes below it stay skipped.
 abbrev pub SkipsBody : Type 0
 SkipsBody =
-    (plan : PlanText) (levels other : ℕ) (path : List ℕ) (run : RunState) → is_some (test_of plan (start_of path)) ≡ false → goes_on plan path run ≡ false → other ≢ start_of path
+    (plan : PlanText) (levels other : ℕ) (path : List ℕ) (run : RunState)
+    → is_some (test_of plan (start_of path)) ≡ false → goes_on plan path run ≡ false → other ≢ start_of path
     → slice_get (node_run plan (levels + 1) path run).results other ≡ slice_get run.results other
 
 -- The parent of each node that has run has run, so all nodes below a skipped one are skipped.
 abbrev pub RunsParents : Type 0
 RunsParents =
-    (memory : List Memory) (plan : PlanText) → NodesAreTree plan → (parent child : ℕ) → IsParentOf (ids_of_nodes plan.nodes) parent child
+    (memory : List Memory) (plan : PlanText) → NodesAreTree plan → (parent child : ℕ)
+    → IsParentOf (ids_of_nodes plan.nodes) parent child
     → HasRun child (plain_run_by memory plan) → HasRun parent (plain_run_by memory plan)
 
 -- ---- the store between two steps and between two nodes
@@ -113,11 +122,14 @@ pub record NumbersKeys (s : ValueState) : Type 0 where
 
 -- All four hold before the first node, whether faults are kept or not, and however many places there are.
 abbrev pub OpensClear : Type 0
-OpensClear = (keeps : Bool) (places numbers : ℕ) → HasNoClaims (value_opening keeps places numbers) × HasValues (value_opening keeps places numbers) × HasNoFaults (value_opening keeps places numbers) × NumbersKeys (value_opening keeps places numbers)
+OpensClear = (keeps : Bool) (places numbers : ℕ) → HasNoClaims (value_opening keeps places numbers)
+    × HasValues (value_opening keeps places numbers) × HasNoFaults (value_opening keeps places numbers)
+    × NumbersKeys (value_opening keeps places numbers)
 
 -- If there was no claim before a node, there is none after it.
 abbrev pub MakesNoClaims : Type 0
-MakesNoClaims = (plan : PlanText) (levels : ℕ) (path : List ℕ) (run : RunState) → HasNoClaims run.state → HasNoClaims (node_run plan levels path run).state
+MakesNoClaims = (plan : PlanText) (levels : ℕ) (path : List ℕ) (run : RunState) → HasNoClaims run.state
+    → HasNoClaims (node_run plan levels path run).state
 
 -- After a node all places in its context are sealed, even those of numbers that no key has yet.
 abbrev pub SealsContexts : Type 0
@@ -127,7 +139,8 @@ SealsContexts =
 
 -- If each number had a value before a node, each has one after it.
 abbrev pub KeepsValues : Type 0
-KeepsValues = (plan : PlanText) (levels : ℕ) (path : List ℕ) (run : RunState) → HasValues run.state → HasValues (node_run plan levels path run).state
+KeepsValues = (plan : PlanText) (levels : ℕ) (path : List ℕ) (run : RunState) → HasValues run.state
+    → HasValues (node_run plan levels path run).state
 
 -- ---- the numbers of keys
 
@@ -138,28 +151,38 @@ pub record HasLimitsOf (before after : ValueState) : Type 0 where
 
 -- These limits stay through a step, the steps of a call, or a node and all nodes below it.
 pub record KeepsLimits : Type 0 where
-  pub step : (keys : List KeyText) (found : Memory) (path : List ℕ) (step : StepText) (s : ValueState) → HasLimitsOf s (step_by keys found path step s).state
-  pub steps : (keys : List KeyText) (path : List ℕ) (steps : List StepText) (s : ValueState) → HasLimitsOf s (steps_run keys path steps s).state
-  pub node : (plan : PlanText) (levels : ℕ) (path : List ℕ) (run : RunState) → HasLimitsOf run.state (node_run plan levels path run).state
+  pub step : (keys : List KeyText) (found : Memory) (path : List ℕ) (step : StepText) (s : ValueState)
+      → HasLimitsOf s (step_by keys found path step s).state
+  pub steps : (keys : List KeyText) (path : List ℕ) (steps : List StepText) (s : ValueState)
+      → HasLimitsOf s (steps_run keys path steps s).state
+  pub node : (plan : PlanText) (levels : ℕ) (path : List ℕ) (run : RunState)
+      → HasLimitsOf run.state (node_run plan levels path run).state
 
 -- If no key had two numbers, none has after a step, after the steps of a call, or after a node and all nodes below it.
 pub record NumbersOnce : Type 0 where
-  pub step : (keys : List KeyText) (found : Memory) (path : List ℕ) (step : StepText) (s : ValueState) → NumbersKeys s → NumbersKeys (step_by keys found path step s).state
-  pub steps : (keys : List KeyText) (path : List ℕ) (steps : List StepText) (s : ValueState) → NumbersKeys s → NumbersKeys (steps_run keys path steps s).state
-  pub node : (plan : PlanText) (levels : ℕ) (path : List ℕ) (run : RunState) → NumbersKeys run.state → NumbersKeys (node_run plan levels path run).state
+  pub step : (keys : List KeyText) (found : Memory) (path : List ℕ) (step : StepText) (s : ValueState) → NumbersKeys s
+      → NumbersKeys (step_by keys found path step s).state
+  pub steps : (keys : List KeyText) (path : List ℕ) (steps : List StepText) (s : ValueState) → NumbersKeys s
+      → NumbersKeys (steps_run keys path steps s).state
+  pub node : (plan : PlanText) (levels : ℕ) (path : List ℕ) (run : RunState) → NumbersKeys run.state
+      → NumbersKeys (node_run plan levels path run).state
 
 -- A key keeps its number through a step, the steps of a call, or a node and all nodes below it.
 pub record KeepsNumber (key : KeyValue) (number : ℕ) : Type 0 where
-  pub step : (keys : List KeyText) (found : Memory) (path : List ℕ) (step : StepText) (s : ValueState) → HasNumber s.keys key number → HasNumber (step_by keys found path step s).state.keys key number
-  pub steps : (keys : List KeyText) (path : List ℕ) (steps : List StepText) (s : ValueState) → HasNumber s.keys key number → HasNumber (steps_run keys path steps s).state.keys key number
-  pub node : (plan : PlanText) (levels : ℕ) (path : List ℕ) (run : RunState) → HasNumber run.state.keys key number → HasNumber (node_run plan levels path run).state.keys key number
+  pub step : (keys : List KeyText) (found : Memory) (path : List ℕ) (step : StepText) (s : ValueState)
+      → HasNumber s.keys key number → HasNumber (step_by keys found path step s).state.keys key number
+  pub steps : (keys : List KeyText) (path : List ℕ) (steps : List StepText) (s : ValueState)
+      → HasNumber s.keys key number → HasNumber (steps_run keys path steps s).state.keys key number
+  pub node : (plan : PlanText) (levels : ℕ) (path : List ℕ) (run : RunState) → HasNumber run.state.keys key number
+      → HasNumber (node_run plan levels path run).state.keys key number
 
 abbrev pub KeepsNumbers : Type 0
 KeepsNumbers = (key : KeyValue) (number : ℕ) → KeepsNumber key number
 
 -- Each step that names a key with a number finds this number.
 abbrev pub KnowsNumbers : Type 0
-KnowsNumbers = (places : ℕ) (keys : List KeyValue) (key : KeyValue) (number : ℕ) → AreDifferent keys → HasNumber keys key number → numbering_of places keys key ≡ known number
+KnowsNumbers = (places : ℕ) (keys : List KeyValue) (key : KeyValue) (number : ℕ) → AreDifferent keys
+    → HasNumber keys key number → numbering_of places keys key ≡ known number
 
 -- The value that a step keeps before its key is numbered.
 abbrev pub kept_first : StepText → Option ValueText
@@ -175,8 +198,10 @@ IsUnchangedButKept (Some value) old new = (new ≡ old) ⊎ (new ≡ keep_value 
 -- A step whose key has no number afterwards has changed nothing else.
 abbrev pub ChangesNothingUnnumbered : Type 0
 ChangesNothingUnnumbered =
-    (keys : List KeyText) (found : Memory) (path : List ℕ) (step : StepText) (key : StepKeyText) (s : ValueState) → step_key step ≡ Some key
-    → is_there (step_by keys found path step s).state.keys (key_of_step keys key) ≡ false → IsUnchangedButKept (kept_first step) s (step_by keys found path step s).state
+    (keys : List KeyText) (found : Memory) (path : List ℕ) (step : StepText) (key : StepKeyText) (s : ValueState)
+    → step_key step ≡ Some key
+    → is_there (step_by keys found path step s).state.keys (key_of_step keys key) ≡ false
+    → IsUnchangedButKept (kept_first step) s (step_by keys found path step s).state
 
 -- The step names one of these keys, or none.
 abbrev pub NamesOneOf : List KeyValue → List KeyText → StepText → Type 0
@@ -188,9 +213,12 @@ NamesOnly names plan = All (OfAllSteps (All (NamesOneOf names plan.keys))) plan.
 
 -- If so, only these keys get numbers, whatever step, call of the plan or node is run.
 pub record NumbersOnly (names : List KeyValue) (plan : PlanText) : Type 0 where
-  pub step : (found : Memory) (path : List ℕ) (step : StepText) (s : ValueState) → NamesOneOf names plan.keys step → All (Contains names) s.keys → All (Contains names) (step_by plan.keys found path step s).state.keys
-  pub call : (path : List ℕ) (call : Call) (s : ValueState) → All (Contains names) s.keys → All (Contains names) (call_run plan path call s).state.keys
-  pub node : (levels : ℕ) (path : List ℕ) (run : RunState) → All (Contains names) run.state.keys → All (Contains names) (node_run plan levels path run).state.keys
+  pub step : (found : Memory) (path : List ℕ) (step : StepText) (s : ValueState) → NamesOneOf names plan.keys step
+      → All (Contains names) s.keys → All (Contains names) (step_by plan.keys found path step s).state.keys
+  pub call : (path : List ℕ) (call : Call) (s : ValueState) → All (Contains names) s.keys
+      → All (Contains names) (call_run plan path call s).state.keys
+  pub node : (levels : ℕ) (path : List ℕ) (run : RunState) → All (Contains names) run.state.keys
+      → All (Contains names) (node_run plan levels path run).state.keys
 
 abbrev pub NumbersOnlyNamed : Type 0
 NumbersOnlyNamed = (names : List KeyValue) (plan : PlanText) → NamesOnly names plan → NumbersOnly names plan
@@ -198,7 +226,8 @@ NumbersOnlyNamed = (names : List KeyValue) (plan : PlanText) → NamesOnly names
 -- If there are places for all of them, each has a number: no step of the plan ends with `directory full`.
 abbrev pub HasRoom : Type 0
 HasRoom =
-    (places : ℕ) (names keys : List KeyValue) (key : KeyValue) → length names ≤ places → AreDifferent keys → All (Contains names) keys → Contains names key → numbering_of places keys key ≢ full
+    (places : ℕ) (names keys : List KeyValue) (key : KeyValue) → length names ≤ places → AreDifferent keys
+    → All (Contains names) keys → Contains names key → numbering_of places keys key ≢ full
 
 -- ---- what was put
 
@@ -206,28 +235,41 @@ HasRoom =
 -- it names the key: its label, another label of it, or its name.
 abbrev pub FindsWhatWasPut : Type 0
 FindsWhatWasPut =
-    (keys : List KeyText) (path : List ℕ) (at : ℕ) (above : List ℕ) (key other : StepKeyText) (up : ℕ) (text : List ℕ) (s : ValueState) → key_of_step keys other ≡ key_of_step keys key
+    (keys : List KeyText) (path : List ℕ) (at : ℕ) (above : List ℕ) (key other : StepKeyText) (up : ℕ) (text : List ℕ)
+    (s : ValueState) → key_of_step keys other ≡ key_of_step keys key
     → drop up path ≡ at ∷ above → HasValues s
     → (step_run keys path (keyed words.Put key text up) s).verdict ≡ successful
-    → (step_run keys path (keyed words.Want other text up) (step_run keys path (keyed words.Put key text up) s).state).verdict ≡ successful
+    → (step_run keys path (keyed words.Want other text up)
+    (step_run keys path (keyed words.Put key text up) s).state).verdict ≡ successful
 
 -- ---- kept faults
 
 -- Each step that meets the kept fault with this text says so and changes nothing: no factory runs, and nothing is
 -- computed or found. A `computefail` with the same text succeeds.
-pub record MeetsFault (keys : List KeyText) (path : List ℕ) (key : StepKeyText) (up : ℕ) (text : List ℕ) (s : ValueState) : Type 0 where
-  pub computes : (other : List ℕ) → step_run keys path (keyed words.Compute key other up) s ≡ ended (failed (met_fault_text (codes "compute") (label_of keys key) text)) s
-  pub computes_closeable : (other : List ℕ) → step_run keys path (keyed words.ComputeCloseable key other up) s ≡ ended (failed (met_fault_text (codes "compute!") (label_of keys key) text)) s
+pub record MeetsFault (keys : List KeyText) (path : List ℕ) (key : StepKeyText) (up : ℕ) (text : List ℕ)
+    (s : ValueState) : Type 0 where
+  pub computes : (other : List ℕ)
+      → step_run keys path (keyed words.Compute key other up) s
+      ≡ ended (failed (met_fault_text (codes "compute") (label_of keys key) text)) s
+  pub computes_closeable : (other : List ℕ)
+      → step_run keys path (keyed words.ComputeCloseable key other up) s
+      ≡ ended (failed (met_fault_text (codes "compute!") (label_of keys key) text)) s
   pub fails : (other : List ℕ)
-      → step_run keys path (keyed words.ComputeFail key other up) s ≡ ended (if bytes_eq text other then successful else failed (met_fault_text (codes "computefail") (label_of keys key) text)) s
-  pub wants : (other : List ℕ) → step_run keys path (keyed words.Want key other up) s ≡ ended (failed (other_fault_text (label_of keys key) other text)) s
-  pub finds : step_run keys path (keyed words.None key [] up) s ≡ ended (failed (met_fault_text (codes "none") (label_of keys key) text)) s
+      → step_run keys path (keyed words.ComputeFail key other up) s
+      ≡ ended (if bytes_eq text other then successful
+      else failed (met_fault_text (codes "computefail") (label_of keys key) text)) s
+  pub wants : (other : List ℕ)
+      → step_run keys path (keyed words.Want key other up) s
+      ≡ ended (failed (other_fault_text (label_of keys key) other text)) s
+  pub finds : step_run keys path (keyed words.None key [] up) s
+      ≡ ended (failed (met_fault_text (codes "none") (label_of keys key) text)) s
 
 -- If faults are kept, the steps after a successful `computefail` meet a fault with its text under the same key in the
 -- same context: its own, or one that it met.
 abbrev pub KeepsFault : Type 0
 KeepsFault =
-    (keys : List KeyText) (path : List ℕ) (at : ℕ) (above : List ℕ) (key : StepKeyText) (up : ℕ) (text : List ℕ) (s : ValueState) → drop up path ≡ at ∷ above → HasValues s → s.keep_faults ≡ true
+    (keys : List KeyText) (path : List ℕ) (at : ℕ) (above : List ℕ) (key : StepKeyText) (up : ℕ) (text : List ℕ)
+    (s : ValueState) → drop up path ≡ at ∷ above → HasValues s → s.keep_faults ≡ true
     → (step_run keys path (keyed words.ComputeFail key text up) s).verdict ≡ successful
     → MeetsFault keys path key up text (step_run keys path (keyed words.ComputeFail key text up) s).state
 
@@ -241,9 +283,12 @@ named_by full key s = s
 -- would have done after a look-up in its place.
 abbrev pub KeepsNoFault : Type 0
 KeepsNoFault =
-    (keys : List KeyText) (path : List ℕ) (key : StepKeyText) (up : ℕ) (text : List ℕ) (s : ValueState) → s.keep_faults ≡ false
-    → (let k = key_of_step keys key in (step_run keys path (keyed words.ComputeFail key text up) s).state ≡ named_by (numbering_of s.places s.keys k) k s)
+    (keys : List KeyText) (path : List ℕ) (key : StepKeyText) (up : ℕ) (text : List ℕ) (s : ValueState)
+    → s.keep_faults ≡ false
+    → (let k = key_of_step keys key in
+    (step_run keys path (keyed words.ComputeFail key text up) s).state ≡ named_by (numbering_of s.places s.keys k) k s)
 
 -- In a run that keeps no faults, no kept fault stands after a node if none stood before it.
 abbrev pub NeverFaults : Type 0
-NeverFaults = (plan : PlanText) (levels : ℕ) (path : List ℕ) (run : RunState) → run.state.keep_faults ≡ false → HasNoFaults run.state → HasNoFaults (node_run plan levels path run).state
+NeverFaults = (plan : PlanText) (levels : ℕ) (path : List ℕ) (run : RunState) → run.state.keep_faults ≡ false
+    → HasNoFaults run.state → HasNoFaults (node_run plan levels path run).state

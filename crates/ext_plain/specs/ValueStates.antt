@@ -39,7 +39,16 @@ pub record ValueState : Type 0 where
 
 -- The newly opened store, which keeps faults or not, with this many places for keys and this many numbers.
 abbrev pub value_opening : Bool → ℕ → ℕ → ValueState
-value_opening keeps places numbers = record { keep_faults = keeps; places = places; numbers = numbers; store = opening; keys = []; values = []; memory = [] }
+value_opening keeps places numbers =
+    record {
+      keep_faults = keeps;
+      places = places;
+      numbers = numbers;
+      store = opening;
+      keys = [];
+      values = [];
+      memory = [];
+    }
 
 -- The same store, whose next steps find this of memory.
 abbrev pub with_memory : List Memory → ValueState → ValueState
@@ -90,7 +99,8 @@ next_number s = Keep (s.store.drawn + 1)
 
 -- A value is kept under the number that is drawn for it.
 abbrev pub keep_value : ValueText → ValueState → ValueState
-keep_value value s = record s { store = next_state s.numbers s.store any_lane (next_number s); values = s.values ++ value ∷ [] }
+keep_value value s = record s
+    { store = next_state s.numbers s.store any_lane (next_number s); values = s.values ++ value ∷ [] }
 
 -- The value of a number; numbers count from 1.
 abbrev pub value_of : List ValueText → ℕ → Option ValueText
@@ -107,7 +117,8 @@ pub data Numbering : Type 0 where
   full : Numbering
 
 abbrev pub numbering_of : ℕ → List KeyValue → KeyValue → Numbering
-numbering_of places keys key = if is_there keys key then known (place_of_key keys key) else if nat_lt (length keys) places then next (length keys) else full
+numbering_of places keys key = if is_there keys key then known (place_of_key keys key)
+    else if nat_lt (length keys) places then next (length keys) else full
 
 -- The key gets the next number.
 abbrev pub with_number : KeyValue → ValueState → ValueState

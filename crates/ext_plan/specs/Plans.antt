@@ -78,7 +78,11 @@ abbrev pub texts_view : Vec (String Global) Global → List (List ℕ)
 texts_view v = map string_bytes v.items
 
 abbrev pub key_view : PlanKey → KeyText
-key_view k = record { label = string_bytes k.label; name = string_bytes k.name; namespace = option_map texts_view k.namespace }
+key_view k = record {
+  label = string_bytes k.label;
+  name = string_bytes k.name;
+  namespace = option_map texts_view k.namespace;
+}
 
 abbrev pub step_key_view : StepKey → StepKeyText
 step_key_view (step_keys.Label number) = label number
@@ -135,4 +139,10 @@ abbrev pub nodes_view : List PlanNode → List NodeText
 nodes_view ns = map node_view ns
 
 abbrev pub plan_view : Plan → PlanText
-plan_view p = record { keep_faults = p.keep_faults; key_places = p.key_places; size = p.size; keys = keys_view p.keys.items; nodes = nodes_view p.nodes.items }
+plan_view p = record {
+  keep_faults = p.keep_faults;
+  key_places = p.key_places;
+  size = p.size;
+  keys = keys_view p.keys.items;
+  nodes = nodes_view p.nodes.items;
+}

@@ -26,7 +26,8 @@ HasFewNodes plan = length plan.nodes ≤ most_contexts plan.size
 
 -- No test has children.
 abbrev pub TestsHaveNoChildren : PlanText → Type 0
-TestsHaveNoChildren plan = (k : ℕ) → k < length plan.nodes → HoldsAt (λ node. IfSome node.test (λ _. children_of (ids_of_nodes plan.nodes) k ≡ [])) plan.nodes k
+TestsHaveNoChildren plan = (k : ℕ) → k < length plan.nodes
+    → HoldsAt (λ node. IfSome node.test (λ _. children_of (ids_of_nodes plan.nodes) k ≡ [])) plan.nodes k
 
 -- A test, which has no children, registers no callbacks before or after all of them.
 pub record HasNoContainerCallbacks (node : NodeText) : Type 0 where

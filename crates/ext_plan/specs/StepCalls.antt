@@ -32,7 +32,8 @@ pub record CallText : Type 0 where
 
 -- The call of a step with this first word and key, on a path from which it acts `up` contexts further up.
 abbrev pub call_of : List KeyText → List ℕ → List ℕ → StepKeyText → ℕ → CallText
-call_of keys path name key up = record { name = name; label = label_of keys key; path = drop up path; key = key_of_step keys key }
+call_of keys path name key up =
+    record { name = name; label = label_of keys key; path = drop up path; key = key_of_step keys key }
 
 abbrev pub call_view : StepCall → CallText
 call_view c = record { name = c.name.now; label = c.label.now; path = c.path.now; key = c.key.now }

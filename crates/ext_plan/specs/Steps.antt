@@ -5,8 +5,7 @@ use Rattle.ext_plan.specs.Plans.{StepKeyText, StepText, keyed, fail, abort}
 -- The key that a step names, if any.
 abbrev pub step_key : StepText → Option StepKeyText
 step_key (keyed word key text up) = Some key
-step_key (fail text) = None
-step_key (abort text) = None
+step_key _ = None
 
 -- How many contexts up a step acts.
 abbrev pub height : StepText → ℕ

@@ -40,7 +40,8 @@ out_of_memory = failed (fault_text faults.Memory)
 
 -- The verdict of a step that wants a value with this text.
 abbrev pub want_verdict : List ℕ → List ℕ → List ℕ → SeenText → VerdictText
-want_verdict name label text (seen_value other) = if bytes_eq other text then successful else failed (other_text label text other)
+want_verdict name label text (seen_value other) = if bytes_eq other text then successful
+    else failed (other_text label text other)
 want_verdict name label text (seen_fault other) = failed (other_fault_text label text other)
 want_verdict name label text seen_no_memory = out_of_memory
 want_verdict name label text seen_nothing = failed (missing_text label text)
@@ -58,7 +59,8 @@ none_verdict name label (seen_refused why) = refused name label why
 -- with the same text will do, too.
 abbrev pub fail_verdict : List ℕ → List ℕ → List ℕ → SeenText → VerdictText
 fail_verdict name label text (seen_value other) = failed (got_text name label other)
-fail_verdict name label text (seen_fault other) = if bytes_eq other text then successful else failed (met_fault_text name label other)
+fail_verdict name label text (seen_fault other) = if bytes_eq other text then successful
+    else failed (met_fault_text name label other)
 fail_verdict name label text seen_no_memory = out_of_memory
 fail_verdict name label text seen_nothing = successful
 fail_verdict name label text (seen_refused why) = refused name label why

@@ -43,7 +43,8 @@ pub record CallbackSteps : Type 0 where
   pub after_each : List (List StepText)
 
 -- These callbacks, followed by those that the texts write.
-unfoldable pub callbacks_after : List (List ℕ) → ℕ → ℕ → List (List StepText) → List (List (List ℕ)) → Result (List (List StepText)) PlanFault
+unfoldable pub callbacks_after : List (List ℕ) → ℕ → ℕ → List (List StepText) → List (List (List ℕ))
+    → Result (List (List StepText)) PlanFault
 callbacks_after labels depth node before [] = Ok before
 callbacks_after labels depth node before (texts ∷ more) = do
   steps ← steps_at labels depth node texts
@@ -51,7 +52,8 @@ callbacks_after labels depth node before (texts ∷ more) = do
 
 -- The callbacks of one field of the node, unless there are too many. The shortest path on which they run has `depth`
 -- contexts.
-unfoldable pub callbacks_at : List (List ℕ) → ℕ → ℕ → Option (List (List (List ℕ))) → Result (List (List StepText)) PlanFault
+unfoldable pub callbacks_at : List (List ℕ) → ℕ → ℕ → Option (List (List (List ℕ)))
+    → Result (List (List StepText)) PlanFault
 callbacks_at labels depth node None = Ok []
 callbacks_at labels depth node (Some lists) = do
   _ ← check (faults.BadStep node) (nat_le (length lists) callback_limit)

@@ -36,7 +36,8 @@ within text at = if is_behind text at then None else slice_get text at
 -- The words for a raw character: how a mark is written in a type or a value.
 abbrev pub SaysRaw : Option ℕ → List ℕ → Type 0
 SaysRaw None words = words ≡ codes "behind a segment stands a `/` or nothing"
-SaysRaw (Some c) words = IsMark c → words ≡ codes "`" ++ encode_utf8 c ++ codes "` has to be written `" ++ spelled c ++ codes "`"
+SaysRaw (Some c) words = IsMark c
+    → words ≡ codes "`" ++ encode_utf8 c ++ codes "` has to be written `" ++ spelled c ++ codes "`"
 
 -- The words for a fault of this text.
 abbrev pub SaysOf : List ℕ → IdFault → List ℕ → Type 0

@@ -24,17 +24,7 @@ check e false = Err e
 -- A fault is that of reading, except that memory may run out at any time.
 abbrev pub Fails : {Y : Type 0} → PlanFault → Result Y PlanFault → Type 0
 Fails faults.Memory read = Unit {0}
-Fails faults.NotUtf8 read = read ≡ Err faults.NotUtf8
-Fails faults.NotToml read = read ≡ Err faults.NotToml
-Fails (faults.UnknownField place) read = read ≡ Err (faults.UnknownField place)
-Fails (faults.BadField place) read = read ≡ Err (faults.BadField place)
-Fails (faults.BadLabel key) read = read ≡ Err (faults.BadLabel key)
-Fails (faults.BadId node) read = read ≡ Err (faults.BadId node)
-Fails faults.BadTree read = read ≡ Err faults.BadTree
-Fails (faults.BadStep node) read = read ≡ Err (faults.BadStep node)
-Fails (faults.BadLock node) read = read ≡ Err (faults.BadLock node)
-Fails (faults.BadTest node) read = read ≡ Err (faults.BadTest node)
-Fails faults.TooMany read = read ≡ Err faults.TooMany
+Fails why read = read ≡ Err why
 
 -- A function returned what reading gives, seen by `view`, unless memory ran out.
 abbrev pub Gives : {X Y : Type 0} → (X → Y) → Result X PlanFault → Result Y PlanFault → Type 0

@@ -23,7 +23,8 @@ texts_after before (item value more) = option_and_then (λ text. texts_after (be
 -- These tables followed by the items, if each item is a table.
 abbrev pub tables_after : List Members → Items → Option (List Members)
 tables_after before no_items = Some before
-tables_after before (item value more) = option_and_then (λ fields. tables_after (before ++ fields ∷ []) more) (as_table value)
+tables_after before (item value more) =
+    option_and_then (λ fields. tables_after (before ++ fields ∷ []) more) (as_table value)
 
 -- The texts of an array of texts.
 abbrev pub texts_in : Data → Option (List (List ℕ))
@@ -38,7 +39,8 @@ tables_in _ = None
 -- These lists followed by the items, if each item is an array of texts.
 abbrev pub text_lists_after : List (List (List ℕ)) → Items → Option (List (List (List ℕ)))
 text_lists_after before no_items = Some before
-text_lists_after before (item value more) = option_and_then (λ texts. text_lists_after (before ++ texts ∷ []) more) (texts_in value)
+text_lists_after before (item value more) =
+    option_and_then (λ texts. text_lists_after (before ++ texts ∷ []) more) (texts_in value)
 
 -- The lists of an array of arrays of texts.
 abbrev pub text_lists_in : Data → Option (List (List (List ℕ)))
@@ -75,8 +77,7 @@ abbrev pub places_for_keys : ℤ → Option ℕ
 places_for_keys (pos keys) = if nat_le 1 keys && nat_le keys 1024 then Some ((keys + 31) / 32 * 32) else None
 places_for_keys (negsuc n) = None
 
--- The places for the number of keys in an optional field, 64 if it is left out, or this fault if another type or number
--- is there.
+-- The places for the number of keys in an optional field, 64 by default, or this fault if it is no such number.
 abbrev pub key_places_or_64 : PlanFault → Option Data → Result ℕ PlanFault
 key_places_or_64 e None = Ok 64
 key_places_or_64 e (Some value) = some_or e (option_and_then places_for_keys (as_integer value))

@@ -23,7 +23,8 @@ use Rattle.ext_plan_reading.specs.StepReading.{steps_at}
 
 abbrev pub node_fields : List (List ℕ)
 node_fields =
-    codes "id" ∷ codes "test" ∷ codes "mode" ∷ codes "isolated" ∷ codes "locks" ∷ codes "before_all" ∷ codes "after_all" ∷ codes "before_each" ∷ codes "after_each" ∷ []
+    codes "id" ∷ codes "test" ∷ codes "mode" ∷ codes "isolated" ∷ codes "locks" ∷ codes "before_all" ∷ codes "after_all"
+    ∷ codes "before_each" ∷ codes "after_each" ∷ []
 
 -- A node whose fields have their types, with its mode, its locks and its steps still as texts.
 pub record Sketch : Type 0 where
@@ -86,8 +87,7 @@ test_at labels depth node (Some texts) = do
   steps ← steps_at labels depth node texts
   Ok (Some steps)
 
--- The node of a sketch. `parent` says whether it has children. `least` is the least number of segments of the id of a
--- test at or below it.
+-- The node of a sketch. `parent` says whether it has children; `least` is the least depth of a test at or below it.
 unfoldable pub node_at : List (List ℕ) → ℕ → Bool → ℕ → Sketch → Result NodeText PlanFault
 node_at labels node parent least sketch = do
   _ ← check (faults.BadTest node) (not (is_bad_test parent sketch))
@@ -108,13 +108,15 @@ node_at labels node parent least sketch = do
   })
 
 -- These nodes, followed by those of the sketches; `all` are the sketches of all nodes.
-unfoldable pub nodes_after : List (List ℕ) → List Sketch → List NodeText → List Sketch → Result (List NodeText) PlanFault
+unfoldable pub nodes_after : List (List ℕ) → List Sketch → List NodeText → List Sketch
+    → Result (List NodeText) PlanFault
 nodes_after labels all before [] = Ok before
 nodes_after labels all before (sketch ∷ more) = do
-  node ← node_at labels (length before) (has_children (ids_of all) (length before)) (least_test_depth (outlines_of all) sketch.id) sketch
+  node ← node_at labels (length before) (has_children (ids_of all) (length before))
+      (least_test_depth (outlines_of all) sketch.id) sketch
   nodes_after labels all (before ++ node ∷ []) more
 
--- The nodes of tables in a plan of this size: each one's fields and id, then the tree of the ids, then the rest of each.
+-- The nodes of tables in a plan of this size: the fields and id of each, then the tree of the ids, then the rest.
 unfoldable pub nodes_of_tables : Size → List (List ℕ) → List Members → Result (List NodeText) PlanFault
 nodes_of_tables size labels tables = do
   sketches ← sketches_after [] tables

@@ -23,11 +23,13 @@ use Rattle.ext_plan_reading.specs.KeyReading.{label_number}
 -- The numbers 1 to 15 as they are written.
 abbrev pub heights : List (List ℕ)
 heights =
-    codes "1" ∷ codes "2" ∷ codes "3" ∷ codes "4" ∷ codes "5" ∷ codes "6" ∷ codes "7" ∷ codes "8" ∷ codes "9" ∷ codes "10" ∷ codes "11" ∷ codes "12" ∷ codes "13" ∷ codes "14" ∷ codes "15" ∷ []
+    codes "1" ∷ codes "2" ∷ codes "3" ∷ codes "4" ∷ codes "5" ∷ codes "6" ∷ codes "7" ∷ codes "8" ∷ codes "9"
+    ∷ codes "10" ∷ codes "11" ∷ codes "12" ∷ codes "13" ∷ codes "14" ∷ codes "15" ∷ []
 
 -- The N of two words `up N`.
 abbrev pub height_of : List ℕ → List ℕ → Option ℕ
-height_of word number = if bytes_eq word (codes "up") then option_map suc (position (λ height. bytes_eq height number) heights) else None
+height_of word number = if bytes_eq word (codes "up")
+    then option_map suc (position (λ height. bytes_eq height number) heights) else None
 
 -- The key of a word: that of the label with this number, or the one with the word as its name.
 abbrev pub key_or_named : List ℕ → Option ℕ → StepKeyText
@@ -71,8 +73,10 @@ short_step labels name word =
 abbrev pub step_of_words : List (List ℕ) → List (List ℕ) → Option StepText
 step_of_words labels (name ∷ word ∷ []) = short_step labels name word
 step_of_words labels (name ∷ key ∷ text ∷ []) = worded_step labels (text_word name) key text 0
-step_of_words labels (name ∷ key ∷ word ∷ number ∷ []) = option_and_then (worded_step labels (key_word name) key []) (height_of word number)
-step_of_words labels (name ∷ key ∷ text ∷ word ∷ number ∷ []) = option_and_then (worded_step labels (text_word name) key text) (height_of word number)
+step_of_words labels (name ∷ key ∷ word ∷ number ∷ []) =
+    option_and_then (worded_step labels (key_word name) key []) (height_of word number)
+step_of_words labels (name ∷ key ∷ text ∷ word ∷ number ∷ []) =
+    option_and_then (worded_step labels (text_word name) key text) (height_of word number)
 step_of_words labels _ = None
 
 -- The step that a text writes, with these labels. No word of it is empty.

@@ -10,7 +10,8 @@ use Rattle.ext_races.specs.MadeSteps.{plan_path}
 abbrev pub PassesBy : List ℕ → ℕ → ℕ → Type 0
 PassesBy [] child container = ⊥
 PassesBy (first ∷ []) child container = ⊥
-PassesBy (first ∷ next ∷ above) child container = ((first ≡ child) × (next ≡ container)) ⊎ PassesBy (next ∷ above) child container
+PassesBy (first ∷ next ∷ above) child container = ((first ≡ child) × (next ≡ container))
+    ⊎ PassesBy (next ∷ above) child container
 
 -- One path comes from at or below one concurrent child of a container, and the other from at or below another.
 pub record AreBeside (plan : PlanText) (path second : List ℕ) : Type 0 where
@@ -36,11 +37,14 @@ turns path = zip path (drop 1 path)
 module _ (plan : PlanText) where
   -- The path passes another concurrent child of the container than this one.
   abbrev pub comes_by_other : ℕ → ℕ → List ℕ → Bool
-  comes_by_other child container path = list_any (λ turn. (turn.1 == container) && not (turn.0 == child) && concurrent_of plan turn.0) (turns path)
+  comes_by_other child container path =
+      list_any (λ turn. (turn.1 == container) && not (turn.0 == child) && concurrent_of plan turn.0) (turns path)
 
   abbrev pub are_beside : List ℕ → List ℕ → Bool
-  are_beside path other = list_any (λ turn. concurrent_of plan turn.0 && comes_by_other turn.0 turn.1 other) (turns path)
+  are_beside path other =
+      list_any (λ turn. concurrent_of plan turn.0 && comes_by_other turn.0 turn.1 other) (turns path)
 
   -- The test for two nodes of the plan.
   abbrev pub nodes_beside : ℕ → ℕ → Bool
-  nodes_beside first second = nat_lt first (length plan.nodes) && nat_lt second (length plan.nodes) && are_beside (plan_path plan first) (plan_path plan second)
+  nodes_beside first second = nat_lt first (length plan.nodes) && nat_lt second (length plan.nodes)
+      && are_beside (plan_path plan first) (plan_path plan second)

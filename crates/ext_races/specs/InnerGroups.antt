@@ -26,7 +26,8 @@ abbrev pub close_group : ℕ → TouchText → ℕ
 close_group keys t = close_group_of keys t.context
 
 -- This touch is added to the group with this number.
-pub record IsPushed (before : List (List TouchText)) (number : ℕ) (touch : TouchText) (after : List (List TouchText)) : Type 0 where
+pub record IsPushed (before : List (List TouchText)) (number : ℕ) (touch : TouchText) (after : List (List TouchText))
+    : Type 0 where
   pub count : length after ≡ length before
   pub here : Contains (group_at after number) touch
   pub kept : (k : ℕ) (t : TouchText) → Contains (group_at before k) t → Contains (group_at after k) t
@@ -36,15 +37,18 @@ pub record IsPushed (before : List (List TouchText)) (number : ℕ) (touch : Tou
 pub record IsAdded (keys : ℕ) (touches : List TouchText) (before after : List (List TouchText)) : Type 0 where
   pub count : length after ≡ length before
   pub kept : (k : ℕ) (t : TouchText) → Contains (group_at before k) t → Contains (group_at after k) t
-  pub only : (k : ℕ) (t : TouchText) → Contains (group_at after k) t → Contains (group_at before k) t ⊎ Contains touches t
+  pub only : (k : ℕ) (t : TouchText) → Contains (group_at after k) t → Contains (group_at before k) t
+      ⊎ Contains touches t
   pub places : (t : TouchText) → Contains touches t → Contains (group_at after (place_group keys t)) t
-  pub closes : (t : TouchText) → Contains touches t → may_fail t ≡ true → Contains (group_at after (close_group keys t)) t
+  pub closes : (t : TouchText) → Contains touches t → may_fail t ≡ true
+      → Contains (group_at after (close_group keys t)) t
 
 -- The groups have these touches and nothing else.
 pub record IsGrouped (keys : ℕ) (touches : List TouchText) (groups : List (List TouchText)) : Type 0 where
   pub only : (k : ℕ) (t : TouchText) → Contains (group_at groups k) t → Contains touches t
   pub places : (t : TouchText) → Contains touches t → Contains (group_at groups (place_group keys t)) t
-  pub closes : (t : TouchText) → Contains touches t → may_fail t ≡ true → Contains (group_at groups (close_group keys t)) t
+  pub closes : (t : TouchText) → Contains touches t → may_fail t ≡ true
+      → Contains (group_at groups (close_group keys t)) t
 
 -- No group has a touch.
 abbrev pub AreEmpty : List (List TouchText) → Type 0

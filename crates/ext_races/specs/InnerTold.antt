@@ -22,7 +22,8 @@ abbrev pub race_eq : Race → Race → Bool
 race_eq a b = side_eq a.first b.first && side_eq a.second b.second && (a.context == b.context)
 
 abbrev pub touch_eq : TouchText → TouchText → Bool
-touch_eq t u = (t.node == u.node) && (t.context == u.context) && (t.key == u.key) && word_eq t.word u.word && beq t.changes u.changes && bytes_eq t.text u.text
+touch_eq t u = (t.node == u.node) && (t.context == u.context) && (t.key == u.key) && word_eq t.word u.word
+    && beq t.changes u.changes && bytes_eq t.text u.text
 
 -- ---- races
 
@@ -33,7 +34,8 @@ race plan t u = clashes t u && nodes_beside plan t.node u.node
 
 -- Lists one more race, unless it is listed already or the list is full.
 abbrev pub with_race : ℕ → List Race → Race → List Race
-with_race most told race = if nat_lt (length told) most && not (list_any (λ r. race_eq r race) told) then told ++ race ∷ [] else told
+with_race most told race = if nat_lt (length told) most && not (list_any (λ r. race_eq r race) told)
+    then told ++ race ∷ [] else told
 
 module _ (plan : PlanText) (most : ℕ) where
   abbrev pub pair_told : TouchText → List Race → TouchText → List Race

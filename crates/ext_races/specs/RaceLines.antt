@@ -43,18 +43,23 @@ module _ (plan : PlanText) where
   module _ (names : List (Bor StepKey)) where
     -- `WORD KEY of ID`
     unfoldable pub side_text : Side → List ℕ
-    side_text side = word_text side.word ++ codes " " ++ name_if (slice_get names side.key) ++ codes " of " ++ id_of_node side.node
+    side_text side = word_text side.word ++ codes " " ++ name_if (slice_get names side.key) ++ codes " of "
+        ++ id_of_node side.node
 
     unfoldable pub race_line : Race → List ℕ
-    race_line race = side_text race.first ++ codes " and " ++ side_text race.second ++ codes " in " ++ id_of_node race.context ++ codes "\n"
+    race_line race = side_text race.first ++ codes " and " ++ side_text race.second ++ codes " in "
+        ++ id_of_node race.context ++ codes "\n"
 
     -- The lines of the first races, and whether there are more.
     abbrev pub race_lines : List Race → List ℕ
     race_lines [] = codes "no races\n"
-    race_lines (race ∷ more) = flat_map race_line (take line_limit (race ∷ more)) ++ (if nat_lt line_limit (length (race ∷ more)) then codes "and more\n" else [])
+    race_lines (race ∷ more) =
+        flat_map race_line (take line_limit (race ∷ more))
+        ++ (if nat_lt line_limit (length (race ∷ more)) then codes "and more\n" else [])
 
   -- What is written, by what was found.
   abbrev pub found_text : Found → List ℕ
   found_text found.TooManyKeys = codes "the steps name more than " ++ decimal plan.key_places ++ codes " keys\n"
-  found_text found.TooManyNumbers = codes "the steps may draw more than " ++ decimal (most_numbers plan.size) ++ codes " numbers\n"
+  found_text found.TooManyNumbers =
+      codes "the steps may draw more than " ++ decimal (most_numbers plan.size) ++ codes " numbers\n"
   found_text (found.Races races names) = race_lines names.items races.items

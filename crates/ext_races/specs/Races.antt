@@ -48,6 +48,8 @@ keys_of_names plan names = map (λ k. key_of_step plan.keys (step_key_view k.now
 -- Too many keys are reported before too many numbers, and either before the races.
 abbrev pub IsFound : PlanText → ℕ → Found → Type 0
 IsFound plan most found.TooManyKeys = plan.key_places < length (keys_named plan)
-IsFound plan most found.TooManyNumbers = (length (keys_named plan) ≤ plan.key_places) × (most_numbers plan.size < numbers_drawn plan)
+IsFound plan most found.TooManyNumbers = (length (keys_named plan) ≤ plan.key_places)
+    × (most_numbers plan.size < numbers_drawn plan)
 IsFound plan most (found.Races races names) =
-    (length (keys_named plan) ≤ plan.key_places) × (numbers_drawn plan ≤ most_numbers plan.size) × AreRaces plan most races.items × (keys_of_names plan names.items ≡ keys_named plan)
+    (length (keys_named plan) ≤ plan.key_places) × (numbers_drawn plan ≤ most_numbers plan.size)
+    × AreRaces plan most races.items × (keys_of_names plan names.items ≡ keys_named plan)

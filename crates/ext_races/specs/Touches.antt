@@ -55,7 +55,14 @@ pub record TouchText : Type 0 where
   pub text : List ℕ
 
 abbrev pub touch_view : Touch → TouchText
-touch_view t = record { node = t.node; context = t.context; key = t.key; word = t.word; changes = t.changes; text = t.text.now }
+touch_view t = record {
+  node = t.node;
+  context = t.context;
+  key = t.key;
+  word = t.word;
+  changes = t.changes;
+  text = t.text.now;
+}
 
 abbrev pub text_if : Bool → List ℕ → List ℕ
 text_if told text = if told then text else []
@@ -78,7 +85,8 @@ touches_above node key act above = if looks_along act.word then map (touch_of no
 -- What an act touches from the context on which it acts.
 abbrev pub touches_along : ℕ → ℕ → ActText → List ℕ → List TouchText
 touches_along node key act [] = []
-touches_along node key act (context ∷ above) = touch_of node key act (changes act.word) context ∷ touches_above node key act above
+touches_along node key act (context ∷ above) =
+    touch_of node key act (changes act.word) context ∷ touches_above node key act above
 
 -- ---- look-ups after a compute
 
@@ -92,7 +100,8 @@ module _ (declared : List KeyText) (key : KeyValue) where
   -- The part of the path below the context in which the act computes this key, if it does.
   abbrev pub below_act : List ℕ → Option ActText → List ℕ
   below_act path None = path
-  below_act path (Some act) = if gives_value act.word && key_eq (key_of_step declared act.key) key then take act.up path else path
+  below_act path (Some act) = if gives_value act.word && key_eq (key_of_step declared act.key) key then take act.up path
+      else path
 
   -- The part of the path below all contexts in which these steps compute the key.
   abbrev pub below_computes : List ℕ → List StepText → List ℕ
@@ -100,18 +109,22 @@ module _ (declared : List KeyText) (key : KeyValue) where
 
 -- How far along a path an act reaches, after these steps of its call.
 abbrev pub reach : List KeyText → List StepText → List ℕ → ActText → List ℕ
-reach declared before path act = if changes act.word then path else below_computes declared (key_of_step declared act.key) path before
+reach declared before path act = if changes act.word then path
+    else below_computes declared (key_of_step declared act.key) path before
 
 -- ---- touches
 
 -- The touches of an act by a node with this path, with these keys' numbers, after these steps of its call.
 abbrev pub touches_of_act : List KeyText → List KeyValue → ℕ → List ℕ → List StepText → Option ActText → List TouchText
 touches_of_act declared keys node path before None = []
-touches_of_act declared keys node path before (Some act) = touches_along node (place_of_key keys (key_of_step declared act.key)) act (drop act.up (reach declared before path act))
+touches_of_act declared keys node path before (Some act) =
+    touches_along node (place_of_key keys (key_of_step declared act.key)) act
+    (drop act.up (reach declared before path act))
 
 -- The touches of one step that a run may make.
 abbrev pub touches_of : List Id → List KeyText → List KeyValue → MadeText → List TouchText
-touches_of ids declared keys made = touches_of_act declared keys made.node (path_of ids made.node) made.before (act_of made.step)
+touches_of ids declared keys made =
+    touches_of_act declared keys made.node (path_of ids made.node) made.before (act_of made.step)
 
 -- The touches of all steps of a plan.
 abbrev pub touches_made : PlanText → List TouchText

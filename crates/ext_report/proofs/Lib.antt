@@ -1,4 +1,6 @@
 pub mod Lines
+pub mod Groupings
+mod SuiteCases
 mod Orders
 mod Indents
 mod XmlTexts

@@ -27,12 +27,14 @@ count_member name count = key name ∷ number (decimal count) ∷ []
 -- The members that say what a node is and how it ended.
 abbrev pub ending_members : List ℕ → NodeOutcome → List Token
 ending_members id r =
-    key (codes "id") ∷ string id ∷ key (codes "test") ∷ boolean r.is_test ∷ key (codes "status") ∷ string (status_text r.status) ∷ key (codes "fault") ∷ fault_token r.fault ∷ []
+    key (codes "id") ∷ string id ∷ key (codes "test") ∷ boolean r.is_test ∷ key (codes "status")
+    ∷ string (status_text r.status) ∷ key (codes "fault") ∷ fault_token r.fault ∷ []
 
 -- The members that count.
 abbrev pub count_members : NodeOutcome → List Token
 count_members r =
-    count_member (codes "more") r.more ++ count_member (codes "computed") r.computed ++ count_member (codes "found") r.found ++ count_member (codes "closed") r.closed
+    count_member (codes "more") r.more ++ count_member (codes "computed") r.computed
+    ++ count_member (codes "found") r.found ++ count_member (codes "closed") r.closed
     ++ count_member (codes "close_faults") r.close_faults
 
 -- The object of a node with this id, as it is written.

@@ -5,14 +5,14 @@
 --     <testsuites tests="2" failures="1" errors="0" skipped="0">
 --       <testsuite name="[engine:x]/[class:A]" tests="2" failures="1" errors="0" skipped="0">
 --         <testcase classname="[engine:x]/[class:A]" name="method:a()"></testcase>
---         <testcase classname="[engine:x]/[class:A]" name="method:b()"><failure message="TEXT">TEXT (+1)</failure></testcase>
---       </testsuite>
+--         <testcase classname="[engine:x]/[class:A]" name="method:b()"><failure message="TEXT">TEXT
+-- (+1)</failure></testcase>       </testsuite>
 --     </testsuites>
 --
--- There is one suite for each context that has a case, in the order of the tree, and none stands in another. A test is a
--- case of its parent's suite. A container that failed or aborted itself, in a call of its own or in its close, is a case
--- of its own suite, as with Maven's Surefire; and so is a test without a parent. Such a case has the suite's name. Cases
--- come in the order of the list.
+-- There is one suite for each context that has a case, in the order of the tree, and none stands in another. A test is
+-- a case of its parent's suite. A container that failed or aborted itself, in a call of its own or in its close, is a
+-- case of its own suite, as with Maven's Surefire; and so is a test without a parent. Such a case has the suite's name.
+-- Cases come in the order of the list.
 --
 -- A fault's text is the message of a `failure`, or of a `skipped` if the node aborted; it is followed in the element by
 -- how many more faults and aborts came. No case is an `error`, and none has a time. A line ends with one line feed, and
@@ -39,7 +39,8 @@ is_case r = r.is_test || tells_fault r.status
 -- that of a context with these children.
 abbrev pub stands_in : List ℕ → ℕ → NodeOutcome → Bool
 stands_in children suite r =
-    if r.is_test && not (r.node == 0) then list_any (λ child. child == r.node) children else (r.node == suite) && is_case r
+    if r.is_test && not (r.node == 0) then list_any (λ child. child == r.node) children else (r.node == suite)
+    && is_case r
 
 -- A case that aborted or was skipped, which are one in JUnit's XML.
 abbrev pub is_left_out : Status → Bool
@@ -62,7 +63,8 @@ counts_where is_counted rs = record {
 abbrev pub fault_element : List ℕ → Option (List ℕ) → ℕ → List ℕ
 fault_element name None more = codes "<" ++ name ++ codes "/>"
 fault_element name (Some fault) more =
-    codes "<" ++ name ++ codes " message=\"" ++ xml_text fault ++ codes "\">" ++ xml_text fault ++ further_faults more ++ codes "</" ++ name ++ codes ">"
+    codes "<" ++ name ++ codes " message=\"" ++ xml_text fault ++ codes "\">" ++ xml_text fault ++ further_faults more
+    ++ codes "</" ++ name ++ codes ">"
 
 -- How a case ended. A skipped one has no fault, and nothing is said of a successful one.
 abbrev pub ending_element : Status → Option (List ℕ) → ℕ → List ℕ
@@ -89,7 +91,8 @@ case_name ids suite node = if node == suite then suite_name (id_at ids suite) el
 
 abbrev pub case_element : List Id → ℕ → NodeOutcome → List ℕ
 case_element ids suite r =
-    codes "    <testcase classname=\"" ++ suite_name (id_at ids suite) ++ codes "\" name=\"" ++ case_name ids suite r.node ++ codes "\">"
+    codes "    <testcase classname=\"" ++ suite_name (id_at ids suite) ++ codes "\" name=\""
+    ++ case_name ids suite r.node ++ codes "\">"
     ++ ending_element r.status r.fault r.more ++ codes "</testcase>\n"
 
 abbrev pub case_in : List Id → ℕ → NodeOutcome → List ℕ
@@ -100,16 +103,19 @@ case_in ids suite r = if stands_in (children_of ids suite) suite r then case_ele
 -- The counts of a suite, or of all, and the end of their line.
 unfoldable pub count_attributes : CaseCounts → List ℕ
 count_attributes n =
-    codes " tests=\"" ++ decimal n.tests ++ codes "\" failures=\"" ++ decimal n.failures ++ codes "\" errors=\"0\" skipped=\"" ++ decimal n.skipped ++ codes "\">\n"
+    codes " tests=\"" ++ decimal n.tests ++ codes "\" failures=\"" ++ decimal n.failures
+    ++ codes "\" errors=\"0\" skipped=\"" ++ decimal n.skipped ++ codes "\">\n"
 
 abbrev pub suite_element : List Id → List NodeOutcome → ℕ → List ℕ
 suite_element ids rs suite =
-    codes "  <testsuite name=\"" ++ suite_name (id_at ids suite) ++ codes "\"" ++ count_attributes (counts_where (stands_in (children_of ids suite) suite) rs)
+    codes "  <testsuite name=\"" ++ suite_name (id_at ids suite) ++ codes "\""
+    ++ count_attributes (counts_where (stands_in (children_of ids suite) suite) rs)
     ++ flat_map (case_in ids suite) rs ++ codes "  </testsuite>\n"
 
 -- The suite of a context, if it has a case.
 abbrev pub suite_if_any : List Id → List NodeOutcome → ℕ → List ℕ
-suite_if_any ids rs suite = if count_by (stands_in (children_of ids suite) suite) rs == 0 then [] else suite_element ids rs suite
+suite_if_any ids rs suite = if count_by (stands_in (children_of ids suite) suite) rs == 0 then []
+    else suite_element ids rs suite
 
 -- The suites of the first `n` contexts, in order.
 unfoldable pub suites_below : List Id → List NodeOutcome → ℕ → List ℕ
@@ -120,4 +126,5 @@ suites_below ids rs (suc n) = suites_below ids rs n ++ suite_if_any ids rs n
 
 abbrev pub junit_xml : List Id → List NodeOutcome → List ℕ
 junit_xml ids rs =
-    codes "<?xml version=\"1.0\" encoding=\"UTF-8\"?>\n<testsuites" ++ count_attributes (counts_where is_case rs) ++ suites_below ids rs (length ids) ++ codes "</testsuites>\n"
+    codes "<?xml version=\"1.0\" encoding=\"UTF-8\"?>\n<testsuites" ++ count_attributes (counts_where is_case rs)
+    ++ suites_below ids rs (length ids) ++ codes "</testsuites>\n"

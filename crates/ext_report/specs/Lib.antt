@@ -1,4 +1,7 @@
 pub mod Report
+pub mod Groups
+pub mod InnerPutting
+pub mod InnerSuites
 pub mod JsonLines
 pub mod TreeLines
 pub mod Xml

@@ -16,7 +16,8 @@ use Rattle.ext_report.specs.Report.{outcome_part, counts_line, counts_of, sums_l
 -- order of the list.
 unfoldable pub depth_first_from : ℕ → List Id → ℕ → List ℕ
 depth_first_from zero ids context = []
-depth_first_from (suc levels) ids context = context ∷ flat_map (λ child. depth_first_from levels ids child) (children_of ids context)
+depth_first_from (suc levels) ids context =
+    context ∷ flat_map (λ child. depth_first_from levels ids child) (children_of ids context)
 
 -- All contexts. No tree is deeper than it has contexts.
 abbrev pub depth_first : List Id → List ℕ

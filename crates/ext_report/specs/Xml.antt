@@ -2,8 +2,8 @@
 --
 -- The marks `&`, `<`, `>` and `"` are written as entities. So are a tab, a line feed and a carriage return, which a
 -- parser would otherwise read from an attribute as spaces. What XML 1.0 forbids, which is the other characters below
--- U+0020, U+FFFE and U+FFFF, is written as U+FFFD: that stands for no text which a fault or an id may have, as an escape
--- in words would.
+-- U+0020, U+FFFE and U+FFFF, is written as U+FFFD: that stands for no text which a fault or an id may have, as an
+-- escape in words would.
 use Rattle.std.specs.Prelude.{ℕ, Bool, ◌==◌, ◌||◌, codes, encode_utf8, List, if◌then◌else◌, nat_lt}
 use Rattle.std.specs.List.{flat_map}
 use Rattle.std.specs.Str.{chars}

@@ -2,10 +2,11 @@
 ghost use Rattle.std.specs.Prelude.{◌≡◌, ◌<◌, ◌++◌, length, option_map, string_bytes, All, IfOk, OnOk, Some};
 ghost use Rattle.std.specs.List.{flat_map};
 ghost use Rattle.ext_lifecycle.specs.FaultTexts.{fault_text, result_view, results_view};
-ghost use Rattle.ext_report.specs.JunitXml.{case_element, case_in, case_name, counts_where, ending_element, fault_element, junit_xml, stands_in, suite_element, suite_if_any, suite_name, test_name};
-ghost use Rattle.ext_tree.specs.Trees.{children_of, id_at};
+ghost use Rattle.ext_report.specs.InnerSuites.{cases_view, suite_if_filled, suite_with};
+ghost use Rattle.ext_report.specs.JunitXml.{case_element, case_name, ending_element, fault_element, junit_xml, suite_name, test_name};
+ghost use Rattle.ext_tree.specs.Trees.{id_at};
 
-use crate::cases::{CaseCounts, stands_in};
+use crate::cases::{CaseCounts, cases_by_suite};
 use crate::line::{fault_text, write_further};
 use crate::xml::write_xml;
 use ext_ids::UniqueId;
@@ -22,7 +23,8 @@ use std::alloc::{AllocError, Global};
 /// is the message of a `failure`, and that of an aborted one the message of a `skipped`. No case has
 /// a time.
 ///
-/// Takes memory for the text, and fails with `AllocError` only if that is refused.
+/// Takes memory for the text and for a list of each suite's cases, and fails with `AllocError` only
+/// if that is refused.
 pub fn junit_report(
     alloc: Global,
     tree: &Tree,
@@ -32,57 +34,56 @@ pub fn junit_report(
     ensures { IfOk result
         (λ text. string_bytes text ≡ junit_xml tree.now (results_view results.now)) }
 {
+    let suites = cases_by_suite(alloc, tree, results)?;
     let mut text = String::new(alloc);
     text.push_str("<?xml version=\"1.0\" encoding=\"UTF-8\"?>\n<testsuites")?;
-    CaseCounts::of(results).write_to(&mut text)?;
+    CaseCounts::among(results).write_to(&mut text)?;
     for suite in 0..tree.len() {
-        write_suite(alloc, &mut text, tree, results, suite)?;
+        write_suite(alloc, &mut text, tree, suites[suite].as_slice(), suite)?;
     }
     text.push_str("</testsuites>\n")?;
     Ok(text)
 }
 
-/// Writes the suite of a context at the end of a text, if it has a case.
+/// Writes the suite of a context with these cases at the end of a text, if it has a case.
 fn write_suite(
     alloc: Global,
     text: &mut String,
     tree: &Tree,
-    results: &[NodeResult],
+    cases: &[&NodeResult],
     suite: ContextNo,
 ) -> Result<(), AllocError>
     requires suite { suite < length tree.now }
-    requires in_tree { All (λ r. r.node < length tree.now) results.now }
+    requires in_tree { All (λ r. r.node < length tree.now) (cases_view cases.now) }
     ensures { OnOk result
-        (string_bytes text.new ≡ string_bytes text.old ++ suite_if_any tree.now (results_view results.now) suite) }
+        (string_bytes text.new ≡ string_bytes text.old ++ suite_if_filled tree.now suite (cases_view cases.now)) }
 {
-    let counts = CaseCounts::in_suite(tree.children(suite), suite, results);
-    if counts.tests == 0 {
+    if cases.is_empty() {
         return Ok(());
     }
-    write_filled_suite(alloc, text, tree, results, suite, &counts)
+    write_filled_suite(alloc, text, tree, cases, suite)?;
+    Ok(())
 }
 
-/// Writes a suite with these counts at the end of a text.
+/// Writes a suite with these cases at the end of a text.
 fn write_filled_suite(
     alloc: Global,
     text: &mut String,
     tree: &Tree,
-    results: &[NodeResult],
+    cases: &[&NodeResult],
     suite: ContextNo,
-    counts: &CaseCounts,
 ) -> Result<(), AllocError>
     requires suite { suite < length tree.now }
-    requires in_tree { All (λ r. r.node < length tree.now) results.now }
-    requires counts { counts.now ≡ counts_where (stands_in (children_of tree.now suite) suite) (results_view results.now) }
+    requires in_tree { All (λ r. r.node < length tree.now) (cases_view cases.now) }
     ensures { OnOk result
-        (string_bytes text.new ≡ string_bytes text.old ++ suite_element tree.now (results_view results.now) suite) }
+        (string_bytes text.new ≡ string_bytes text.old ++ suite_with tree.now suite (cases_view cases.now)) }
 {
     let name = suite_name(alloc, tree.id(suite))?;
     text.push_str("  <testsuite name=\"")?;
     text.push_str(name.as_str())?;
     text.push_str("\"")?;
-    counts.write_to(text)?;
-    write_cases(text, tree, results, suite, name.as_str())?;
+    CaseCounts::of(cases).write_to(text)?;
+    write_cases(text, tree, cases, suite, name.as_str())?;
     text.push_str("  </testsuite>\n")?;
     Ok(())
 }
@@ -102,40 +103,19 @@ fn suite_name(alloc: Global, id: &UniqueId) -> Result<String, AllocError>
 fn write_cases(
     text: &mut String,
     tree: &Tree,
-    results: &[NodeResult],
+    cases: &[&NodeResult],
     suite: ContextNo,
     name: &str,
 ) -> Result<(), AllocError>
-    requires suite { suite < length tree.now }
-    requires in_tree { All (λ r. r.node < length tree.now) results.now }
+    requires in_tree { All (λ r. r.node < length tree.now) (cases_view cases.now) }
     requires name { name.now ≡ suite_name (id_at tree.now suite) }
     ensures { OnOk result
-        (string_bytes text.new ≡ string_bytes text.old ++ flat_map (case_in tree.now suite) (results_view results.now)) }
+        (string_bytes text.new ≡ string_bytes text.old ++ flat_map (case_element tree.now suite) (cases_view cases.now)) }
 {
-    for node in results {
-        write_case_if_in(text, tree, suite, name, node)?;
+    for case in cases {
+        write_case(text, tree, suite, name, case)?;
     }
     Ok(())
-}
-
-/// Writes a case of a suite with this name at the end of a text, if the result is one.
-fn write_case_if_in(
-    text: &mut String,
-    tree: &Tree,
-    suite: ContextNo,
-    name: &str,
-    node: &NodeResult,
-) -> Result<(), AllocError>
-    requires suite { suite < length tree.now }
-    requires in_tree { node.now.node < length tree.now }
-    requires name { name.now ≡ suite_name (id_at tree.now suite) }
-    ensures { OnOk result
-        (string_bytes text.new ≡ string_bytes text.old ++ case_in tree.now suite (result_view node.now)) }
-{
-    if !stands_in(tree.children(suite), suite, node) {
-        return Ok(());
-    }
-    write_case(text, tree, suite, name, node)
 }
 
 /// Writes a case of a suite with this name at the end of a text.

@@ -6,6 +6,7 @@
 
 mod cases;
 mod form;
+mod grouping;
 mod is_status;
 mod json_lines;
 mod junit_xml;
@@ -17,6 +18,7 @@ mod xml;
 
 pub use ext_lifecycle::{NodeResult, Status};
 pub use form::{ReportForm, report_in};
+pub use grouping::grouped;
 pub use json_lines::json_report;
 pub use junit_xml::junit_report;
 pub use report::{any_failed, report_text};

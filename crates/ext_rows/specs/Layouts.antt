@@ -40,8 +40,10 @@ pub record IsEnding (limits : Limits) (l : Layout) (words : List ℕ) (place : �
   pub distinct : IsDistinct nat_eq cells
   pub within : (cell : ℕ) → Contains cells cell → cell < limits.cells
   pub told : (cell : ℕ) → Contains cells cell → l.tells place (slice_index words place) cell ≡ Some Open
-  pub all : (cell : ℕ) → cell < limits.cells → l.tells place (slice_index words place) cell ≡ Some Open → Contains cells cell
-  pub each : (cell : ℕ) → cell < limits.cells → (Contains cells cell × (l.stands later cell ≡ Ended)) ⊎ ((Contains cells cell → ⊥) × (l.stands later cell ≡ l.stands words cell))
+  pub all : (cell : ℕ) → cell < limits.cells → l.tells place (slice_index words place) cell ≡ Some Open
+      → Contains cells cell
+  pub each : (cell : ℕ) → cell < limits.cells → (Contains cells cell × (l.stands later cell ≡ Ended))
+      ⊎ ((Contains cells cell → ⊥) × (l.stands later cell ≡ l.stands words cell))
   pub grows : slice_index words place ≤ slice_index later place
   pub sound : l.sound later ≡ true
 
@@ -51,16 +53,22 @@ pub record IsLayout (limits : Limits) (l : Layout) : Type 0 where
   pub all_open : (cell : ℕ) → cell < limits.cells → l.stands (replicate l.width 0) cell ≡ Open
   -- no cell stands at the count or at a row's word
   pub count_is : (l.count < l.width) × (l.is_row l.count ≡ false)
-  pub places : (words : List ℕ) (cell at : ℕ) → l.sound words ≡ true → cell < limits.cells → l.stands words cell ≡ At at → (at < l.width) × (l.is_row at ≡ false) × (at ≢ l.count)
+  pub places : (words : List ℕ) (cell at : ℕ) → l.sound words ≡ true → cell < limits.cells → l.stands words cell ≡ At at
+      → (at < l.width) × (l.is_row at ≡ false) × (at ≢ l.count)
   -- rows' words alone say how cells stand, and each by itself says it truly
-  pub steady : (words : List ℕ) (at next cell : ℕ) → l.is_row at ≡ false → l.stands (slice_set words at next) cell ≡ l.stands words cell
-  pub told : (words : List ℕ) (place cell : ℕ) (standing : Standing) → l.sound words ≡ true → cell < limits.cells → l.tells place (slice_index words place) cell ≡ Some standing → l.stands words cell ≡ standing
+  pub steady : (words : List ℕ) (at next cell : ℕ) → l.is_row at ≡ false
+      → l.stands (slice_set words at next) cell ≡ l.stands words cell
+  pub told : (words : List ℕ) (place cell : ℕ) (standing : Standing) → l.sound words ≡ true → cell < limits.cells
+      → l.tells place (slice_index words place) cell ≡ Some standing → l.stands words cell ≡ standing
   -- the word of a cell, and the count, may be any
-  pub changes : (words : List ℕ) (cell at next : ℕ) → l.sound words ≡ true → cell < limits.cells → l.stands words cell ≡ At at → l.sound (slice_set words at next) ≡ true
+  pub changes : (words : List ℕ) (cell at next : ℕ) → l.sound words ≡ true → cell < limits.cells
+      → l.stands words cell ≡ At at → l.sound (slice_set words at next) ≡ true
   pub draws : (words : List ℕ) (next : ℕ) → l.sound words ≡ true → l.sound (slice_set words l.count next) ≡ true
   -- the two changes of a row's word
-  pub placing : (words : List ℕ) (place cell : ℕ) → l.sound words ≡ true → length words ≡ l.width → place < l.width → l.is_row place ≡ true → cell < limits.cells
+  pub placing : (words : List ℕ) (place cell : ℕ) → l.sound words ≡ true → length words ≡ l.width → place < l.width
+      → l.is_row place ≡ true → cell < limits.cells
       → l.tells place (slice_index words place) cell ≡ Some Open
       → IsPlacing limits l words place cell (slice_set words place (l.placing place (slice_index words place) cell))
-  pub ending : (words : List ℕ) (place : ℕ) → l.sound words ≡ true → length words ≡ l.width → place < l.width → l.is_row place ≡ true
+  pub ending : (words : List ℕ) (place : ℕ) → l.sound words ≡ true → length words ≡ l.width → place < l.width
+      → l.is_row place ≡ true
       → IsEnding limits l words place (slice_set words place (l.end_of (slice_index words place)))

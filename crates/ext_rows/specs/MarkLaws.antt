@@ -14,4 +14,5 @@ MarkedCellsKeepTheirPlaces = (cells cell : ℕ) → OnlyAt (marks cells) cell ce
 
 -- the word of a cell's row tells of the cell by its mark, and by the row's end
 abbrev pub RowsTellOfTheirCells : Type 0
-RowsTellOfTheirCells = (cells row cell : ℕ) → (marks cells).tells (row_place cells cell) row cell ≡ Some (standing_in row cell)
+RowsTellOfTheirCells = (cells row cell : ℕ)
+    → (marks cells).tells (row_place cells cell) row cell ≡ Some (standing_in row cell)

@@ -59,7 +59,8 @@ all_below test (suc n) = if test n then all_below test n else false
 
 -- a cell without a mark has word 0
 abbrev pub is_bare : ℕ → List ℕ → ℕ → Bool
-is_bare cells words cell = if has_mark (slice_index words (row_place cells cell)) cell then true else nat_eq (slice_index words cell) 0
+is_bare cells words cell = if has_mark (slice_index words (row_place cells cell)) cell then true
+    else nat_eq (slice_index words cell) 0
 
 -- Marks of so many cells
 abbrev pub marks : ℕ → Layout

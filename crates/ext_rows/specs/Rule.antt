@@ -41,11 +41,15 @@ pub record Kept (limits : CellLimits) (l : Layout) (s : State (Act ℕ) View) : 
   pub count_is : slice_index s.words l.count ≡ (state_after history).drawn
   pub fits : (i : ℕ) (v : View) → get_elem? s.views i ≡ some v → Fits limits l s.words history v
   -- no two views have one number
-  pub apart : (i j : ℕ) (v w : View) (n : ℕ) → get_elem? s.views i ≡ some v → get_elem? s.views j ≡ some w → v.lane ≡ Some n → w.lane ≡ Some n → i ≡ j
+  pub apart : (i j : ℕ) (v w : View) (n : ℕ) → get_elem? s.views i ≡ some v → get_elem? s.views j ≡ some w
+      → v.lane ≡ Some n → w.lane ≡ Some n → i ≡ j
   -- one view alone has the count of lanes, which are no more than the limits say
-  pub one_giver : (i j : ℕ) (v w : View) (d e : ℕ) → get_elem? s.views i ≡ some v → get_elem? s.views j ≡ some w → v.given ≡ Some d → w.given ≡ Some e → i ≡ j
+  pub one_giver : (i j : ℕ) (v w : View) (d e : ℕ) → get_elem? s.views i ≡ some v → get_elem? s.views j ≡ some w
+      → v.given ≡ Some d → w.given ≡ Some e → i ≡ j
   pub most : (i : ℕ) (v : View) (d : ℕ) → get_elem? s.views i ≡ some v → v.given ≡ Some d → d ≤ limits.lanes
   -- the numbers that views have are below it
-  pub below : (i j : ℕ) (v w : View) (n d : ℕ) → get_elem? s.views i ≡ some v → get_elem? s.views j ≡ some w → v.lane ≡ Some n → w.given ≡ Some d → n < d
+  pub below : (i j : ℕ) (v w : View) (n d : ℕ) → get_elem? s.views i ≡ some v → get_elem? s.views j ≡ some w
+      → v.lane ≡ Some n → w.given ≡ Some d → n < d
   -- a number that no view has yet has no event
-  pub unborn : (i : ℕ) (v : View) (d n : ℕ) → get_elem? s.views i ≡ some v → v.given ≡ Some d → d ≤ n → own n history ≡ []
+  pub unborn : (i : ℕ) (v : View) (d n : ℕ) → get_elem? s.views i ≡ some v → v.given ≡ Some d → d ≤ n
+      → own n history ≡ []

@@ -12,13 +12,15 @@ use Rattle.ext_rows.specs.Rule.{Kept}
 abbrev pub OpeningKeeps : Type 0
 OpeningKeeps =
     (limits : CellLimits) (l : Layout) (words : List ℕ)
-    → IsLayout (limits_of limits) l → 1 ≤ limits.lanes → words ≡ replicate l.width 0 → Kept limits l (opening words [] (first_lane limits))
+    → IsLayout (limits_of limits) l → 1 ≤ limits.lanes → words ≡ replicate l.width 0
+    → Kept limits l (opening words [] (first_lane limits))
 
 -- the first lane gives out a further one
 abbrev pub LanesKeep : Type 0
 LanesKeep =
     (limits : CellLimits) (l : Layout) (id : ℕ) (v : View) (given first : ℕ)
-    → v.given ≡ Some given → v.lane ≡ Some first → given < limits.lanes → Splits (Kept limits l) id v (giving v) (born v)
+    → v.given ≡ Some given → v.lane ≡ Some first → given < limits.lanes
+    → Splits (Kept limits l) id v (giving v) (born v)
 
 -- a note is split off a lane,
 abbrev pub NotesKeep : Type 0
@@ -26,4 +28,5 @@ NotesKeep = (limits : CellLimits) (l : Layout) (id : ℕ) (v : View) → Splits 
 
 -- and another takes it in
 abbrev pub JoinsKeep : Type 0
-JoinsKeep = (limits : CellLimits) (l : Layout) (id other : ℕ) (v w : View) → Joins (Kept limits l) id v other w (noted v w) spent
+JoinsKeep = (limits : CellLimits) (l : Layout) (id other : ℕ) (v w : View)
+    → Joins (Kept limits l) id v other w (noted v w) spent

@@ -12,7 +12,8 @@ use Rattle.ext_rows.specs.Standings.{Standing, At, Open, Ended, ended_word, AreC
 
 -- the seals are legal one after the other
 abbrev pub EndIsLegal : Type 0
-EndIsLegal = (limits : Limits) (h : History) (lane : ℕ) (cells : List ℕ) → IsLegal limits h → lane < limits.lanes → MayEnd limits h cells → IsLegal limits (h ++ seals lane cells)
+EndIsLegal = (limits : Limits) (h : History) (lane : ℕ) (cells : List ℕ) → IsLegal limits h → lane < limits.lanes
+    → MayEnd limits h cells → IsLegal limits (h ++ seals lane cells)
 
 -- each of the cells is sealed by its one event, and kept nothing
 abbrev pub EndLeavesSeals : Type 0
@@ -25,13 +26,15 @@ abbrev pub EndLeavesOthers : Type 0
 EndLeavesOthers =
     (h : History) (lane : ℕ) (cells : List ℕ) (cell : ℕ) → (Contains cells cell → ⊥)
     → ((state_after (h ++ seals lane cells)).slots cell ≡ (state_after h).slots cell)
-    × (version_of (h ++ seals lane cells) cell ≡ version_of h cell) × ((state_after (h ++ seals lane cells)).drawn ≡ (state_after h).drawn)
+    × (version_of (h ++ seals lane cells) cell ≡ version_of h cell)
+    × ((state_after (h ++ seals lane cells)).drawn ≡ (state_after h).drawn)
 
 -- the events are the lane's, and no other lane's
 abbrev pub EndIsOwn : Type 0
 EndIsOwn =
     (h : History) (lane other : ℕ) (cells : List ℕ)
-    → (own lane (h ++ seals lane cells) ≡ own lane h ++ seals lane cells) × ((other ≡ lane → ⊥) → own other (h ++ seals lane cells) ≡ own other h)
+    → (own lane (h ++ seals lane cells) ≡ own lane h ++ seals lane cells)
+    × ((other ≡ lane → ⊥) → own other (h ++ seals lane cells) ≡ own other h)
 
 -- ---- how cells stand, and the steps
 
@@ -45,14 +48,17 @@ WordsAreTold =
 abbrev pub UsedCellsStand : Type 0
 UsedCellsStand =
     (limits : Limits) (stands : ℕ → Standing) (h later : History) (words : List ℕ) (cell : ℕ)
-    → AreCellsOf limits stands (h ++ later) words → cell < limits.cells → (word_of h cell ≡ 0 → ⊥) → (word_of h cell ≡ ended_word → ⊥)
+    → AreCellsOf limits stands (h ++ later) words → cell < limits.cells → (word_of h cell ≡ 0 → ⊥)
+    → (word_of h cell ≡ ended_word → ⊥)
     → (place : ℕ) × (stands cell ≡ At place)
 
 -- an event on a cell that has a place changes the one word there
 abbrev pub ChangesKeep : Type 0
 ChangesKeep =
-    (limits : Limits) (stands : ℕ → Standing) (h : History) (words : List ℕ) (lane : ℕ) (act : Act ℕ) (cell place next : ℕ)
-    → AreCellsOf limits stands h words → cell < limits.cells → stands cell ≡ At place → place < length words → place_of act ≡ Some cell
+    (limits : Limits) (stands : ℕ → Standing) (h : History) (words : List ℕ) (lane : ℕ) (act : Act ℕ)
+    (cell place next : ℕ)
+    → AreCellsOf limits stands h words → cell < limits.cells → stands cell ≡ At place → place < length words
+    → place_of act ≡ Some cell
     → next ≡ word_of (h ++ by lane act ∷ []) cell
     → AreCellsOf limits stands (h ++ by lane act ∷ []) (slice_set words place next)
 
@@ -60,7 +66,8 @@ ChangesKeep =
 abbrev pub DrawsKeep : Type 0
 DrawsKeep =
     (limits : Limits) (stands : ℕ → Standing) (h : History) (words : List ℕ) (lane : ℕ) (act : Act ℕ) (place next : ℕ)
-    → AreCellsOf limits stands h words → place_of act ≡ None → ((cell : ℕ) → cell < limits.cells → stands cell ≡ At place → ⊥)
+    → AreCellsOf limits stands h words → place_of act ≡ None
+    → ((cell : ℕ) → cell < limits.cells → stands cell ≡ At place → ⊥)
     → AreCellsOf limits stands (h ++ by lane act ∷ []) (slice_set words place next)
 
 -- A cell gets a place, which no other has, and whose word is 0: no event. How all other cells stand is as it was, and
@@ -68,7 +75,8 @@ DrawsKeep =
 abbrev pub PlacingKeeps : Type 0
 PlacingKeeps =
     (limits : Limits) (stands after : ℕ → Standing) (h : History) (words later : List ℕ) (cell place : ℕ)
-    → AreCellsOf limits stands h words → cell < limits.cells → stands cell ≡ Open → after cell ≡ At place → slice_index later place ≡ 0
+    → AreCellsOf limits stands h words → cell < limits.cells → stands cell ≡ Open → after cell ≡ At place
+    → slice_index later place ≡ 0
     → ((other : ℕ) → other < limits.cells → stands other ≡ At place → ⊥)
     → ((other : ℕ) → other < limits.cells → (other ≡ cell) ⊎ (after other ≡ stands other))
     → ((other at : ℕ) → other < limits.cells → stands other ≡ At at → slice_index later at ≡ slice_index words at)
@@ -79,6 +87,7 @@ abbrev pub EndKeeps : Type 0
 EndKeeps =
     (limits : Limits) (stands after : ℕ → Standing) (h : History) (words later : List ℕ) (lane : ℕ) (cells : List ℕ)
     → AreCellsOf limits stands h words → MayEnd limits h cells
-    → ((cell : ℕ) → cell < limits.cells → (Contains cells cell × (after cell ≡ Ended)) ⊎ ((Contains cells cell → ⊥) × (after cell ≡ stands cell)))
+    → ((cell : ℕ) → cell < limits.cells → (Contains cells cell × (after cell ≡ Ended))
+    ⊎ ((Contains cells cell → ⊥) × (after cell ≡ stands cell)))
     → ((cell at : ℕ) → cell < limits.cells → stands cell ≡ At at → slice_index later at ≡ slice_index words at)
     → AreCellsOf limits after (h ++ seals lane cells) later

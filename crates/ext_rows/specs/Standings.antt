@@ -34,7 +34,8 @@ told_word words Ended = ended_word
 -- each cell is as it stands, and no two stand at one place
 pub record AreCellsOf (limits : Limits) (stands : ℕ → Standing) (h : History) (words : List ℕ) : Type 0 where
   pub each : (cell : ℕ) → cell < limits.cells → IsCellAt h words cell (stands cell)
-  pub apart : (cell other place : ℕ) → cell < limits.cells → other < limits.cells → stands cell ≡ At place → stands other ≡ At place → cell ≡ other
+  pub apart : (cell other place : ℕ) → cell < limits.cells → other < limits.cells → stands cell ≡ At place
+      → stands other ≡ At place → cell ≡ other
 
 -- the seals of these cells by one lane, in their order
 abbrev pub seals : ℕ → List ℕ → History

@@ -26,7 +26,8 @@ abbrev pub ExchangesKeep : Type 0
 ExchangesKeep =
     (limits : CellLimits) (l : Layout) (slots id : ℕ) (me : Me (Act ℕ) View) (aim place old new lane : ℕ) (act : Act ℕ)
     → IsLayout (limits_of limits) l → MayExchange me.0 lane act aim old new → IsKnown l me.0 aim place
-    → Allows (Kept limits l) slots id me place (λ n. either (n == old) new n) (Exchanged aim (step slots place old new (some act)) me)
+    → Allows (Kept limits l) slots id me place (λ n. either (n == old) new n)
+    (Exchanged aim (step slots place old new (some act)) me)
 
 -- a load of a row's word, to read a cell,
 abbrev pub LeadsKeep : Type 0
@@ -46,8 +47,10 @@ SeeksKeep =
 abbrev pub PlacesKeep : Type 0
 PlacesKeep =
     (limits : CellLimits) (l : Layout) (slots id : ℕ) (me : Me (Act ℕ) View) (cell place old lane : ℕ)
-    → IsLayout (limits_of limits) l → me.0.lane ≡ Some lane → cell < me.0.limits.cells → l.is_row place ≡ true → place < l.width → l.tells place old cell ≡ Some Open
-    → Allows (Kept limits l) slots id me place (λ n. either (n == old) (l.placing place old cell) n) (Placed l cell (step slots place old (l.placing place old cell) none) me)
+    → IsLayout (limits_of limits) l → me.0.lane ≡ Some lane → cell < me.0.limits.cells → l.is_row place ≡ true
+    → place < l.width → l.tells place old cell ≡ Some Open
+    → Allows (Kept limits l) slots id me place (λ n. either (n == old) (l.placing place old cell) n)
+    (Placed l cell (step slots place old (l.placing place old cell) none) me)
 
 -- the end of a row
 abbrev pub EndIsOneStep : Type 0

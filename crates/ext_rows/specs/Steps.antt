@@ -46,7 +46,8 @@ OnlyAt l cell place = (words : List ℕ) (at : ℕ) → l.sound words ≡ true �
 pub data IsKnown (l : Layout) (v : View) (aim place : ℕ) : Type 0 where
   by_count : aim ≡ v.limits.cells → place ≡ l.count → IsKnown l v aim place
   by_place : Contains v.placed (aim, place) → IsKnown l v aim place
-  by_use : OnlyAt l aim place → aim < v.limits.cells → word_of (seen v.fronts) aim ≢ 0 → word_of (seen v.fronts) aim ≢ ended_word → IsKnown l v aim place
+  by_use : OnlyAt l aim place → aim < v.limits.cells → word_of (seen v.fronts) aim ≢ 0
+      → word_of (seen v.fronts) aim ≢ ended_word → IsKnown l v aim place
 
 -- the step found a history with this word, left it as it was, and showed it
 abbrev pub Shows : ℕ → ℕ → Me (Act ℕ) View → Me (Act ℕ) View → Type 0
@@ -70,7 +71,8 @@ Exchanged aim s me found after =
     (found ≢ s.first → Loaded aim s me found after)
     × (found ≡ s.first
     → (lane : ℕ) (act : Act ℕ) → me.0.lane ≡ Some lane → s.said ≡ some act
-    → (h : History) × FoundBy me.0 aim found h × IsAllowed (limits_of me.0.limits) h (by lane act) × (after ≡ (shown me.0 (h ++ by lane act ∷ []), me.1)))
+    → (h : History) × FoundBy me.0 aim found h × IsAllowed (limits_of me.0.limits) h (by lane act)
+    × (after ≡ (shown me.0 (h ++ by lane act ∷ []), me.1)))
 
 -- ---- a row's word
 
@@ -82,7 +84,8 @@ LedTo cell Open me after = Shows cell 0 me after
 LedTo cell Ended me after = Shows cell ended_word me after
 
 abbrev pub Led : Layout → ℕ → Step (Act ℕ) → Me (Act ℕ) View → ℕ → Me (Act ℕ) View → Type 0
-Led l cell s me found after = (standing : Standing) → l.tells s.word found cell ≡ Some standing → LedTo cell standing me after
+Led l cell s me found after = (standing : Standing) → l.tells s.word found cell ≡ Some standing
+    → LedTo cell standing me after
 
 -- What it tells who wants to give the cell a place: of an open cell nothing but itself, and it shows no history then
 abbrev pub SoughtBy : ℕ → Standing → ℕ → ℕ → Me (Act ℕ) View → Me (Act ℕ) View → Type 0
@@ -91,14 +94,16 @@ SoughtBy cell Open row found me after = after ≡ (sought me.0 row found, me.1)
 SoughtBy cell Ended row found me after = Shows cell ended_word me after
 
 abbrev pub Sought : Layout → ℕ → Step (Act ℕ) → Me (Act ℕ) View → ℕ → Me (Act ℕ) View → Type 0
-Sought l cell s me found after = (standing : Standing) → l.tells s.word found cell ≡ Some standing → SoughtBy cell standing s.word found me after
+Sought l cell s me found after = (standing : Standing) → l.tells s.word found cell ≡ Some standing
+    → SoughtBy cell standing s.word found me after
 
 -- An exchange that gives an open cell a place, which the row's new word tells, and shows no history. If it finds
 -- another word it is such a load, and that word is not below the one that the seat knows
 abbrev pub Placed : Layout → ℕ → Step (Act ℕ) → Me (Act ℕ) View → ℕ → Me (Act ℕ) View → Type 0
 Placed l cell s me found after =
     (found ≢ s.first → Sought l cell s me found after × (me.0.row ≡ s.word → me.0.least ≤ found))
-    × (found ≡ s.first → (place : ℕ) × (l.tells s.word s.second cell ≡ Some (At place)) × (after ≡ (led me.0 cell place, me.1)))
+    × (found ≡ s.first → (place : ℕ) × (l.tells s.word s.second cell ≡ Some (At place))
+    × (after ≡ (led me.0 cell place, me.1)))
 
 -- ---- the end of a row
 
@@ -116,7 +121,8 @@ pub record EndOf (l : Layout) (me after : Me (Act ℕ) View) (lane place found :
   pub may : MayEnd (limits_of me.0.limits) history cells
   pub opened : (cell : ℕ) → Contains cells cell → l.tells place found cell ≡ Some Open
   pub all : (cell : ℕ) → cell < me.0.limits.cells → l.tells place found cell ≡ Some Open → Contains cells cell
-  pub ended : (cell : ℕ) → cell < me.0.limits.cells → (l.tells place found cell ≡ Some Open) ⊎ (l.tells place found cell ≡ Some Ended) → IsSealedUnused (history ++ seals lane cells) cell
+  pub ended : (cell : ℕ) → cell < me.0.limits.cells → (l.tells place found cell ≡ Some Open)
+      ⊎ (l.tells place found cell ≡ Some Ended) → IsSealedUnused (history ++ seals lane cells) cell
   pub after_is : after ≡ (shown me.0 (history ++ seals lane cells), me.1)
 
 abbrev pub EndedBy : Layout → Step (Act ℕ) → Me (Act ℕ) View → ℕ → Me (Act ℕ) View → Type 0

@@ -7,11 +7,25 @@ use Rattle.ext_rows.specs.declared.limits.CellLimits.{CellLimits}
 use Rattle.ext_rows.specs.declared.view.View.{View}
 
 abbrev pub limits_of : CellLimits → Limits
-limits_of limits = record { cells = limits.cells; lanes = limits.lanes; numbers = limits.numbers; keep_faults = limits.keep_faults }
+limits_of limits = record {
+  cells = limits.cells;
+  lanes = limits.lanes;
+  numbers = limits.numbers;
+  keep_faults = limits.keep_faults;
+}
 
 -- the first lane, which gives out the numbers of lanes from 1 on
 abbrev pub first_lane : CellLimits → View
-first_lane limits = record { limits = limits; lane = Some 0; given = Some 1; fronts = []; told = []; placed = []; row = 0; least = 0 }
+first_lane limits = record {
+  limits = limits;
+  lane = Some 0;
+  given = Some 1;
+  fronts = [];
+  told = [];
+  placed = [];
+  row = 0;
+  least = 0;
+}
 
 abbrev pub one_more : Option ℕ → Option ℕ
 one_more None = None
@@ -19,33 +33,97 @@ one_more (Some n) = Some (n + 1)
 
 -- the first lane, after it gave out a number
 abbrev pub giving : View → View
-giving v = record { limits = v.limits; lane = v.lane; given = one_more v.given; fronts = v.fronts; told = v.told; placed = v.placed; row = v.row; least = v.least }
+giving v = record {
+  limits = v.limits;
+  lane = v.lane;
+  given = one_more v.given;
+  fronts = v.fronts;
+  told = v.told;
+  placed = v.placed;
+  row = v.row;
+  least = v.least;
+}
 
 -- the lane that has that number
 abbrev pub born : View → View
-born v = record { limits = v.limits; lane = v.given; given = None; fronts = []; told = []; placed = []; row = 0; least = 0 }
+born v = record {
+  limits = v.limits;
+  lane = v.given;
+  given = None;
+  fronts = [];
+  told = [];
+  placed = [];
+  row = 0;
+  least = 0;
+}
 
 -- a note of what a lane has seen
 abbrev pub note : View → View
-note v = record { limits = v.limits; lane = None; given = None; fronts = []; told = seen v.fronts; placed = []; row = 0; least = 0 }
+note v = record {
+  limits = v.limits;
+  lane = None;
+  given = None;
+  fronts = [];
+  told = seen v.fronts;
+  placed = [];
+  row = 0;
+  least = 0;
+}
 
 -- a lane that took in a note
 abbrev pub noted : View → View → View
-noted v w = record { limits = v.limits; lane = v.lane; given = v.given; fronts = v.fronts; told = w.told; placed = v.placed; row = v.row; least = v.least }
+noted v w = record {
+  limits = v.limits;
+  lane = v.lane;
+  given = v.given;
+  fronts = v.fronts;
+  told = w.told;
+  placed = v.placed;
+  row = v.row;
+  least = v.least;
+}
 
 -- what is left of a note that was joined
 abbrev pub spent : View
-spent = record { limits = record { cells = 0; lanes = 0; numbers = 0; keep_faults = false }; lane = None; given = None; fronts = []; told = []; placed = []; row = 0; least = 0 }
+spent = record {
+  limits = record { cells = 0; lanes = 0; numbers = 0; keep_faults = false };
+  lane = None;
+  given = None;
+  fronts = [];
+  told = [];
+  placed = [];
+  row = 0;
+  least = 0;
+}
 
 -- ---- steps
 
 -- the view after a step that left this history
 abbrev pub shown : View → History → View
-shown v h = record { limits = v.limits; lane = v.lane; given = v.given; fronts = v.fronts ++ h ∷ []; told = []; placed = v.placed; row = v.row; least = v.least }
+shown v h = record {
+  limits = v.limits;
+  lane = v.lane;
+  given = v.given;
+  fronts = v.fronts ++ h ∷ [];
+  told = [];
+  placed = v.placed;
+  row = v.row;
+  least = v.least;
+}
 
 -- a view that knows other things of places and of a row's word
 abbrev pub knowing : View → List (ℕ × ℕ) → ℕ → ℕ → View
-knowing v placed row least = record { limits = v.limits; lane = v.lane; given = v.given; fronts = v.fronts; told = v.told; placed = placed; row = row; least = least }
+knowing v placed row least =
+    record {
+      limits = v.limits;
+      lane = v.lane;
+      given = v.given;
+      fronts = v.fronts;
+      told = v.told;
+      placed = placed;
+      row = row;
+      least = least;
+    }
 
 -- after a step that led to a cell at a place: it shows no history
 abbrev pub led : View → ℕ → ℕ → View

@@ -23,7 +23,9 @@ key_count_text count = if nat_le count 1024 then decimal count else codes "more 
 -- For instance `ok, 7 nodes, 3 tests, 2 of 64 keys` and a line feed.
 unfoldable pub counts_line : PlanText → List ℕ
 counts_line plan =
-    codes "ok, " ++ decimal (length plan.nodes) ++ codes " nodes, " ++ decimal (test_count plan.nodes) ++ codes " tests, " ++ key_count_text (length (keys_named plan)) ++ codes " of " ++ decimal plan.key_places ++ codes " keys\n"
+    codes "ok, " ++ decimal (length plan.nodes) ++ codes " nodes, " ++ decimal (test_count plan.nodes)
+    ++ codes " tests, " ++ key_count_text (length (keys_named plan)) ++ codes " of " ++ decimal plan.key_places
+    ++ codes " keys\n"
 
 -- The line of the plan that was read. A refused plan has none.
 abbrev pub IsCountsOf : Result PlanText RunFault → List ℕ → Type 0
@@ -61,7 +63,8 @@ IsRacesOf (Err fault) text failed = ⊥
 -- The line where so many keys are named, and there are so many places.
 unfoldable pub raise_line : ℕ → ℕ → List ℕ
 raise_line keys places =
-    codes "the plan: its steps name " ++ decimal keys ++ codes " different keys, and there are places for " ++ decimal places ++ codes ". Write keys = " ++ decimal keys ++ codes " at the top of the plan"
+    codes "the plan: its steps name " ++ decimal keys ++ codes " different keys, and there are places for "
+    ++ decimal places ++ codes ". Write keys = " ++ decimal keys ++ codes " at the top of the plan"
 
 -- The same of more keys than a plan can have places for.
 abbrev pub too_many_line : List ℕ
@@ -69,7 +72,8 @@ too_many_line = codes "the plan: its steps name more than 1024 different keys, f
 
 -- There is a line exactly where more keys are named than there are places.
 unfoldable pub line_of_keys : ℕ → ℕ → Option (List ℕ)
-line_of_keys keys places = if nat_le keys places then None else Some (if nat_le keys 1024 then raise_line keys places else too_many_line)
+line_of_keys keys places = if nat_le keys places then None
+    else Some (if nat_le keys 1024 then raise_line keys places else too_many_line)
 
 -- The line of the plan that was read. A refused plan has none.
 abbrev pub keys_explained : Result PlanText RunFault → Option (List ℕ)

@@ -32,7 +32,8 @@ test_words (Some steps) = codes ", test of " ++ decimal (length steps) ++ codes 
 -- What follows a node's name.
 unfoldable pub node_words : NodeText → List ℕ
 node_words node =
-    word_if (is_concurrent node.mode) (codes ", concurrent") ++ word_if node.isolated (codes ", isolated") ++ flat_map lock_words node.locks ++ test_words node.test
+    word_if (is_concurrent node.mode) (codes ", concurrent") ++ word_if node.isolated (codes ", isolated")
+    ++ flat_map lock_words node.locks ++ test_words node.test
 
 abbrev pub drawn_line : NodeText → List ℕ
 drawn_line node = tree_head node.id ++ node_words node ++ codes "\n"
@@ -52,6 +53,7 @@ IsTextOf of (Ok plan) text = text ≡ of plan
 IsTextOf of (Err fault) text = ⊥
 
 -- A function returned the text of what was read, or a fault that fits it.
-abbrev pub TextAs : {X : Type 0} → (X → List ℕ) → (PlanText → List ℕ) → Result X RunFault → Result PlanText RunFault → Type 0
+abbrev pub TextAs : {X : Type 0} → (X → List ℕ) → (PlanText → List ℕ) → Result X RunFault → Result PlanText RunFault
+    → Type 0
 TextAs view of (Ok x) plan = IsTextOf of plan (view x)
 TextAs view of (Err fault) plan = RefusedUnrun fault plan

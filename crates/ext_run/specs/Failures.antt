@@ -13,7 +13,8 @@ use Rattle.ext_run.specs.declared.failures.ToldFaults.{ToldFaults}
 
 -- The node's fault, with this text, is appended to the others.
 abbrev pub IsAdded : List NodeFault → List NodeFault → ℕ → List ℕ → Type 0
-IsAdded old new node text = (fault : NodeFault) × (new ≡ old ++ fault ∷ []) × (fault.node ≡ node) × (string_bytes fault.text ≡ text)
+IsAdded old new node text = (fault : NodeFault) × (new ≡ old ++ fault ∷ []) × (fault.node ≡ node)
+    × (string_bytes fault.text ≡ text)
 
 -- The fault is appended to the others, or it is lost, and that is noted.
 pub data NotesFault (old new : ToldFaults) (node : ℕ) (text : List ℕ) : Type 0 where

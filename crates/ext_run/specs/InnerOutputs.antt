@@ -1,6 +1,8 @@
 -- What private functions read, and which output or fault they answer. No public contract cites it.
 use Rattle.std.specs.Prelude.{◌≡◌, ◌<◌, ◌≤◌, ℕ, ◌+◌, false, List, ◌++◌, length, Option, Result, Ok, Err}
 use Rattle.std.specs.Io.KnownBytes.{Consumes, IsAtEnd}
+use Rattle.ext_ids.specs.Grammar.{Pair, IsId}
+use Rattle.ext_ids.specs.declared.making.PartFault.{PartFault}
 use Rattle.ext_parallel.specs.ParallelRun.{IsRefusedRun}
 use Rattle.ext_plan_reading.specs.Plans.{PlanText}
 use Rattle.ext_run.specs.declared.fault.RunFault.{RunFault}
@@ -8,6 +10,8 @@ use Rattle.ext_run.specs.declared.fault.RunFault.TheVariants as faults
 use Rattle.ext_run.specs.declared.options.Options.{Options}
 use Rattle.ext_run.specs.declared.runs.Output.{Output}
 use Rattle.ext_run.specs.Checks.{IsCountsOf, RefusedUnrun}
+use Rattle.ext_run.specs.IdText.{id_line}
+use Rattle.ext_run.specs.Requests.{IsFaultOf}
 use Rattle.ext_run.specs.Reports.{IsReadFault, RefusedAs, Reports, RunReport}
 
 -- ---- the input
@@ -60,3 +64,10 @@ ReportsAs options (Err fault) read = RefusedAs options fault read
 abbrev pub ChecksAs : {X : Type 0} → (X → List ℕ) → Result X RunFault → Result PlanText RunFault → Type 0
 ChecksAs view (Ok x) read = IsCountsOf read (view x)
 ChecksAs view (Err fault) read = RefusedUnrun fault read
+
+-- ---- the line of an id that is made
+
+-- A function returned the line of the id that these parts make, or their fault.
+abbrev pub MakesLine : {X : Type 0} → (X → List ℕ) → List Pair → Result X PartFault → Type 0
+MakesLine view pairs (Ok x) = IsId pairs × (view x ≡ id_line pairs)
+MakesLine view pairs (Err fault) = IsFaultOf pairs fault

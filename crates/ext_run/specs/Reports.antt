@@ -37,11 +37,13 @@ plan_or_fault (Err fault) = Err (faults.Plan fault)
 
 -- The plan that these bytes write, which may be as large as this.
 unfoldable pub plan_of_bytes : Size → List ℕ → Result PlanText RunFault
-plan_of_bytes size input = if is_utf8 input then plan_or_fault (plan_of_text size input) else Err (faults.Plan plan.NotUtf8)
+plan_of_bytes size input = if is_utf8 input then plan_or_fault (plan_of_text size input)
+    else Err (faults.Plan plan.NotUtf8)
 
 -- The plan that an input writes. An input that is too long is refused as such, whatever its bytes.
 unfoldable pub plan_of_input : Size → List ℕ → Result PlanText RunFault
-plan_of_input size input = if nat_lt (input_limit size) (length input) then Err faults.TooLong else plan_of_bytes size input
+plan_of_input size input = if nat_lt (input_limit size) (length input) then Err faults.TooLong
+    else plan_of_bytes size input
 
 -- ---- its run, and the report
 

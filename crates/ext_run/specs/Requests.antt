@@ -1,9 +1,13 @@
 -- How a request to a program over this crate ends: its exit status, and the line of a run's fault. The status is 0 if
 -- the request was done and no node failed, 1 if a node failed, 2 if the command line, the plan or the id is refused,
 -- and 3 if the work itself failed. Texts are lists of bytes.
-use Rattle.std.specs.Prelude.{◌≡◌, ◌≢◌, ℕ, codes, List, ◌++◌, Result, Ok, Err, if◌then◌else◌}
+use Rattle.std.specs.Prelude.{◌≡◌, ◌≢◌, ℕ, codes, List, ◌++◌, Some, Result, Ok, Err, if◌then◌else◌}
 use Rattle.ext_ids.specs.declared.fault.IdFault.TheVariants as ids
+use Rattle.ext_ids.specs.declared.making.PartFault.{PartFault}
+use Rattle.ext_ids.specs.declared.making.PartFault.TheVariants as parts
 use Rattle.ext_ids.specs.Faults.{HasFault}
+use Rattle.ext_ids.specs.Grammar.{Pair, IsId}
+use Rattle.ext_ids.specs.Making.{parts_fault}
 use Rattle.ext_parallel.specs.EngineFault.{EngineFault}
 use Rattle.ext_parallel.specs.EngineFault.TheVariants as engine
 use Rattle.ext_plan_reading.specs.FaultPlaces.{line_of as plan_line}
@@ -26,6 +30,7 @@ status_of_run_fault runs.Memory = 3
 abbrev pub status_of_fault : RequestFault → ℕ
 status_of_fault faults.CommandLine = 2
 status_of_fault (faults.Id fault) = 2
+status_of_fault (faults.Parts fault) = 2
 status_of_fault (faults.Run fault) = status_of_run_fault fault
 
 abbrev pub status_of : Result Summary RequestFault → ℕ
@@ -54,6 +59,7 @@ line_of runs.Memory = codes "run: no memory"
 abbrev pub IsNoId : List ℕ → RequestFault → Type 0
 IsNoId text faults.CommandLine = ⊥
 IsNoId text (faults.Id fault) = fault ≢ ids.Memory → HasFault text fault
+IsNoId text (faults.Parts fault) = ⊥
 IsNoId text (faults.Run fault) = fault ≡ runs.Write
 
 -- How the request ends for a text that is an id: it is done, memory was refused, or the writer failed.
@@ -61,4 +67,18 @@ abbrev pub IsIdEnd : Result Summary RequestFault → Type 0
 IsIdEnd (Ok summary) = Unit {0}
 IsIdEnd (Err faults.CommandLine) = ⊥
 IsIdEnd (Err (faults.Id fault)) = fault ≡ ids.Memory
+IsIdEnd (Err (faults.Parts fault)) = ⊥
 IsIdEnd (Err (faults.Run fault)) = fault ≡ runs.Write
+
+-- ---- the request to make an id of parts
+
+-- The fault that these parts have, unless it is a lack of memory, which says nothing of them.
+abbrev pub IsFaultOf : List Pair → PartFault → Type 0
+IsFaultOf pairs fault = fault ≢ parts.Memory → parts_fault pairs ≡ Some fault
+
+-- Why no id was made of these parts: for the fault that they have, or the writer failed.
+abbrev pub IsNotMade : List Pair → RequestFault → Type 0
+IsNotMade pairs faults.CommandLine = ⊥
+IsNotMade pairs (faults.Id fault) = ⊥
+IsNotMade pairs (faults.Parts fault) = IsFaultOf pairs fault
+IsNotMade pairs (faults.Run fault) = fault ≡ runs.Write

@@ -8,9 +8,9 @@
 //! `check` reads a plan without running it, and `draw` draws it. `Failures` keeps the faults that a
 //! run reports, and `failures_text` repeats them. `read_input`, `explain` and `explain_keys` serve
 //! callers that explain why a plan was refused, or a key had no place. `read_id` writes the lines
-//! of an id, and `status_of` is the exit status of a program for any of these requests. This crate
-//! also exports the names of `ext_model`, `ext_plan_reading`, `ext_plain`, `ext_lifecycle` and
-//! `ext_report` that its callers need.
+//! of an id, `make_id` that of one made of parts, and `status_of` is the exit status of a program
+//! for any of these requests. This crate also exports the names of `ext_ids`, `ext_model`,
+//! `ext_plan_reading`, `ext_plain`, `ext_lifecycle` and `ext_report` that its callers need.
 //!
 //! JUnit has no plans.
 #![tactic(auto)]
@@ -28,7 +28,7 @@ mod runs;
 
 pub use checks::{check, check_races, explain_keys};
 pub use drawing::draw;
-pub use ext_ids::IdFault;
+pub use ext_ids::{IdFault, PartFault};
 pub use ext_lifecycle::{NoListener, NodeResult, RunListener, Status};
 pub use ext_model::Size;
 pub use ext_plain::plain_run_laws;
@@ -40,7 +40,7 @@ pub use ext_report::ReportForm;
 pub use ext_tree::Tree;
 pub use failures::{Failures, NodeFault, ToldFaults, failures_text};
 pub use fault::RunFault;
-pub use id_lines::{id_text, read_id};
+pub use id_lines::{id_text, make_id, read_id};
 pub use input::read_input;
 pub use options::{Options, Summary};
 pub use request_fault::{RequestFault, status_of};

@@ -4,7 +4,7 @@ ghost use Rattle.ext_run.specs.Requests.{status_of, status_of_fault, status_of_r
 
 use crate::fault::RunFault;
 use crate::options::Summary;
-use ext_ids::IdFault;
+use ext_ids::{IdFault, PartFault};
 
 /// Why a request was not done.
 #[derive(Clone, Copy, Debug, PartialEq, Eq)]
@@ -13,6 +13,8 @@ pub enum RequestFault {
     CommandLine,
     /// The text of an id was refused, or memory for it was.
     Id(IdFault),
+    /// The parts of an id were refused, or memory for it was.
+    Parts(PartFault),
     /// A run gave no report, a write failed, or memory was refused.
     Run(RunFault),
 }
@@ -21,7 +23,8 @@ pub enum RequestFault {
 /// node failed or a race was found (`Summary::failed`). It is 2 if the command line, the plan or
 /// the id is refused, and 3 if reading, writing or memory failed, or a context could not be closed.
 ///
-/// If memory was refused while an id or a plan was read, the status is 2, as for all their faults.
+/// If memory was refused while an id was read or made, or a plan was read, the status is 2, as for
+/// all their faults.
 pub fn status_of(outcome: &Result<Summary, RequestFault>) -> u8
     ensures { result ≡ status_of outcome.now }
 {
@@ -39,6 +42,7 @@ fn status_of_fault(fault: RequestFault) -> u8
     match fault {
         RequestFault::CommandLine => 2,
         RequestFault::Id(_) => 2,
+        RequestFault::Parts(_) => 2,
         RequestFault::Run(fault) => status_of_run_fault(fault),
     }
 }

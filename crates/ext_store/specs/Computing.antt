@@ -35,7 +35,8 @@ pub use Rattle.ext_store_core.specs.Claiming.{HappensAfter, LooksFirst}
 -- The look-up from the context is absent at a point of the call; after that the lane claims the context's cell; then,
 -- before its next event, the look-up along the ancestors gives this.
 abbrev pub ClaimsAndLooks : Limits → StoreView → ℕ → List ℕ → ℕ → LaneView → LaneView → Look → Type 0
-ClaimsAndLooks limits store context ancestors key before after look = claiming.ClaimsAndLooks limits (context_cells store) context ancestors key before after look
+ClaimsAndLooks limits store context ancestors key before after look =
+    claiming.ClaimsAndLooks limits (context_cells store) context ancestors key before after look
 
 -- The events of a claim that is given up.
 abbrev pub given_up_events : StoreView → ℕ → ℕ → List (Act ℕ)
@@ -44,20 +45,24 @@ given_up_events store context key = claiming.given_up_events (context_cells stor
 -- The look-up from the context meets this at a point of a call without events. Or the look-up from the parent meets it
 -- while the lane's claim stands, and the lane gives the claim up.
 abbrev pub Meets : Limits → StoreView → ℕ → List ℕ → ℕ → LaneView → LaneView → Look → Type 0
-Meets limits store context ancestors key before after met = claiming.Meets limits (context_cells store) context ancestors key before after met
+Meets limits store context ancestors key before after met =
+    claiming.Meets limits (context_cells store) context ancestors key before after met
 
 -- What each refusal means.
 abbrev pub IsRefused : Limits → StoreView → ℕ → List ℕ → ℕ → LaneView → LaneView → Refusal → Type 0
-IsRefused limits store context ancestors key before after why = claiming.IsRefused limits (context_cells store) context ancestors key before after why
+IsRefused limits store context ancestors key before after why =
+    claiming.IsRefused limits (context_cells store) context ancestors key before after why
 
 -- The lane holds a claim under which nothing stands on the context's path, or this is why it does not.
 abbrev pub ClaimsMissing : StoreView → ℕ → ℕ → LaneView → LaneView → Result ℕ Unused → Type 0
-ClaimsMissing store context key before after result = claiming.ClaimsMissing (context_cells store) context key before after result
+ClaimsMissing store context key before after result =
+    claiming.ClaimsMissing (context_cells store) context key before after result
 
 -- ---- after the factory gave a value
 
 -- The lane draws the number and stores it in the claimed cell.
-pub record Fills (limits : Limits) (first : List (Act ℕ)) (cell : ℕ) (before after : LaneView) (number : ℕ) : Type 0 where
+pub record Fills (limits : Limits) (first : List (Act ℕ)) (cell : ℕ) (before after : LaneView) (number : ℕ)
+    : Type 0 where
   pub calls : Calls limits before after (first ++ Keep number ∷ Fill cell number ∷ [])
   pub drawn : HappensAfter limits first before after (Keep number) (Some number)
 
@@ -69,22 +74,27 @@ GivesUp limits first cell before after = Calls limits before after (first ++ Aba
 -- point of the call one was left.
 pub record IsOutdrawn (limits : Limits) (tries : ℕ) (before after : LaneView) : Type 0 where
   pub drawn : (state_after (first_front before after)).drawn + tries ≤ (state_after (seen_by after)).drawn
-  pub left : (p : History) × IsPoint before after p × ((answer : Option ℕ) × (reply_after limits p before.number (Keep 0) ≡ events.Happens answer))
+  pub left : (p : History) × IsPoint before after p
+      × ((answer : Option ℕ) × (reply_after limits p before.number (Keep 0) ≡ events.Happens answer))
 
 -- Why the value is not kept. If its place did not take it, a number was drawn for it.
 unfoldable pub IsUnkept : Limits → ℕ → List (Act ℕ) → ℕ → LaneView → LaneView → KeepFault → Type 0
 IsUnkept limits tries first cell before after fault.Memory = GivesUp limits first cell before after
 IsUnkept limits tries first cell before after fault.NumbersFull =
     GivesUp limits first cell before after
-    × ((p : History) × IsPointAfter before after first p × (reply_after limits p before.number (Keep 0) ≡ events.Refuses events.NumbersFull))
-IsUnkept limits tries first cell before after fault.Contended = GivesUp limits first cell before after × IsCrowded tries before after × IsOutdrawn limits tries before after
+    × ((p : History) × IsPointAfter before after first p
+    × (reply_after limits p before.number (Keep 0) ≡ events.Refuses events.NumbersFull))
+IsUnkept limits tries first cell before after fault.Contended = GivesUp limits first cell before after
+    × IsCrowded tries before after × IsOutdrawn limits tries before after
 IsUnkept limits tries first cell before after fault.Unplaced =
-    (number : ℕ) × Calls limits before after (first ++ Keep number ∷ Abandon cell ∷ []) × HappensAfter limits first before after (Keep number) (Some number)
+    (number : ℕ) × Calls limits before after (first ++ Keep number ∷ Abandon cell ∷ [])
+    × HappensAfter limits first before after (Keep number) (Some number)
 
 -- ---- after the factory failed, in a store that keeps faults
 
 -- The lane draws a number for the fault and keeps it in the claimed cell.
-pub record Fails (limits : Limits) (first : List (Act ℕ)) (cell : ℕ) (before after : LaneView) (number : ℕ) : Type 0 where
+pub record Fails (limits : Limits) (first : List (Act ℕ)) (cell : ℕ) (before after : LaneView) (number : ℕ)
+    : Type 0 where
   pub calls : Calls limits before after (first ++ Keep number ∷ Fail cell number ∷ [])
   pub drawn : HappensAfter limits first before after (Keep number) (Some number)
 
@@ -92,13 +102,16 @@ pub record Fails (limits : Limits) (first : List (Act ℕ)) (cell : ℕ) (before
 -- that keeps them keeps this one under a number, or hands it back and says why not.
 abbrev pub EndsFailed : {V : Type 0} → StoreView → Fault → ℕ → StoreLane V → StoreLane V → Compute V (Unit {0}) → Type 0
 EndsFailed store why cell before after (Failed said) =
-    IsFalse store.id.cells.limits.keep_faults × (said ≡ why) × (after.known ≡ before.known) × (after.faults ≡ before.faults)
+    IsFalse store.id.cells.limits.keep_faults × (said ≡ why) × (after.known ≡ before.known)
+    × (after.faults ≡ before.faults)
     × GivesUp store.id.cells.limits [] cell before.cells.view after.cells.view
 EndsFailed store why cell before after (FaultKept number) =
-    IsTrue store.id.cells.limits.keep_faults × (after.known ≡ before.known) × Learns before.faults after.faults number why
+    IsTrue store.id.cells.limits.keep_faults × (after.known ≡ before.known)
+    × Learns before.faults after.faults number why
     × Fails store.id.cells.limits [] cell before.cells.view after.cells.view number
 EndsFailed store why cell before after (FaultUnkept said cause) =
-    IsTrue store.id.cells.limits.keep_faults × (said ≡ why) × (after.known ≡ before.known) × KnowsUnkept before.cells.view after.cells.view before.faults after.faults cause
+    IsTrue store.id.cells.limits.keep_faults × (said ≡ why) × (after.known ≡ before.known)
+    × KnowsUnkept before.cells.view after.cells.view before.faults after.faults cause
     × IsUnkept store.id.cells.limits store.tries [] cell before.cells.view after.cells.view cause
 EndsFailed store why cell before after (Computed number) = ⊥
 EndsFailed store why cell before after (Found at number unused) = ⊥
@@ -137,40 +150,52 @@ HandsBack factory (Unkept value cause) = Unit {0}
 HandsBack factory (Refused why unused) = unused ≡ factory
 
 -- The events of the call and the points of its answer, for each result.
-unfoldable pub ComputesFrom : {V : Type 0} → Limits → StoreView → ℕ → List ℕ → ℕ → LaneView → LaneView → Compute V (Unit {0}) → Type 0
+unfoldable pub ComputesFrom : {V : Type 0} → Limits → StoreView → ℕ → List ℕ → ℕ → LaneView → LaneView
+    → Compute V (Unit {0}) → Type 0
 ComputesFrom limits store context ancestors key before after (Computed number) =
     ClaimsAndLooks limits store context ancestors key before after look.Absent
     × Fills limits (Claim (cell_in store key context) ∷ []) (cell_in store key context) before after number
-ComputesFrom limits store context ancestors key before after (Found at number unused) = Meets limits store context ancestors key before after (look.Found at number)
+ComputesFrom limits store context ancestors key before after (Found at number unused) =
+    Meets limits store context ancestors key before after (look.Found at number)
 ComputesFrom limits store context ancestors key before after (Failed why) =
-    IsFalse limits.keep_faults × ClaimsAndLooks limits store context ancestors key before after look.Absent × Calls limits before after (given_up_events store context key)
+    IsFalse limits.keep_faults × ClaimsAndLooks limits store context ancestors key before after look.Absent
+    × Calls limits before after (given_up_events store context key)
 ComputesFrom limits store context ancestors key before after (FaultKept number) =
     IsTrue limits.keep_faults × ClaimsAndLooks limits store context ancestors key before after look.Absent
     × Fails limits (Claim (cell_in store key context) ∷ []) (cell_in store key context) before after number
 ComputesFrom limits store context ancestors key before after (FaultUnkept why cause) =
     IsTrue limits.keep_faults × ClaimsAndLooks limits store context ancestors key before after look.Absent
-    × IsUnkept limits store.tries (Claim (cell_in store key context) ∷ []) (cell_in store key context) before after cause
-ComputesFrom limits store context ancestors key before after (FaultStands at number unused) = Meets limits store context ancestors key before after (look.Fault at number)
+    × IsUnkept limits store.tries (Claim (cell_in store key context) ∷ []) (cell_in store key context) before after
+    cause
+ComputesFrom limits store context ancestors key before after (FaultStands at number unused) =
+    Meets limits store context ancestors key before after (look.Fault at number)
 ComputesFrom limits store context ancestors key before after (Unkept value cause) =
     ClaimsAndLooks limits store context ancestors key before after look.Absent
-    × IsUnkept limits store.tries (Claim (cell_in store key context) ∷ []) (cell_in store key context) before after cause
-ComputesFrom limits store context ancestors key before after (Refused why unused) = IsRefused limits store context ancestors key before after why
+    × IsUnkept limits store.tries (Claim (cell_in store key context) ∷ []) (cell_in store key context) before after
+    cause
+ComputesFrom limits store context ancestors key before after (Refused why unused) =
+    IsRefused limits store context ancestors key before after why
 
 -- The same for the path of the context, in the limits of the lane's cells.
 unfoldable pub Computes : {V : Type 0} → StoreView → ℕ → ℕ → Lane → Lane → Compute V (Unit {0}) → Type 0
 Computes store context key before after result =
-    (ancestors : List ℕ) × IsPathOf store.tree context (context ∷ ancestors) × ComputesFrom before.cells.limits store context ancestors key before.view after.view result
+    (ancestors : List ℕ) × IsPathOf store.tree context (context ∷ ancestors)
+    × ComputesFrom before.cells.limits store context ancestors key before.view after.view result
 
 -- What the factory answered, if it was called, and what the lane knows of values and faults afterwards. `Gives` says
 -- what the factory may answer for the key.
 abbrev pub Uses : {V : Type 0} → (Result V Fault → Type 0) → StoreLane V → StoreLane V → Compute V (Unit {0}) → Type 0
-Uses Gives before after (Computed number) = (value : _) × Gives (Ok value) × Learns before.known after.known number value × (after.faults ≡ before.faults)
+Uses Gives before after (Computed number) = (value : _) × Gives (Ok value)
+    × Learns before.known after.known number value × (after.faults ≡ before.faults)
 Uses Gives before after (Found at number unused) = (after.known ≡ before.known) × (after.faults ≡ before.faults)
 Uses Gives before after (Failed why) = Gives (Err why) × (after.known ≡ before.known) × (after.faults ≡ before.faults)
-Uses Gives before after (FaultKept number) = (why : Fault) × Gives (Err why) × (after.known ≡ before.known) × Learns before.faults after.faults number why
-Uses Gives before after (FaultUnkept why cause) = Gives (Err why) × (after.known ≡ before.known) × KnowsUnkept before.cells.view after.cells.view before.faults after.faults cause
+Uses Gives before after (FaultKept number) = (why : Fault) × Gives (Err why) × (after.known ≡ before.known)
+    × Learns before.faults after.faults number why
+Uses Gives before after (FaultUnkept why cause) = Gives (Err why) × (after.known ≡ before.known)
+    × KnowsUnkept before.cells.view after.cells.view before.faults after.faults cause
 Uses Gives before after (FaultStands at number unused) = (after.known ≡ before.known) × (after.faults ≡ before.faults)
-Uses Gives before after (Unkept value cause) = Gives (Ok value) × KnowsUnkept before.cells.view after.cells.view before.known after.known cause × (after.faults ≡ before.faults)
+Uses Gives before after (Unkept value cause) = Gives (Ok value)
+    × KnowsUnkept before.cells.view after.cells.view before.known after.known cause × (after.faults ≡ before.faults)
 Uses Gives before after (Refused why unused) = (after.known ≡ before.known) × (after.faults ≡ before.faults)
 
 -- What a store that keeps no faults may answer.

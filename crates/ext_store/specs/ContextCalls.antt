@@ -15,7 +15,8 @@ Gets store context key before after result = cells.Gets (context_cells store) co
 
 -- A put stores the number in the context, and answers the number that stood there.
 abbrev pub Puts : StoreView → ℕ → ℕ → ℕ → Lane → Lane → Result (Option ℕ) (ℕ × Refusal) → Type 0
-Puts store context key number before after result = cells.Puts (context_cells store) context key number before after result
+Puts store context key number before after result =
+    cells.Puts (context_cells store) context key number before after result
 
 -- A remove takes what stands in the context itself, and answers it.
 abbrev pub Removes : StoreView → ℕ → ℕ → Lane → Lane → Result (Option ℕ) Refusal → Type 0
@@ -44,4 +45,5 @@ seals_of store context keys = cells.seals_of (context_cells store) context keys
 -- The call sealed keys of this block of 32 of the context's that are not among the marked, and each of those is sealed
 -- afterwards, and nobody had used it.
 abbrev pub SealsUnused : StoreView → ℕ → ℕ → ℕ → Lane → Lane → Type 0
-SealsUnused store context block marks before after = cells.SealsUnused (context_cells store) context block marks before after
+SealsUnused store context block marks before after =
+    cells.SealsUnused (context_cells store) context block marks before after

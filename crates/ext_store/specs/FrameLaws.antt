@@ -17,7 +17,8 @@ NoCallHasFrame V = (id : StoreId) (lane : StoreLane V) → IsLaneOf id lane → 
 
 -- Two frames in a row are one frame, with the stored numbers of both.
 abbrev pub FramesCompose : Type 0 → Type 0
-FramesCompose V = (id : StoreId) (first second : List ℕ) (a b c : StoreLane V) → Frame id first a b → Frame id second b c → Frame id (first ++ second) a c
+FramesCompose V = (id : StoreId) (first second : List ℕ) (a b c : StoreLane V) → Frame id first a b
+    → Frame id second b c → Frame id (first ++ second) a c
 
 -- If no number was stored, all that was kept still is.
 abbrev pub FramesKeep : Type 0 → Type 0

@@ -35,8 +35,10 @@ pub record IsPlaced {V : Type 0} (value : V) (before after : List (Known V)) (nu
 
 -- The drawn number has the value, or the value comes back. It comes back if no number was drawn, and then the lane
 -- learns nothing; or if the number's place has another value, which the lane learns.
-abbrev pub PlacesDrawn : {V : Type 0} → V → Result ℕ CellRefusal → List (Known V) → List (Known V) → Result ℕ (V × KeepFault) → Type 0
+abbrev pub PlacesDrawn : {V : Type 0} → V → Result ℕ CellRefusal → List (Known V) → List (Known V)
+    → Result ℕ (V × KeepFault) → Type 0
 PlacesDrawn value drawn before after (Ok number) = (drawn ≡ Ok number) × IsPlaced value before after number
 PlacesDrawn value drawn before after (Err (back, why)) =
     (back ≡ value)
-    × MatchResult drawn (λ number. (why ≡ fault.Unplaced) × LearnsOne before after number × KeepsKnown before after) (λ refused. (why ≡ keep_fault refused) × (after ≡ before))
+    × MatchResult drawn (λ number. (why ≡ fault.Unplaced) × LearnsOne before after number × KeepsKnown before after)
+    (λ refused. (why ≡ keep_fault refused) × (after ≡ before))

@@ -47,7 +47,8 @@ pub record IsKeyRefused {V : Type 0} (before after : StoreLane V) (key : KeyValu
 -- `Refuses` is true of the refusal.
 abbrev pub OfKey : {V : Type 0} → StoreLane V → StoreLane V → KeyValue → (Refusal → Type 0) → (ℕ → Type 0) → Type 0
 OfKey before after key Refuses Holds =
-    ((number : ℕ) × IsKeyNumber after.keys key number × Holds number) ⊎ ((why : Refusal) × IsKeyRefused before after key why × Refuses why)
+    ((number : ℕ) × IsKeyNumber after.keys key number × Holds number)
+    ⊎ ((why : Refusal) × IsKeyRefused before after key why × Refuses why)
 
 -- ---- the lane, whatever the call answers
 
@@ -76,7 +77,8 @@ Frame id stored before after = FrameParts id stored before after
 abbrev pub KeepsAllBut : {V : Type 0} → List ℕ → StoreLane V → StoreLane V → Type 0
 KeepsAllBut [] before after = StillKeeps before after
 KeepsAllBut (stored ∷ []) before after = StillKeepsBut stored before after
-KeepsAllBut (stored ∷ other ∷ more) before after = (number : ℕ) → ¬ Contains (stored ∷ other ∷ more) number → IsKeptBy before number → IsKeptBy after number
+KeepsAllBut (stored ∷ other ∷ more) before after = (number : ℕ) → ¬ Contains (stored ∷ other ∷ more) number
+    → IsKeptBy before number → IsKeptBy after number
 
 -- What a call leaves of its lane, whatever it answers, if it learns no value and no fault: any form of a look-up, a
 -- put, a remove, the first half of a compute, or a seal. Only a put stores a number.
@@ -112,9 +114,11 @@ stored_by kept (Err refused) = []
 -- What each fault of a keep says of the lane's steps.
 unfoldable pub KeepFails : StoreView → Lane → Lane → KeepFault → Type 0
 KeepFails store before after fault.Memory = after ≡ before
-KeepFails store before after fault.NumbersFull = HoldsAtPoint before after [] (λ p. reply_to before (Keep 0) p ≡ events.Refuses events.NumbersFull)
+KeepFails store before after fault.NumbersFull =
+    HoldsAtPoint before after [] (λ p. reply_to before (Keep 0) p ≡ events.Refuses events.NumbersFull)
 KeepFails store before after fault.Contended = model.IsOvertaken before.cells.limits store.tries before.view after.view
-KeepFails store before after fault.Unplaced = (number : ℕ) × HoldsAtPoint before after (Keep number ∷ []) (λ p. reply_to before (Keep number) p ≡ events.Happens (Some number))
+KeepFails store before after fault.Unplaced = (number : ℕ)
+    × HoldsAtPoint before after (Keep number ∷ []) (λ p. reply_to before (Keep number) p ≡ events.Happens (Some number))
 
 -- The call drew the number: its event is there after the call, and was not before.
 pub record Draws (before after : LaneView) (number : ℕ) : Type 0 where
@@ -127,28 +131,33 @@ abbrev pub KnowsUnkept : {V : Type 0} → LaneView → LaneView → List (Known 
 KnowsUnkept before after known learnt fault.Memory = learnt ≡ known
 KnowsUnkept before after known learnt fault.NumbersFull = learnt ≡ known
 KnowsUnkept before after known learnt fault.Contended = learnt ≡ known
-KnowsUnkept before after known learnt fault.Unplaced = (number : ℕ) × Draws before after number × LearnsOne known learnt number
+KnowsUnkept before after known learnt fault.Unplaced = (number : ℕ) × Draws before after number
+    × LearnsOne known learnt number
 
 -- The number drawn at a point of the call has the value that was handed in, and may be stored.
 pub record KeepsAs {V : Type 0} (value : V) (before after : StoreLane V) (number : ℕ) : Type 0 where
-  pub drawn : HoldsAtPoint before.cells after.cells (Keep number ∷ []) (λ p. reply_to before.cells (Keep number) p ≡ events.Happens (Some number))
+  pub drawn : HoldsAtPoint before.cells after.cells (Keep number ∷ [])
+      (λ p. reply_to before.cells (Keep number) p ≡ events.Happens (Some number))
   pub learnt : Learns before.known after.known number value
   pub kept : IsKeptBy after number
 
 -- The value is handed back. The lane knows what it knew, and the value in the place that did not take its own.
-pub record KeepsNothing {V : Type 0} (store : StoreView) (value : V) (before after : StoreLane V) (back : V) (why : KeepFault) : Type 0 where
+pub record KeepsNothing {V : Type 0} (store : StoreView) (value : V) (before after : StoreLane V) (back : V)
+    (why : KeepFault) : Type 0 where
   pub handed_back : back ≡ value
   pub known : KnowsUnkept before.cells.view after.cells.view before.known after.known why
   pub fails : KeepFails store before.cells after.cells why
 
 -- The number drawn at a point of the call has the fault that was handed in, and may be kept in a cell.
 pub record KeepsFault {V : Type 0} (why : Fault) (before after : StoreLane V) (number : ℕ) : Type 0 where
-  pub drawn : HoldsAtPoint before.cells after.cells (Keep number ∷ []) (λ p. reply_to before.cells (Keep number) p ≡ events.Happens (Some number))
+  pub drawn : HoldsAtPoint before.cells after.cells (Keep number ∷ [])
+      (λ p. reply_to before.cells (Keep number) p ≡ events.Happens (Some number))
   pub learnt : Learns before.faults after.faults number why
   pub storable : model.MayStoreNow after.cells.view number
 
 -- The fault is handed back. The lane knows what it knew, and the fault in the place that did not take its own.
-pub record KeepsNoFault {V : Type 0} (store : StoreView) (why : Fault) (before after : StoreLane V) (back : Fault) (cause : KeepFault) : Type 0 where
+pub record KeepsNoFault {V : Type 0} (store : StoreView) (why : Fault) (before after : StoreLane V) (back : Fault)
+    (cause : KeepFault) : Type 0 where
   pub handed_back : back ≡ why
   pub faults : KnowsUnkept before.cells.view after.cells.view before.faults after.faults cause
   pub fails : KeepFails store before.cells after.cells cause

@@ -6,3 +6,5 @@ pub mod FrameLaws
 pub mod InnerKeeping
 pub mod Computing
 pub mod Waiting
+pub mod FaultTexts
+pub mod FoundOrMade

@@ -16,8 +16,16 @@ abbrev pub places_for : ℕ → ℕ
 places_for keys = (keys + 31) / 32 * 32
 
 -- Cells, places of values and of faults, lanes and closers of one store with these limits and `contexts` contexts.
-pub record AreParts {V : Type 0} (contexts key_count lane_count exchanges number_count : ℕ) (keeps : Bool) (cells : CellsView) (names fault_names key_names : List ℕ) (store_lanes : List (StoreLane V)) (store_closers : List CloserView) : Type 0 where
-  pub limits : cells.id.limits ≡ record { cells = contexts * places_for key_count; lanes = lane_count; numbers = number_count; keep_faults = keeps }
+pub record AreParts {V : Type 0} (contexts key_count lane_count exchanges number_count : ℕ) (keeps : Bool)
+    (cells : CellsView) (names fault_names key_names : List ℕ) (store_lanes : List (StoreLane V))
+    (store_closers : List CloserView) : Type 0 where
+  pub limits : cells.id.limits
+      ≡ record {
+        cells = contexts * places_for key_count;
+        lanes = lane_count;
+        numbers = number_count;
+        keep_faults = keeps;
+      }
   pub tries : cells.tries ≡ exchanges
   pub places : length names ≡ number_count
   pub fault_places : length fault_names ≡ fault_count keeps number_count
@@ -26,7 +34,9 @@ pub record AreParts {V : Type 0} (contexts key_count lane_count exchanges number
   pub closers : store_closers ≡ closers_below cells.id contexts
 
 -- The same, with the limits in their ranges.
-pub record AreOpened {V : Type 0} (size : Size) (contexts keys lanes tries numbers : ℕ) (keeps : Bool) (cells : CellsView) (places fault_names key_places : List ℕ) (store_lanes : List (StoreLane V)) (closers : List CloserView) : Type 0 where
+pub record AreOpened {V : Type 0} (size : Size) (contexts keys lanes tries numbers : ℕ) (keeps : Bool)
+    (cells : CellsView) (places fault_names key_places : List ℕ) (store_lanes : List (StoreLane V))
+    (closers : List CloserView) : Type 0 where
   pub within : AreStoreLimits size keys lanes tries numbers
   pub parts : AreParts contexts keys lanes tries numbers keeps cells places fault_names key_places store_lanes closers
 

@@ -87,13 +87,20 @@ StillKeepsBut stored before after = (number : ℕ) → number ≢ stored → IsK
 
 -- Only the lane's steps on the cells have changed.
 abbrev pub IsOnCells : {V : Type 0} → StoreLane V → StoreLane V → Type 0
-IsOnCells before after = after ≡ record { cells = after.cells; known = before.known; faults = before.faults; keys = before.keys }
+IsOnCells before after =
+    after ≡ record { cells = after.cells; known = before.known; faults = before.faults; keys = before.keys }
 
 -- ---- opening
 
 -- A lane that has made no step and knows no value, fault or key.
 abbrev pub fresh_store_lane : {V : Type 0} → List ℕ → List ℕ → List ℕ → Lane → StoreLane V
-fresh_store_lane places fault_places key_places lane = record { cells = lane; known = nothing_known places; faults = nothing_known fault_places; keys = keys.no_key_known key_places }
+fresh_store_lane places fault_places key_places lane =
+    record {
+      cells = lane;
+      known = nothing_known places;
+      faults = nothing_known fault_places;
+      keys = keys.no_key_known key_places;
+    }
 
 -- A closer for each of the first `n` contexts, in order.
 abbrev pub closers_below : CellsId → ℕ → List CloserView

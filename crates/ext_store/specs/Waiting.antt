@@ -22,7 +22,8 @@ Waits store context key before Then = waiting.Waits (context_cells store) contex
 
 -- The last attempt is the claim of a missing value.
 abbrev pub ClaimsAfterWaits : StoreView → ℕ → ℕ → LaneView → LaneView → Result ℕ Unused → Type 0
-ClaimsAfterWaits store context key before after result = waiting.ClaimsAfterWaits (context_cells store) context key before after result
+ClaimsAfterWaits store context key before after result =
+    waiting.ClaimsAfterWaits (context_cells store) context key before after result
 
 -- ---- what a waiting form never answers
 
@@ -47,4 +48,5 @@ IsDecidedCompute (Refused why unused) = IsDecided why
 -- running factory or because other lanes were in the way. The last attempt is a compute, with its events and points.
 unfoldable pub ComputesAfterWaits : {V : Type 0} → StoreView → ℕ → ℕ → Lane → Lane → Compute V (Unit {0}) → Type 0
 ComputesAfterWaits store context key before after result =
-    Waits store context key before.view (λ between. Computes store context key (record { cells = before.cells; view = between }) after result)
+    Waits store context key before.view
+    (λ between. Computes store context key (record { cells = before.cells; view = between }) after result)

@@ -13,12 +13,13 @@
 //! refused for the key as `DirectoryFull` or `Memory`, before anything else.
 //!
 //! Each operation has a file of its own, with all its forms: `get`, `put`, `remove`, `keep` and
-//! `compute`; `begin` and `end` have a compute in two calls. `store` has the store itself.
+//! `compute`; `begin` and `end` have a compute in two calls, and `made` what an author makes of its
+//! answer. `store` has the store itself.
 //!
 //! `specs/Stores`, `specs/ContextCalls`, `specs/LaneCalls` and `specs/Computing` have the words of
-//! the contracts, and `specs/Waiting` those of the waiting forms. ext_store_core says what a call
-//! does to a lane of the cells, of a store without its values; `specs/ContextCalls` says it of the
-//! whole store.
+//! the contracts, `specs/Waiting` those of the waiting forms, and `specs/FoundOrMade` and
+//! `specs/FaultTexts` those of `made`. ext_store_core says what a call does to a lane of the cells,
+//! of a store without its values; `specs/ContextCalls` says it of the whole store.
 //!
 //! An engine that can't hand over a factory computes in two calls: `begin`, and then `fill`, `fail`
 //! or `abandon`. Their quiet forms (`fill_quietly` and the others) wake nobody, so that a static
@@ -45,6 +46,7 @@ mod kept;
 mod lane;
 mod laws;
 mod limits;
+mod made;
 mod opening;
 mod put;
 mod remove;
@@ -61,5 +63,6 @@ pub use kept::Kept;
 pub use lane::Lane;
 pub use laws::frame_laws;
 pub use limits::{Limits, StoreFault};
+pub use made::{Made, fault_of};
 pub use store::Store;
 pub use value::StoreValue;

@@ -5,7 +5,7 @@ use thiserror::Error;
 /// The limits that a store is opened with.
 #[derive(Clone, Copy, Debug, PartialEq, Eq)]
 pub struct Limits {
-    /// How many lanes there are, for as many threads: 1 to 16.
+    /// How many lanes there are, for as many threads: 1 to `size.lanes()`.
     pub lanes: usize,
     /// The most exchanges of a change, and the most passes of a look-up after its first, before the
     /// answer is `Contended`: 1 to 64.
@@ -19,7 +19,7 @@ pub struct Limits {
     /// removed or replaced, so that the next compute meets it. If not, a factory that fails leaves
     /// its place empty, and its fault goes to its caller.
     pub keep_faults: bool,
-    /// How large the store may be. It says how many numbers there are at most, and to
+    /// How large the store may be. It says how many lanes and numbers there are at most, and to
     /// `ext_engine::open_run` also how many contexts; a tree that is at hand is taken as it is.
     pub size: Size,
 }

@@ -24,7 +24,8 @@ use Rattle.ext_store_core.specs.InnerLooking.{LooksAt}
 -- ---- one event of several
 
 -- After its first events the lane makes this one, as one thread would there, with this answer.
-pub record HappensAfter (limits : Limits) (first : List (Act ℕ)) (before after : LaneView) (act : Act ℕ) (answer : Option ℕ) : Type 0 where
+pub record HappensAfter (limits : Limits) (first : List (Act ℕ)) (before after : LaneView) (act : Act ℕ)
+    (answer : Option ℕ) : Type 0 where
   pub at : History
   pub point : IsPointAfter before after first at
   pub made : IsPointAfter before after (first ++ act ∷ []) (at ++ by before.number act ∷ [])
@@ -40,12 +41,14 @@ pub record LooksFirst (cell_of : ℕ → ℕ) (path : List ℕ) (before after : 
   pub missing : look_after cell_of path at ≡ look.Absent
 
 -- The look-up from the context is absent at a point of the call, and after that the lane claims the context's cell.
-pub record Claims (limits : Limits) (store : ContextCells) (context : ℕ) (ancestors : List ℕ) (key : ℕ) (before after : LaneView) : Type 0 where
+pub record Claims (limits : Limits) (store : ContextCells) (context : ℕ) (ancestors : List ℕ) (key : ℕ)
+    (before after : LaneView) : Type 0 where
   pub looked_first : LooksFirst (cell_in store key) (context ∷ ancestors) before after
   pub claimed : HappensAfter limits [] before after (Claim (cell_in store key context)) None
 
 -- The lane claims the cell, and then, before its next event, the look-up along the ancestors gives this.
-pub record ClaimsAndLooks (limits : Limits) (store : ContextCells) (context : ℕ) (ancestors : List ℕ) (key : ℕ) (before after : LaneView) (look : Look) : Type 0 where
+pub record ClaimsAndLooks (limits : Limits) (store : ContextCells) (context : ℕ) (ancestors : List ℕ) (key : ℕ)
+    (before after : LaneView) (look : Look) : Type 0 where
   pub claims : Claims limits store context ancestors key before after
   pub looked : LooksAgain (cell_in store key) ancestors before after (Claim (cell_in store key context) ∷ []) look
 
@@ -58,7 +61,8 @@ given_up_events store context key = Claim (cell_in store key context) ∷ Abando
 unfoldable pub Meets : Limits → ContextCells → ℕ → List ℕ → ℕ → LaneView → LaneView → Look → Type 0
 Meets limits store context ancestors key before after met =
     HoldsAtPoint limits before after [] (λ p. look_after (cell_in store key) (context ∷ ancestors) p ≡ met)
-    ⊎ (Calls limits before after (given_up_events store context key) × ClaimsAndLooks limits store context ancestors key before after met)
+    ⊎ (Calls limits before after (given_up_events store context key)
+    × ClaimsAndLooks limits store context ancestors key before after met)
 
 -- At least `tries` events after the call's first front were on the key's cells on the path.
 abbrev pub IsCrowdedAlong : ContextCells → List ℕ → ℕ → LaneView → LaneView → Type 0
@@ -67,31 +71,38 @@ IsCrowdedAlong store path key before after = IsOvertakenOn store.tries (map (cel
 -- The claim would happen directly after what the lane has seen last, and at least `tries` events after the call's first
 -- front were on its cell.
 pub record ClaimComesLast (limits : Limits) (tries cell : ℕ) (before after : LaneView) : Type 0 where
-  pub would_happen : (answer : Option ℕ) × (reply_after limits (seen_by after) before.number (Claim cell) ≡ events.Happens answer)
+  pub would_happen : (answer : Option ℕ)
+      × (reply_after limits (seen_by after) before.number (Claim cell) ≡ events.Happens answer)
   pub own_cell : version_of (first_front before after) cell + tries ≤ version_of (seen_by after) cell
 
 -- Other lanes were in the way of a call that made no event, and at one of two places: on the path, during the first
 -- look-up; or at the context's cell, after the first look-up was absent.
-pub record IsOvertakenThere (limits : Limits) (store : ContextCells) (context : ℕ) (ancestors : List ℕ) (key : ℕ) (before after : LaneView) : Type 0 where
+pub record IsOvertakenThere (limits : Limits) (store : ContextCells) (context : ℕ) (ancestors : List ℕ) (key : ℕ)
+    (before after : LaneView) : Type 0 where
   pub calls : Calls limits before after []
   pub passed : IsCrowded store.tries before after
   pub there :
       IsCrowdedAlong store (context ∷ ancestors) key before after
-      ⊎ (LooksFirst (cell_in store key) (context ∷ ancestors) before after × ClaimComesLast limits store.tries (cell_in store key context) before after)
+      ⊎ (LooksFirst (cell_in store key) (context ∷ ancestors) before after
+      × ClaimComesLast limits store.tries (cell_in store key context) before after)
 
 -- What each refusal means.
 unfoldable pub IsRefused : Limits → ContextCells → ℕ → List ℕ → ℕ → LaneView → LaneView → Refusal → Type 0
-IsRefused limits store context ancestors key before after (refusal.Busy at) = Meets limits store context ancestors key before after (look.Busy at)
-IsRefused limits store context ancestors key before after (refusal.Closed at) = Meets limits store context ancestors key before after (look.Closed at)
+IsRefused limits store context ancestors key before after (refusal.Busy at) =
+    Meets limits store context ancestors key before after (look.Busy at)
+IsRefused limits store context ancestors key before after (refusal.Closed at) =
+    Meets limits store context ancestors key before after (look.Closed at)
 IsRefused limits store context ancestors key before after refusal.Contended =
     IsOvertakenThere limits store context ancestors key before after
-    ⊎ (Calls limits before after (given_up_events store context key) × Claims limits store context ancestors key before after × IsCrowded store.tries before after
+    ⊎ (Calls limits before after (given_up_events store context key)
+    × Claims limits store context ancestors key before after × IsCrowded store.tries before after
     × IsCrowdedAlong store ancestors key before after)
 IsRefused limits store context ancestors key before after refusal.DirectoryFull = ⊥
 IsRefused limits store context ancestors key before after refusal.Unplaced = ⊥
 IsRefused limits store context ancestors key before after refusal.Memory = ⊥
 IsRefused limits store context ancestors key before after refusal.Exhausted =
-    HoldsAtPoint limits before after [] (λ p. reply_after limits p before.number (Claim (cell_in store key context)) ≡ events.Refuses events.Exhausted)
+    HoldsAtPoint limits before after []
+    (λ p. reply_after limits p before.number (Claim (cell_in store key context)) ≡ events.Refuses events.Exhausted)
     × LooksFirst (cell_in store key) (context ∷ ancestors) before after
 
 -- ---- the parts of a claim
@@ -110,10 +121,15 @@ unused_of (Err why) = Some (Refused why)
 abbrev pub Stands : ContextCells → List ℕ → ℕ → Lane → Lane → Option Unused → Type 0
 Stands store path key before after None = LooksAt store path key before after look.Absent
 Stands store path key before after (Some (Found at number)) = LooksAt store path key before after (look.Found at number)
-Stands store path key before after (Some (FaultStands at number)) = LooksAt store path key before after (look.Fault at number)
-Stands store path key before after (Some (Refused (refusal.Busy at))) = LooksAt store path key before after (look.Busy at)
-Stands store path key before after (Some (Refused (refusal.Closed at))) = LooksAt store path key before after (look.Closed at)
-Stands store path key before after (Some (Refused refusal.Contended)) = IsOvertaken before.cells.limits store.tries before.view after.view × IsCrowdedAlong store path key before.view after.view
+Stands store path key before after (Some (FaultStands at number)) =
+    LooksAt store path key before after (look.Fault at number)
+Stands store path key before after (Some (Refused (refusal.Busy at))) =
+    LooksAt store path key before after (look.Busy at)
+Stands store path key before after (Some (Refused (refusal.Closed at))) =
+    LooksAt store path key before after (look.Closed at)
+Stands store path key before after (Some (Refused refusal.Contended)) =
+    IsOvertaken before.cells.limits store.tries before.view after.view
+    × IsCrowdedAlong store path key before.view after.view
 Stands store path key before after (Some (Refused refusal.DirectoryFull)) = ⊥
 Stands store path key before after (Some (Refused refusal.Unplaced)) = ⊥
 Stands store path key before after (Some (Refused refusal.Memory)) = ⊥
@@ -125,10 +141,14 @@ ClaimsFrom store context ancestors key before after (Ok claim) =
     (claim ≡ cell_in store key context) × IsHeld after claim
     × Calls store.cells.limits before after (Claim (cell_in store key context) ∷ [])
     × ClaimsAndLooks store.cells.limits store context ancestors key before after look.Absent
-ClaimsFrom store context ancestors key before after (Err (Found at number)) = Meets store.cells.limits store context ancestors key before after (look.Found at number)
-ClaimsFrom store context ancestors key before after (Err (FaultStands at number)) = Meets store.cells.limits store context ancestors key before after (look.Fault at number)
-ClaimsFrom store context ancestors key before after (Err (Refused why)) = IsRefused store.cells.limits store context ancestors key before after why
+ClaimsFrom store context ancestors key before after (Err (Found at number)) =
+    Meets store.cells.limits store context ancestors key before after (look.Found at number)
+ClaimsFrom store context ancestors key before after (Err (FaultStands at number)) =
+    Meets store.cells.limits store context ancestors key before after (look.Fault at number)
+ClaimsFrom store context ancestors key before after (Err (Refused why)) =
+    IsRefused store.cells.limits store context ancestors key before after why
 
 -- The same for the path of the context.
 abbrev pub ClaimsMissing : ContextCells → ℕ → ℕ → LaneView → LaneView → Result ℕ Unused → Type 0
-ClaimsMissing store context key before after result = (ancestors : List ℕ) × IsPathOf store.tree context (context ∷ ancestors) × ClaimsFrom store context ancestors key before after result
+ClaimsMissing store context key before after result = (ancestors : List ℕ)
+    × IsPathOf store.tree context (context ∷ ancestors) × ClaimsFrom store context ancestors key before after result

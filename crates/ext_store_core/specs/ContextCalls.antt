@@ -48,7 +48,8 @@ cell_in store key context = context * length store.keys + key
 -- The result is the reply of one thread at a point of the call, and the lane's events are those that it means. Or it is
 -- `contended`, and at least `tries` events of other lanes came after the call's first front.
 abbrev pub Answers : {A : Type 0} → ContextCells → A → Lane → Lane → (A → List (Act ℕ)) → (History → A) → A → Type 0
-Answers store contended before after acts_of reply_at result = model.Answers before.cells.limits store.tries contended before.view after.view acts_of reply_at result
+Answers store contended before after acts_of reply_at result =
+    model.Answers before.cells.limits store.tries contended before.view after.view acts_of reply_at result
 
 -- The call made these events, and `Fact` holds at a history where it may be answered.
 abbrev pub HoldsAtPoint : Lane → Lane → List (Act ℕ) → (History → Type 0) → Type 0
@@ -73,7 +74,8 @@ look_acts result = []
 -- there.
 unfoldable pub Gets : ContextCells → ℕ → ℕ → Lane → Lane → Result Look Refusal → Type 0
 Gets store context key before after result =
-    (path : List ℕ) × IsPathOf store.tree context path × Answers store (Err Contended) before after look_acts (λ p. Ok (look_after (cell_in store key) path p)) result
+    (path : List ℕ) × IsPathOf store.tree context path
+    × Answers store (Err Contended) before after look_acts (λ p. Ok (look_after (cell_in store key) path p)) result
     × (result ≡ Err Contended → IsOvertakenOn store.tries (map (cell_in store key) path) before.view after.view)
 
 -- What a look-up may answer in a store that keeps no faults.
@@ -124,17 +126,21 @@ remove_acts cell (Err why) = []
 -- A remove takes what stands in the context itself, and answers it.
 unfoldable pub Removes : ContextCells → ℕ → ℕ → Lane → Lane → Result (Option ℕ) Refusal → Type 0
 Removes store context key before after result =
-    Answers store (Err Contended) before after (remove_acts (cell_in store key context)) (λ p. result_at context (reply_to before (Remove (cell_in store key context)) p)) result
+    Answers store (Err Contended) before after (remove_acts (cell_in store key context))
+    (λ p. result_at context (reply_to before (Remove (cell_in store key context)) p)) result
 
 -- ---- seals, for those who close a context
 
 -- The key's cell in the context is sealed, and the seal keeps this number, or none.
 abbrev pub SealsCell : ContextCells → ℕ → ℕ → Lane → Lane → Option ℕ → Type 0
-SealsCell store context key before after kept = model.Seals before.cells.limits (cell_in store key context) before.view after.view kept
+SealsCell store context key before after kept =
+    model.Seals before.cells.limits (cell_in store key context) before.view after.view kept
 
 -- At a point of the call a lane was computing a value for the context.
 abbrev pub IsBusyThere : ContextCells → ℕ → ℕ → Lane → Lane → Type 0
-IsBusyThere store context key before after = HoldsAtPoint before after [] (λ p. reply_to before (Seal (cell_in store key context)) p ≡ events.Refuses events.Busy)
+IsBusyThere store context key before after =
+    HoldsAtPoint before after []
+    (λ p. reply_to before (Seal (cell_in store key context)) p ≡ events.Refuses events.Busy)
 
 -- Other lanes overtook the call.
 abbrev pub IsInTheWay : ContextCells → Lane → Lane → Type 0

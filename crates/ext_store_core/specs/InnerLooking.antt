@@ -29,4 +29,5 @@ pub record LooksAt (store : ContextCells) (path : List ℕ) (key : ℕ) (before 
 abbrev pub Looks : ContextCells → List ℕ → ℕ → Lane → Lane → Result Look Refusal → Type 0
 Looks store path key before after (Ok look) = LooksAt store path key before after look
 Looks store path key before after (Err why) =
-    (why ≡ Contended) × model.IsOvertaken before.cells.limits store.tries before.view after.view × IsOvertakenOn store.tries (map (cell_in store key) path) before.view after.view
+    (why ≡ Contended) × model.IsOvertaken before.cells.limits store.tries before.view after.view
+    × IsOvertakenOn store.tries (map (cell_in store key) path) before.view after.view

@@ -3,3 +3,4 @@ pub mod InnerLooking
 pub mod InnerRefusals
 pub mod Claiming
 pub mod Waiting
+pub mod RefusalTexts

@@ -72,7 +72,8 @@ pub record VainAttempt (store : ContextCells) (context key : ℕ) (before after 
 -- `attempts` of these, one directly after the other, and nothing else.
 abbrev pub VainAttempts : ContextCells → ℕ → ℕ → ℕ → LaneView → LaneView → Type 0
 VainAttempts store context key zero before after = after ≡ before
-VainAttempts store context key (suc attempts) before after = (between : LaneView) × VainAttempts store context key attempts before between × VainAttempt store context key between after
+VainAttempts store context key (suc attempts) before after = (between : LaneView)
+    × VainAttempts store context key attempts before between × VainAttempt store context key between after
 
 -- The call first made some attempts in vain, and `Then` is said of the lane as it was after them.
 pub record Waits (store : ContextCells) (context key : ℕ) (before : LaneView) (Then : LaneView → Type 0) : Type 0 where
@@ -84,4 +85,5 @@ pub record Waits (store : ContextCells) (context key : ℕ) (before : LaneView) 
 -- Before its last attempt the lane may have claimed the context's cell and given it up several times. The last attempt
 -- is the claim of a missing value.
 abbrev pub ClaimsAfterWaits : ContextCells → ℕ → ℕ → LaneView → LaneView → Result ℕ Unused → Type 0
-ClaimsAfterWaits store context key before after result = Waits store context key before (λ between. ClaimsMissing store context key between after result)
+ClaimsAfterWaits store context key before after result =
+    Waits store context key before (λ between. ClaimsMissing store context key between after result)

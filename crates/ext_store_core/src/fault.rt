@@ -5,6 +5,7 @@ ghost use Rattle.ext_store_core.specs.Waiting.{IsDecided};
 
 use ext_cells::CellRefusal;
 use ext_model::ContextNo;
+use std::fmt;
 use thiserror::Error;
 
 /// Why a call of a store is refused. A call by a key is refused for the key, as `DirectoryFull` or
@@ -15,31 +16,43 @@ use thiserror::Error;
 #[derive(Clone, Copy, Debug, PartialEq, Eq, Error)]
 pub enum Refusal {
     /// A lane computes a value for this context, which decides the answer.
-    #[error("busy at context {0}")]
     Busy(ContextNo),
     /// This context, which decides the answer, is closed.
-    #[error("context {0} is closed")]
     Closed(ContextNo),
     /// Other lanes were in the way: they made at least as many events as a call has tries. For a
     /// put, a remove, a seal and a claim these are events on its own cell; for a look-up, on the
     /// key's cells along the path.
-    #[error("contended")]
     Contended,
     /// There were too many events in this context under this key: more than 2^40 - 3 for a put or a
     /// remove, and more than 2^40 - 4 for the claim of a compute, which leaves one for its end.
-    #[error("exhausted")]
     Exhausted,
     /// The key has no number and never gets one: all 64 places hold other keys.
-    #[error("directory full")]
     DirectoryFull,
     /// A place neither took a copy of the key nor showed one. It is proved of `KeyPlaces::number`
     /// that this does not happen.
-    #[error("unplaced")]
     Unplaced,
     /// The key is new to the lane, and there was no memory for a copy of it. A later call may give
     /// the key a number.
-    #[error("no memory")]
     Memory,
+}
+
+impl fmt::Display for Refusal {
+    ghost use Rattle.std.specs.Prelude.{Some};
+    ghost use Rattle.ext_store_core.specs.RefusalTexts.{refusal_text};
+
+    ghost output = { λ why. Some (refusal_text why) };
+
+    fn fmt<W: fmt::Write>(&self, f: &mut fmt::Formatter<W>) -> fmt::Result {
+        match self {
+            Refusal::Busy(at) => write!(f, "busy at context {at}"),
+            Refusal::Closed(at) => write!(f, "context {at} is closed"),
+            Refusal::Contended => f.write_str("contended"),
+            Refusal::Exhausted => f.write_str("exhausted"),
+            Refusal::DirectoryFull => f.write_str("directory full"),
+            Refusal::Unplaced => f.write_str("unplaced"),
+            Refusal::Memory => f.write_str("no memory"),
+        }
+    }
 }
 
 impl Refusal {

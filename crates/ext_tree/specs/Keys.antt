@@ -54,8 +54,7 @@ HasNumber keys key number = slice_get keys number ≡ Some key
 
 -- ---- places for keys
 
--- What a lane knows of one place: the place's name, the key that it holds, if known, and whether this lane put the key
--- there.
+-- What a lane knows of one place: its name, the key that it holds, if known, and whether this lane put it there.
 pub record KnownPlace : Type 0 where
   pub place : ℕ
   pub key : Option KeyValue
@@ -123,7 +122,8 @@ placed_at notes number = (slice_index_or notes number (unknown_place 0)).placed
 
 -- Any place that the lane set has this key, and is the one with the key's number: so it set at most one.
 abbrev pub PlacesOnly : KeyValue → List KnownPlace → List KnownPlace → Type 0
-PlacesOnly key before after = (number : ℕ) → (placed_at after number ≡ placed_at before number) ⊎ IsKeyNumber after key number
+PlacesOnly key before after = (number : ℕ) → (placed_at after number ≡ placed_at before number)
+    ⊎ IsKeyNumber after key number
 
 -- The lane put no key at any place.
 abbrev pub PlacesNone : List KnownPlace → List KnownPlace → Type 0
@@ -131,11 +131,13 @@ PlacesNone before after = (number : ℕ) → placed_at after number ≡ placed_a
 
 -- A key that both lists know has one number in both.
 abbrev pub OneNumber : List KnownPlace → List KnownPlace → Type 0
-OneNumber notes others = (key : KeyValue) (number second : ℕ) → IsKeyNumber notes key number → IsKeyNumber others key second → number ≡ second
+OneNumber notes others = (key : KeyValue) (number second : ℕ) → IsKeyNumber notes key number
+    → IsKeyNumber others key second → number ≡ second
 
 -- A number that both lists know has one key in both.
 abbrev pub OneKey : List KnownPlace → List KnownPlace → Type 0
-OneKey notes others = (number : ℕ) (key other : KeyValue) → key_at notes number ≡ Some key → key_at others number ≡ Some other → key ≡ other
+OneKey notes others = (number : ℕ) (key other : KeyValue) → key_at notes number ≡ Some key
+    → key_at others number ≡ Some other → key ≡ other
 
 -- ---- for private functions
 
@@ -146,4 +148,5 @@ Tells held key false = (other : KeyValue) × (held ≡ Some other) × (other ≢
 
 -- Below this number the two lists never know different keys for one place.
 abbrev pub AgreeBelow : List KnownPlace → List KnownPlace → ℕ → Type 0
-AgreeBelow notes others count = (number : ℕ) → number < count → (key other : KeyValue) → key_at notes number ≡ Some key → key_at others number ≡ Some other → key ≡ other
+AgreeBelow notes others count = (number : ℕ) → number < count → (key other : KeyValue) → key_at notes number ≡ Some key
+    → key_at others number ≡ Some other → key ≡ other

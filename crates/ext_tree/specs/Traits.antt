@@ -16,7 +16,8 @@ abbrev pub namespace_eq : NamespaceValue → NamespaceValue → Bool
 namespace_eq m n = beq m.created n.created && pointwise bytes_eq m.parts n.parts
 
 abbrev pub namespace_eq_equiv : IsEquivalence namespace_eq
-namespace_eq_equiv = and_equiv (on_equiv (λ n. n.created) bool_eq_equiv) (on_equiv (λ n. n.parts) (lists_equiv nat_list_eq_equiv))
+namespace_eq_equiv = and_equiv (on_equiv (λ n. n.created) bool_eq_equiv)
+    (on_equiv (λ n. n.parts) (lists_equiv nat_list_eq_equiv))
 
 abbrev pub namespace_input : NamespaceValue → HashWrites
 namespace_input n = fed.bool n.created ++ fed.slice fed.str n.parts
@@ -25,7 +26,8 @@ pub texts_Alike : Alike bytes_eq fed.str
 texts_Alike = same_Alike fed.str bytes_decides
 
 pub namespaces_Alike : Alike namespace_eq namespace_input
-namespaces_Alike = and-Alike (on_Alike (λ n. n.created) (same_Alike fed.bool booleans_Decides)) (on_Alike (λ n. n.parts) (items_Alike texts_Alike))
+namespaces_Alike = and-Alike (on_Alike (λ n. n.created) (same_Alike fed.bool booleans_Decides))
+    (on_Alike (λ n. n.parts) (items_Alike texts_Alike))
 
 abbrev pub key_eq : KeyValue → KeyValue → Bool
 key_eq j k = namespace_eq j.namespace k.namespace && bytes_eq j.name k.name

@@ -36,7 +36,8 @@ pub record MayFollow (ids : List Id) (k : ℕ) : Type 0 where
 pub data IsWrong (ids : List Id) (k : ℕ) : TreeFault → Type 0 where
   twice : StandsBefore ids k → IsWrong ids k (faults.Twice k)
   second_root : ¬ StandsBefore ids k → length (id_at ids k) ≡ 1 → IsWrong ids k (faults.TwoRoots k)
-  without_parent : ¬ StandsBefore ids k → length (id_at ids k) ≢ 1 → ¬ HasParentBefore ids k → IsWrong ids k (faults.NoParent k)
+  without_parent : ¬ StandsBefore ids k → length (id_at ids k) ≢ 1 → ¬ HasParentBefore ids k
+      → IsWrong ids k (faults.NoParent k)
 
 -- There are 1 to 65,536 ids, and the first is a root.
 pub record HasRoot (ids : List Id) : Type 0 where
@@ -63,7 +64,8 @@ pub data HasFault (most : ℕ) (ids : List Id) : TreeFault → Type 0 where
   none_at_all : length ids ≡ 0 → HasFault most ids faults.NoRoot
   too_many : most < length ids → HasFault most ids faults.TooMany
   no_root : 0 < length ids → length ids ≤ most → length (id_at ids 0) ≢ 1 → HasFault most ids faults.NoRoot
-  later : HasRoot ids → length ids ≤ most → (k : ℕ) (what : TreeFault) → 0 < k → k < length ids → FollowBelow ids k → IsWrong ids k what
+  later : HasRoot ids → length ids ≤ most → (k : ℕ) (what : TreeFault) → 0 < k → k < length ids → FollowBelow ids k
+      → IsWrong ids k what
       → HasFault most ids what
 
 -- ---- paths and children
@@ -88,7 +90,8 @@ IsPathOf ids context (first ∷ walk) = (first ≡ context) × IsWalk ids contex
 abbrev pub children_below : List Id → ℕ → ℕ → List ℕ
 children_below ids context zero = []
 children_below ids context (suc n) =
-    if is_parent (id_at ids context) (id_at ids n) then children_below ids context n ++ n ∷ [] else children_below ids context n
+    if is_parent (id_at ids context) (id_at ids n) then children_below ids context n ++ n ∷ []
+    else children_below ids context n
 
 -- The context's children, in order.
 abbrev pub children_of : List Id → ℕ → List ℕ

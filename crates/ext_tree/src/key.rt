@@ -82,6 +82,8 @@ impl PartialEq for Key {
     ghost laws = { partial_equiv_from_equiv key_eq_equiv };
 
     /// Tests whether both the namespaces and the names are equal.
+    // Each look-up by a key makes one such test.
+    #[inline(always)]
     fn eq(&self, other: &Key) -> bool
         ensures exact { result ≡ key_eq self.now other.now }
         ensures same { IsTrue result ↔ (self.now ≡ other.now) }

@@ -33,6 +33,35 @@ impl KeyIndex {
         Ok(KeyIndex { hints, next: 0 })
     }
 
+    /// The number of the key, if the search finds it at its first slot, as it mostly does.
+    #[inline(always)]
+    pub fn first(
+        &self,
+        places: &[OnceBox<Key>],
+        entries: &mut [KeyEntry],
+        key: &Key,
+    ) -> Option<KeyNo>
+        requires places { AreKeyNotesOf (map cell_name places.now) entries.old }
+        requires notes { AreNotes entries.old self.now.hints.items self.now.next }
+        ensures number { IfSome result (IsKeyNumber entries.old key.now) }
+        ensures unchanged { entries.new ≡ entries.old }
+    {
+        let first = key.short_hash();
+        let slots = self.hints.len();
+        if slots == 0 {
+            return None;
+        }
+        let hint = self.hints[first % slots];
+        if hint == 0 {
+            return None;
+        }
+        let number = hint as usize - 1;
+        if known_key(places, entries, number) == key {
+            return Some(number);
+        }
+        None
+    }
+
     /// The number of the key, if the search finds it. Else the free slot where the search ended, if
     /// there is one.
     pub fn search(

@@ -98,6 +98,27 @@ impl KeyPlaces {
         ensures placed { PlacesOnly key.now notes.old notes.new }
         ensures of { AreKeyNotesOf self.now notes.new }
     {
+        let entries = notes.entries.as_mut_slice();
+        match notes.index.first(self.places.as_slice(), entries, key) {
+            Some(number) => Ok(number),
+            None => self.searched(notes, key),
+        }
+    }
+
+    // The same where the first slot of the index doesn't have the key. A function of its own, so
+    // that the call costs less where it does.
+    #[cold]
+    #[inline(never)]
+    fn searched(&self, notes: &mut KeyNotes, key: &Key) -> Result<KeyNo, KeyFault>
+        requires { AreKeyNotesOf self.now notes.old }
+        ensures number { IfOk result (IsKeyNumber notes.new key.now) }
+        ensures within { IfOk result (λ number. number < length self.now) }
+        ensures again { (number : ℕ) → IsKeyNumber notes.old key.now number → result ≡ Ok number }
+        ensures refused { IfErr result (IsKeyFault notes.new key.now) }
+        ensures kept { KeepsKeys notes.old notes.new }
+        ensures placed { PlacesOnly key.now notes.old notes.new }
+        ensures of { AreKeyNotesOf self.now notes.new }
+    {
         number_of(
             self.alloc,
             self.places.as_slice(),

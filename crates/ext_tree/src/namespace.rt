@@ -154,7 +154,8 @@ fn push_all(alloc: Global, list: &mut Vec<Text>, parts: &[&str]) -> Result<(), A
 }
 
 // Whether these are the same parts, in order. Usually there are none or one, for which an index is
-// faster than an iterator.
+// faster than an iterator, and a call costs more than the test.
+#[inline(always)]
 fn same_parts(parts: &[Text], others: &[Text]) -> bool
     ensures { result ≡ pointwise bytes_eq parts.now others.now }
 {

@@ -40,8 +40,10 @@ LearnsOne {V} before after number = (value : V) × Learns before after number va
 
 -- What was known before is known afterwards.
 abbrev pub KeepsKnown : {V : Type 0} → List (Known V) → List (Known V) → Type 0
-KeepsKnown {V} before after = (number : ℕ) (value : V) → known_at before number ≡ Some value → known_at after number ≡ Some value
+KeepsKnown {V} before after = (number : ℕ) (value : V) → known_at before number ≡ Some value
+    → known_at after number ≡ Some value
 
 -- A number that both lists know has one value in both.
 abbrev pub AllAgree : {V : Type 0} → List (Known V) → List (Known V) → Type 0
-AllAgree {V} notes others = (number : ℕ) (value second : V) → known_at notes number ≡ Some value → known_at others number ≡ Some second → value ≡ second
+AllAgree {V} notes others = (number : ℕ) (value second : V) → known_at notes number ≡ Some value
+    → known_at others number ≡ Some second → value ≡ second

@@ -10,12 +10,15 @@ pub record NothingIsKnown (V : Type 0) : Type 0 where
 
 -- A number whose value is known has one of the places.
 abbrev pub KnownNumbersAreNumbers : Type 0 → Type 0
-KnownNumbersAreNumbers V = (notes : List (Known V)) (number : ℕ) (value : V) → known_at notes number ≡ Some value → IsNumber (places_of notes) number
+KnownNumbersAreNumbers V = (notes : List (Known V)) (number : ℕ) (value : V) → known_at notes number ≡ Some value
+    → IsNumber (places_of notes) number
 
 -- Notes are determined by their places and by what is known of each number.
 abbrev pub NotesTell : Type 0 → Type 0
-NotesTell V = (notes second : List (Known V)) → places_of notes ≡ places_of second → ((number : ℕ) → known_at notes number ≡ known_at second number) → notes ≡ second
+NotesTell V = (notes second : List (Known V)) → places_of notes ≡ places_of second
+    → ((number : ℕ) → known_at notes number ≡ known_at second number) → notes ≡ second
 
 -- What is known after a value was learnt is determined by what was known before.
 abbrev pub LearningTells : Type 0 → Type 0
-LearningTells V = (before after second : List (Known V)) (number : ℕ) (value : V) → Learns before after number value → Learns before second number value → after ≡ second
+LearningTells V = (before after second : List (Known V)) (number : ℕ) (value : V) → Learns before after number value
+    → Learns before second number value → after ≡ second

@@ -4,7 +4,7 @@
 use Rattle.std.specs.Prelude.{◌≡◌, ◌≢◌, ◌⊎◌, codes, List, [], ◌∷◌, map, Some, pos, true, false}
 use Rattle.clap.specs.Words.{App, Rule, Shape, Text, new_app, new_rule, subcommand_of, takes}
 use Rattle.std.specs.Borrow.{Bor}
-use Rattle.clap.specs.declared.builder.action.ArgAction.TheVariants.{Set, SetTrue}
+use Rattle.clap.specs.declared.builder.action.ArgAction.TheVariants.{Append, Set, SetTrue}
 use Rattle.clap.specs.declared.builder.value_parser.ValueParser.{ValueParser}
 use Rattle.clap.specs.declared.builder.value_parser.ValueParser.TheVariants as values
 use Rattle.extrun.specs.CommandWords.{AsksFor}
@@ -33,12 +33,17 @@ option name value default = record (new_rule name) {
 
 -- A value that is one of these texts.
 abbrev pub IsOneOf : ValueParser → List Text → Type 0
-IsOneOf value names = (given : Bor (List (Bor Text))) × (value ≡ values.Names given) × (map (λ name. name.now) given.now ≡ names)
+IsOneOf value names = (given : Bor (List (Bor Text))) × (value ≡ values.Names given)
+    × (map (λ name. name.now) given.now ≡ names)
 
 -- ---- the commands
 
 abbrev pub plan_file : Rule
 plan_file = word (codes "FILE")
+
+-- The texts of `id`.
+abbrev pub id_texts : Rule
+id_texts = record (word (codes "TEXT")) { action = Some Append; required = true }
 
 abbrev pub lanes : Rule
 lanes = option (codes "lanes") (values.Signed (pos 1) (pos 16)) (codes "4")
@@ -54,7 +59,8 @@ command name rules = record (new_app name).top { rules = rules }
 -- `run`, with these values for the store and for the form of the report.
 abbrev pub run_of : ValueParser → ValueParser → Shape
 run_of store form = command (codes "run")
-    (plan_file ∷ lanes ∷ option (codes "store") store (codes "cells") ∷ option (codes "report") form (codes "text") ∷ tree
+    (plan_file ∷ lanes ∷ option (codes "store") store (codes "cells") ∷ option (codes "report") form (codes "text")
+    ∷ tree
     ∷ flag (codes "progress") ∷ flag (codes "failures") ∷ flag (codes "large") ∷ flag (codes "explain") ∷ [])
 
 -- The shape of `run`: its stores are `plain` and `cells`, its forms `text`, `json` and `junit`.
@@ -70,7 +76,7 @@ check = command (codes "check")
     (plan_file ∷ flag (codes "tree") ∷ flag (codes "races") ∷ flag (codes "large") ∷ flag (codes "explain") ∷ [])
 
 abbrev pub id : Shape
-id = command (codes "id") (record (word (codes "TEXT")) { required = true } ∷ flag (codes "explain") ∷ [])
+id = command (codes "id") (id_texts ∷ flag (codes "make") ∷ flag (codes "explain") ∷ [])
 
 -- The program itself, which has a version.
 abbrev pub program : Shape
@@ -88,14 +94,15 @@ pub record IsCommandLine (line : App) : Type 0 where
 abbrev pub AsksNothing : Request → Type 0
 AsksNothing (requests.Plan _ _ _) = ⊥
 AsksNothing (requests.Id _ _) = ⊥
+AsksNothing (requests.MakeId _) = ⊥
 AsksNothing requests.Help = Unit {0}
 AsksNothing requests.Refused = Unit {0}
 AsksNothing requests.Unwritten = Unit {0}
 AsksNothing requests.Memory = ⊥
 
 -- What these words ask for, of which the first is the program's own name. The parser makes a command of them, and the
--- request is what that command asks for. Nothing is left to do only for words that the parser does not take; `takes`
--- decides that for each command except `run`.
+-- request is what that command asks for. Otherwise nothing is left to do, only for words that the parser does not take;
+-- `takes` decides that for each command except `run`.
 pub record AsksBy (words : List Text) (request : Request) : Type 0 where
   pub line : App
   pub line_is : IsCommandLine line

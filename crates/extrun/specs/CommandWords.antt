@@ -1,8 +1,8 @@
 -- What the words of a command line ask for, by the rows that clap found: the texts under the name of each option. Texts
 -- are lists of bytes.
-use Rattle.std.specs.Prelude.{◌≡◌, ◌≢◌, ◌↔◌, ◌<◌, ℕ, Bool, true, false, codes, List, [], Option, Some, None, IsTrue, if◌then◌else◌, option_map, string_bytes, unwrap_or}
+use Rattle.std.specs.Prelude.{◌≡◌, ◌≢◌, ◌↔◌, ◌<◌, ◌&&◌, ℕ, Bool, true, false, codes, List, [], ◌∷◌, map, Option, Some, None, IsTrue, if◌then◌else◌, option_map, string_bytes, unwrap_or}
 use Rattle.std.specs.Str.Parse.{IsNumeral, digits_value, without_leading_plus}
-use Rattle.clap.specs.Walk.{Row, first_of, one_of}
+use Rattle.clap.specs.Walk.{Row, Text, all_of, first_of, one_of}
 use Rattle.ext_model.specs.declared.size.Size.{Size}
 use Rattle.ext_model.specs.declared.size.Size.TheVariants as sizes
 use Rattle.ext_report.specs.declared.form.ReportForm.{ReportForm}
@@ -16,7 +16,8 @@ use Rattle.extrun.specs.declared.command.Task.TheVariants as tasks
 -- The number that the text after `--lanes` spells, or 4 if there is none.
 pub record IsLaneCount (text : Option (List ℕ)) (lanes : ℕ) : Type 0 where
   pub none : text ≡ None → lanes ≡ 4
-  pub value : (t : List ℕ) → text ≡ Some t → IsNumeral 10 (without_leading_plus t) → digits_value 10 (without_leading_plus t) < 256 → lanes ≡ digits_value 10 (without_leading_plus t)
+  pub value : (t : List ℕ) → text ≡ Some t → IsNumeral 10 (without_leading_plus t)
+      → digits_value 10 (without_leading_plus t) < 256 → lanes ≡ digits_value 10 (without_leading_plus t)
 
 -- A flag, which is set if its text is `true`.
 pub record IsFlag (text : Option (List ℕ)) (flag : Bool) : Type 0 where
@@ -25,7 +26,8 @@ pub record IsFlag (text : Option (List ℕ)) (flag : Bool) : Type 0 where
   pub unset : text ≡ Some (codes "false") → flag ≡ false
 
 abbrev pub form_of : Bool → Bool → Bool → ReportForm
-form_of tree json junit = if tree then forms.Tree else if json then forms.Json else if junit then forms.Junit else forms.Text
+form_of tree json junit = if tree then forms.Tree else if json then forms.Json else if junit then forms.Junit
+    else forms.Text
 
 -- The form of the report: a tree if `--tree` is set, otherwise JSON or JUnit's XML if the text after `--report` is
 -- `json` or `junit`, otherwise text.
@@ -63,45 +65,95 @@ AsksRun rows (tasks.Check size) = ⊥
 AsksRun rows (tasks.Draw size) = ⊥
 AsksRun rows (tasks.CheckRaces size) = ⊥
 
--- What `check` does by two of its flags: list the races of a plan of this size, draw it, or check it.
-abbrev pub check_as : Bool → Bool → Size → Task
-check_as races tree size = if races then tasks.CheckRaces size else if tree then tasks.Draw size else tasks.Check size
+-- What `check` does by two of its flags: list the races of a plan of this size, draw it, or check it. The two flags
+-- exclude each other.
+abbrev pub check_as : Bool → Bool → Size → Option Task
+check_as races tree size =
+    if races && tree then None
+    else if races then Some (tasks.CheckRaces size)
+    else if tree then Some (tasks.Draw size)
+    else Some (tasks.Check size)
 
--- To list the plan's races if `--races` is set, otherwise to draw it if `--tree` is set, otherwise to check it.
-pub record AsksCheck (rows : List Row) (task : Task) : Type 0 where
+-- To do such a task with the plan of the named file, or of standard input, explained or not.
+abbrev pub AsksOfPlan : List Row → (Task → Type 0) → Request → Type 0
+AsksOfPlan rows asks (requests.Plan task file explain) =
+    asks task × (option_map string_bytes file ≡ first_of (codes "FILE") rows)
+    × IsFlag (one_of (codes "explain") rows) explain
+AsksOfPlan rows asks (requests.Id text explain) = ⊥
+AsksOfPlan rows asks (requests.MakeId parts) = ⊥
+AsksOfPlan rows asks requests.Help = ⊥
+AsksOfPlan rows asks requests.Refused = ⊥
+AsksOfPlan rows asks requests.Unwritten = ⊥
+AsksOfPlan rows asks requests.Memory = ⊥
+
+-- To do this task. Where there is none, the flags are a mistake, which is reported.
+abbrev pub AsksTask : List Row → Option Task → Request → Type 0
+AsksTask rows (Some task) request = AsksOfPlan rows (λ asked. asked ≡ task) request
+AsksTask rows None request = request ≡ requests.Refused
+
+-- To list the plan's races if `--races` is set, to draw it if `--tree` is set, and otherwise to check it.
+pub record AsksCheck (rows : List Row) (request : Request) : Type 0 where
   pub races : Bool
   pub tree : Bool
   pub size : Size
   pub told : IsFlag (one_of (codes "races") rows) races
   pub drawn : IsFlag (one_of (codes "tree") rows) tree
   pub asked : IsSize rows size
-  pub task_is : task ≡ check_as races tree size
+  pub asks : AsksTask rows (check_as races tree size) request
 
--- To do such a task with the plan of the named file, or of standard input, explained or not.
-abbrev pub AsksOfPlan : List Row → (Task → Type 0) → Request → Type 0
-AsksOfPlan rows asks (requests.Plan task file explain) = asks task × (option_map string_bytes file ≡ first_of (codes "FILE") rows) × IsFlag (one_of (codes "explain") rows) explain
-AsksOfPlan rows asks (requests.Id text explain) = ⊥
-AsksOfPlan rows asks requests.Help = ⊥
-AsksOfPlan rows asks requests.Refused = ⊥
-AsksOfPlan rows asks requests.Unwritten = ⊥
-AsksOfPlan rows asks requests.Memory = ⊥
+-- ---- ids
+
+-- The texts behind the word `id`.
+abbrev pub texts_of : List Row → List Text
+texts_of rows = unwrap_or (all_of (codes "TEXT") rows) []
 
 -- To read this id, explained or not.
-abbrev pub AsksId : List Row → Request → Type 0
-AsksId rows (requests.Plan task file explain) = ⊥
-AsksId rows (requests.Id text explain) = (string_bytes text ≡ unwrap_or (first_of (codes "TEXT") rows) []) × IsFlag (one_of (codes "explain") rows) explain
-AsksId rows requests.Help = ⊥
-AsksId rows requests.Refused = ⊥
-AsksId rows requests.Unwritten = ⊥
-AsksId rows requests.Memory = ⊥
+abbrev pub IsReadingOf : Text → Bool → Request → Type 0
+IsReadingOf text explain (requests.Plan _ _ _) = ⊥
+IsReadingOf text explain (requests.Id own explained) = (string_bytes own ≡ text) × (explained ≡ explain)
+IsReadingOf text explain (requests.MakeId _) = ⊥
+IsReadingOf text explain requests.Help = ⊥
+IsReadingOf text explain requests.Refused = ⊥
+IsReadingOf text explain requests.Unwritten = ⊥
+IsReadingOf text explain requests.Memory = ⊥
+
+-- To make the id of these parts.
+abbrev pub IsMakingOf : List Text → Request → Type 0
+IsMakingOf texts (requests.Plan _ _ _) = ⊥
+IsMakingOf texts (requests.Id _ _) = ⊥
+IsMakingOf texts (requests.MakeId parts) = map string_bytes parts.items ≡ texts
+IsMakingOf texts requests.Help = ⊥
+IsMakingOf texts requests.Refused = ⊥
+IsMakingOf texts requests.Unwritten = ⊥
+IsMakingOf texts requests.Memory = ⊥
+
+-- What these texts ask for, by `--make` and `--explain`. Without `--make` one is read, and several are a mistake, which
+-- is reported.
+abbrev pub AsksOfTexts : Bool → Bool → List Text → Request → Type 0
+AsksOfTexts true explain texts request = IsMakingOf texts request
+AsksOfTexts false explain [] request = request ≡ requests.Refused
+AsksOfTexts false explain (text ∷ []) request = IsReadingOf text explain request
+AsksOfTexts false explain (text ∷ second ∷ others) request = request ≡ requests.Refused
+
+-- To make an id of all texts if `--make` is set, and otherwise to read the one text, explained or not.
+pub record AsksId (rows : List Row) (request : Request) : Type 0 where
+  pub make : Bool
+  pub explain : Bool
+  pub making : IsFlag (one_of (codes "make") rows) make
+  pub explained : IsFlag (one_of (codes "explain") rows) explain
+  pub asks : AsksOfTexts make explain (texts_of rows) request
+
+-- ---- the commands
 
 -- What a command with this name asks for.
 pub record AsksCommand (name : List ℕ) (rows : List Row) (request : Request) : Type 0 where
   pub id : name ≡ codes "id" → AsksId rows request
-  pub check : name ≡ codes "check" → AsksOfPlan rows (AsksCheck rows) request
+  pub check : name ≡ codes "check" → AsksCheck rows request
   pub run : name ≢ codes "id" → name ≢ codes "check" → AsksOfPlan rows (AsksRun rows) request
 
 -- Without a command: a run on four lanes, over the store for several threads, of a plan of usual size.
 abbrev pub AsksFor : Option (List ℕ × List Row) → Request → Type 0
-AsksFor None request = request ≡ requests.Plan (tasks.Run (record { lanes = 4; plain = false; form = forms.Text; size = sizes.Usual }) false false) None false
+AsksFor None request =
+    request ≡ requests.Plan
+    (tasks.Run (record { lanes = 4; plain = false; form = forms.Text; size = sizes.Usual }) false false) None false
 AsksFor (Some command) request = AsksCommand command.0 command.1 request

@@ -17,16 +17,20 @@ pub record AsksLanes (options : Options) : Type 0 where
 -- The plan of this input was run with exactly these options, and its report written.
 abbrev pub IsReported : Options → List ℕ → Summary → (List ℕ → Type 0) → Type 0
 IsReported options input summary Written =
-    (report : List ℕ) × Reports options (plan_of_input options.size input) (record { report = report; failed = summary.failed; lacked = summary.lacked }) × Written report
+    (report : List ℕ) × Reports options (plan_of_input options.size input)
+    (record { report = report; failed = summary.failed; lacked = summary.lacked }) × Written report
 
 -- The task was done with the plan of this input. What was written is the report of a run with exactly these options,
 -- the line of the plan's counts, its drawing, or its races; then the summary says whether there is one.
 abbrev pub IsDone : Task → List ℕ → Summary → (List ℕ → Type 0) → Type 0
 IsDone (tasks.Run options progress failures) input summary Written =
     AsksLanes options → IsReported options input summary Written
-IsDone (tasks.Check size) input summary Written = (line : List ℕ) × IsCountsOf (plan_of_input size input) line × Written line
-IsDone (tasks.Draw size) input summary Written = (text : List ℕ) × IsTextOf drawing_of (plan_of_input size input) text × Written text
-IsDone (tasks.CheckRaces size) input summary Written = (text : List ℕ) × IsRacesOf (plan_of_input size input) text summary.failed × Written text
+IsDone (tasks.Check size) input summary Written = (line : List ℕ) × IsCountsOf (plan_of_input size input) line
+    × Written line
+IsDone (tasks.Draw size) input summary Written = (text : List ℕ) × IsTextOf drawing_of (plan_of_input size input) text
+    × Written text
+IsDone (tasks.CheckRaces size) input summary Written = (text : List ℕ)
+    × IsRacesOf (plan_of_input size input) text summary.failed × Written text
 
 -- Why a run with exactly these options has no report. An input that is too long, a refused plan and a refused run are
 -- reported as such, and nothing else is.

@@ -1,19 +1,22 @@
 //! The command line, over clap.
-ghost use Rattle.std.specs.Prelude.{◌≡◌, ◌↔◌, codes, List, [], ◌∷◌, map, true, false, option_map, string_bytes, Some, Ok, IfOk, IsTrue};
+ghost use Rattle.std.specs.Prelude.{◌≡◌, ◌↔◌, codes, List, map, true, false, option_map, string_bytes, Some, Ok, IfOk, IsTrue};
 ghost use Rattle.clap.specs.Matches.{found_of, first_value, one_text};
-ghost use Rattle.clap.specs.Words.{app_of, rule_of, shape_of, with_subcommand};
+ghost use Rattle.clap.specs.Words.{app_of, shape_of, with_subcommand};
 ghost use Rattle.clap.specs.declared.builder.command.Command.TheViews.{out-Command};
 ghost use Rattle.clap.specs.declared.builder.command.Command.{Command};
-ghost use Rattle.clap.specs.declared.builder.value_parser.ValueParser.{ValueParser};
 ghost use Rattle.clap.specs.Simple.{subcommand_rows_of};
 ghost use Rattle.clap.specs.Walk.{rows_of};
 ghost use Rattle.extrun.specs.CommandLine as line;
-ghost use Rattle.extrun.specs.CommandLine.{AsksBy, AsksNothing, IsCommandLine, IsOneOf, IsRun};
-ghost use Rattle.extrun.specs.CommandWords.{AsksCheck, AsksCommand, AsksFor, AsksId, AsksOfPlan, AsksRun, IsFlag, IsLaneCount, IsSize, check_as, form_of, size_of};
+ghost use Rattle.extrun.specs.CommandLine.{AsksBy, AsksNothing, IsCommandLine, IsRun};
+ghost use Rattle.extrun.specs.CommandWords.{AsksCheck, AsksCommand, AsksFor, AsksId, AsksOfPlan, AsksOfTexts, AsksRun, IsFlag, IsLaneCount, IsMakingOf, IsSize, check_as, form_of, size_of};
 
+use crate::args::{
+    draw_flag, explain_flag, explain_id_flag, failures_flag, id_texts, lanes_option, large_flag,
+    make_flag, plan_file, progress_flag, races_flag, report_option, report_tree_flag, store_option,
+};
 use crate::help::{AFTER_HELP, VERSION};
 use clap::error::ErrorKind;
-use clap::{Arg, ArgAction, ArgMatches, Command, Error, value_parser};
+use clap::{ArgMatches, Command, Error};
 use ext_run::{Options, ReportForm, Size};
 use std::alloc::{AllocError, Global};
 use std::io;
@@ -36,6 +39,10 @@ pub(crate) enum Request {
     Id {
         text: String,
         explain: bool,
+    },
+    /// Making the id of these parts, each `TYPE=VALUE`.
+    MakeId {
+        parts: Vec<String>,
     },
     /// Nothing: the help or the version was printed.
     Help,
@@ -79,29 +86,48 @@ impl Task {
 ///
 /// - `run`, with `--lanes` of 1 to 16, `--store plain` or `cells`, `--report text`, `json` or
 ///   `junit` or else `--tree`, `--progress` and `--failures`;
-/// - `check`, with `--races` or else `--tree`;
-/// - `id`, with `--explain`.
+/// - `check`, with `--races` or `--tree`;
+/// - `id`, with one text and `--explain`, or with `--make` and parts.
 ///
 /// `run` and `check` take a file, `--large` and `--explain`. No word at all is `run` on 4 lanes
-/// over the store for several threads, of a plan of usual size. Prints the help and the version to
-/// standard output, and what is wrong with a command line to standard error. Takes memory for the
-/// words and for clap.
-pub(crate) fn request_of<R: Env + AllocGlobal + Print + Eprint>(rt: &R) -> Request {
-    match parsed(rt) {
+/// over the store for several threads, of a plan of usual size. But where standard input is a
+/// terminal (`is_typed`), nobody waits for a plan there: the help is printed to standard error, and
+/// the command line is refused.
+///
+/// Prints the help and the version to standard output, and what is wrong with a command line to
+/// standard error. Takes memory for the words and for clap.
+pub(crate) fn request_of<R: Env + AllocGlobal + Print + Eprint>(rt: &R, is_typed: bool) -> Request {
+    match parsed(rt, is_typed) {
         Ok(request) => request,
         Err(AllocError) => Request::Memory,
     }
 }
 
 /// The request of the command line, or that memory was refused.
-fn parsed<R: Env + AllocGlobal + Print + Eprint>(rt: &R) -> Result<Request, AllocError> {
+fn parsed<R: Env + AllocGlobal + Print + Eprint>(
+    rt: &R,
+    is_typed: bool,
+) -> Result<Request, AllocError> {
     let words = match std::env::args(rt) {
         Ok(words) => words,
         Err(fault) if fault.kind() == io::ErrorKind::OutOfMemory => return Err(AllocError),
-        Err(_) => return Ok(no_text(rt)),
+        Err(_) => return Ok(mistake(rt, "a word of the command line is not UTF-8")),
     };
     let words: Vec<String> = words.collect(rt.alloc())?;
+    if is_typed && words.len() < 2 {
+        return help_unasked(rt);
+    }
     request_in(rt, words.as_slice())
+}
+
+/// Prints the help to standard error: without a word there is nothing to do.
+fn help_unasked<R: AllocGlobal + Eprint>(rt: &R) -> Result<Request, AllocError>
+    ensures { IfOk result (λ request. request ≡ Request.Refused) }
+{
+    let mut program = program(rt.alloc())?;
+    let help = program.render_help()?;
+    let _ = eprint!(rt; "{}", help.as_str());
+    Ok(Request::Refused)
 }
 
 /// The request of these words. The first is the program's own name.
@@ -112,18 +138,21 @@ fn request_in<R: AllocGlobal + Print + Eprint>(
     ensures { IfOk result (AsksBy (map string_bytes words.now)) }
 {
     match program(rt.alloc())?.try_get_matches_from(words) {
-        Ok(matches) => asked_for(rt.alloc(), &matches),
+        Ok(matches) => asked_for(rt, &matches),
         Err(fault) if fault.kind() == ErrorKind::OutOfMemory => Err(AllocError),
-        Err(fault) => Ok(refused(rt, &fault)),
+        Err(fault) => Ok(refused(rt, words, &fault)),
     }
 }
 
 /// The request of the words that clap took.
-fn asked_for(alloc: Global, matches: &ArgMatches<'_>) -> Result<Request, AllocError>
+fn asked_for<R: AllocGlobal + Eprint>(
+    rt: &R,
+    matches: &ArgMatches<'_>,
+) -> Result<Request, AllocError>
     ensures { IfOk result (AsksFor (subcommand_rows_of matches.now)) }
 {
     match matches.subcommand() {
-        Some((name, words)) => asked_by(alloc, name, words),
+        Some((name, words)) => asked_by(rt, name, words),
         None => Ok(Request::Plan {
             task: run_on(LANES, false, ReportForm::Text, Size::Usual, false, false),
             file: None,
@@ -133,52 +162,98 @@ fn asked_for(alloc: Global, matches: &ArgMatches<'_>) -> Result<Request, AllocEr
 }
 
 /// The request of the command with this name.
-fn asked_by(alloc: Global, name: &str, words: &ArgMatches<'_>) -> Result<Request, AllocError>
+fn asked_by<R: AllocGlobal + Eprint>(
+    rt: &R,
+    name: &str,
+    words: &ArgMatches<'_>,
+) -> Result<Request, AllocError>
     ensures { IfOk result (AsksCommand name.now (rows_of (found_of words.now))) }
 {
     if name == "id" {
-        return id_request(alloc, words);
+        return id_request(rt, words);
     }
     if name == "check" {
-        return plan_request(alloc, check_of(words), words);
+        return check_request(rt, words);
     }
-    plan_request(alloc, run_of(words), words)
+    plan_request(rt.alloc(), run_of(words), words)
 }
 
-/// The request to read an id.
-fn id_request(alloc: Global, words: &ArgMatches<'_>) -> Result<Request, AllocError>
+/// The request to read an id, or with `--make` to make one.
+fn id_request<R: AllocGlobal + Eprint>(
+    rt: &R,
+    words: &ArgMatches<'_>,
+) -> Result<Request, AllocError>
     ensures { IfOk result (AsksId (rows_of (found_of words.now))) }
 {
-    let text = words.get_str("TEXT").unwrap_or("");
-    Ok(Request::Id {
-        text: String::from_str(alloc, text)?,
-        explain: is_set(words, "explain"),
-    })
+    let texts = words.get_strs("TEXT").unwrap_or(&[]);
+    let make = is_set(words, "make");
+    let explain = is_set(words, "explain");
+    request_of_texts(rt, texts, make, explain)
 }
 
-/// The task of `check`: with `--races` to write the plan's races, else with `--tree` to draw it,
-/// else to count.
-fn check_of(words: &ArgMatches<'_>) -> Task
-    ensures { AsksCheck (rows_of (found_of words.now)) result }
+/// The request to make the id of these parts, or to read the only text.
+fn request_of_texts<R: AllocGlobal + Eprint>(
+    rt: &R,
+    texts: &[&str],
+    make: bool,
+    explain: bool,
+) -> Result<Request, AllocError>
+    ensures { IfOk result (AsksOfTexts make explain (map (λ text. text.now) texts.now)) }
 {
-    check_as(
-        is_set(words, "races"),
-        is_set(words, "tree"),
-        size_in(words),
-    )
+    if make {
+        return making_of(rt.alloc(), texts);
+    }
+    match texts {
+        [text] => Ok(Request::Id {
+            text: String::from_str(rt.alloc(), text)?,
+            explain,
+        }),
+        _ => Ok(mistake(rt, "one id is read; --make makes one of several parts")),
+    }
 }
 
-/// The task of `check` with these flags, for a plan of this size. `--races` precedes `--tree`.
-fn check_as(races: bool, tree: bool, size: Size) -> Task
+/// The request to make the id of these parts.
+fn making_of(alloc: Global, texts: &[&str]) -> Result<Request, AllocError>
+    ensures { IfOk result (IsMakingOf (map (λ text. text.now) texts.now)) }
+{
+    let mut parts = Vec::new(alloc);
+    for text in texts {
+        let part = String::from_str(alloc, text)?;
+        parts.push(part)?;
+    }
+    Ok(Request::MakeId { parts })
+}
+
+/// The request of `check`.
+fn check_request<R: AllocGlobal + Eprint>(
+    rt: &R,
+    words: &ArgMatches<'_>,
+) -> Result<Request, AllocError>
+    ensures { IfOk result (AsksCheck (rows_of (found_of words.now))) }
+{
+    let races = is_set(words, "races");
+    let tree = is_set(words, "tree");
+    match check_as(races, tree, size_in(words)) {
+        Some(task) => plan_request(rt.alloc(), task, words),
+        None => Ok(mistake(rt, "the argument '--tree' cannot be used with '--races'")),
+    }
+}
+
+/// The task of `check` for a plan of this size: with `--races` to write the plan's races, with
+/// `--tree` to draw it, else to count. The two flags exclude each other.
+fn check_as(races: bool, tree: bool, size: Size) -> Option<Task>
     ensures { result ≡ check_as races tree size }
 {
+    if races && tree {
+        return None;
+    }
     if races {
-        return Task::CheckRaces(size);
+        return Some(Task::CheckRaces(size));
     }
     if tree {
-        Task::Draw(size)
+        Some(Task::Draw(size))
     } else {
-        Task::Check(size)
+        Some(Task::Check(size))
     }
 }
 
@@ -303,24 +378,40 @@ fn file_of(alloc: Global, words: &ArgMatches<'_>) -> Result<Option<String>, Allo
     }
 }
 
-/// Reports that a word of the command line is not UTF-8: clap takes only text.
-fn no_text(rt: &impl Eprint) -> Request
+/// Prints a mistake that clap does not find.
+fn mistake(rt: &impl Eprint, text: &str) -> Request
     ensures { result ≡ Request.Refused }
 {
-    let _ = eprintln!(rt; "error: a word of the command line is not UTF-8");
+    let _ = eprintln!(rt; "error: {text}");
     Request::Refused
 }
 
 /// Prints the help, or what is wrong with the command line. If the latter cannot be printed,
 /// nothing more can be done.
-fn refused<R: Print + Eprint>(rt: &R, fault: &Error) -> Request
+fn refused<R: Print + Eprint>(rt: &R, words: &[String], fault: &Error) -> Request
     ensures { AsksNothing result }
 {
     let printed = fault.print(rt);
+    if fault.kind() == ErrorKind::InvalidSubcommand {
+        hint_at_run(rt, words);
+    }
     match fault.exit_code() {
         0 if printed.is_err() => Request::Unwritten,
         0 => Request::Help,
         _ => Request::Refused,
+    }
+}
+
+/// Says how the plan of a file is run, if the first word, which is no command, may be its name.
+fn hint_at_run(rt: &impl Eprint, words: &[String]) {
+    match words.get(1) {
+        Some(name) if name.as_str() != "help" => {
+            let _ = eprintln!(rt;
+                "\n  tip: 'extrun run {}' runs the plan of that file",
+                name.as_str()
+            );
+        }
+        _ => {}
     }
 }
 
@@ -384,164 +475,10 @@ fn id_command<'a>(alloc: Global) -> Result<Command<'a>, AllocError>
     ensures local { IfOk result (λ command. (out-Command command).has_globals ≡ false) }
 {
     Command::new(alloc, "id")
-        .about("Prints the segments of a unique id, decoded, and the id written again")
-        .arg(id_text(alloc))?
+        .about(
+            "Prints the segments of a unique id, decoded, and the id written again; or makes one",
+        )
+        .arg(id_texts(alloc))?
+        .arg(make_flag(alloc))?
         .arg(explain_id_flag(alloc))
-}
-
-/// The file argument of `run` and `check`.
-fn plan_file<'a>(alloc: Global) -> Arg<'a>
-    ensures rule { rule_of result ≡ line.plan_file }
-    ensures local { result.global ≡ false }
-{
-    Arg::new(alloc, "FILE")
-        .help("The file of the plan; without it the plan is read from standard input")
-        .action(ArgAction::Set)
-}
-
-fn lanes_option<'a>(alloc: Global) -> Arg<'a>
-    ensures rule { rule_of result ≡ line.lanes }
-    ensures local { result.global ≡ false }
-{
-    Arg::new(alloc, "lanes")
-        .long("lanes")
-        .value_name("N")
-        .help("How many lanes run the plan, 1 to 16, each at most by one thread")
-        .action(ArgAction::Set)
-        .value_parser(value_parser!(u8).range(1..17))
-        .default_value("4")
-}
-
-fn store_option<'a>(alloc: Global) -> Arg<'a>
-    ensures rule { (value : ValueParser) × IsOneOf value (codes "plain" ∷ codes "cells" ∷ [])
-        × (rule_of result ≡ line.option (codes "store") value (codes "cells")) }
-    ensures local { result.global ≡ false }
-{
-    Arg::new(alloc, "store")
-        .long("store")
-        .value_name("STORE")
-        .help(
-            "The store that the plan runs on: `cells` is for several threads; `plain` is for one, which then runs all",
-        )
-        .action(ArgAction::Set)
-        .value_parser(["plain", "cells"].as_slice())
-        .default_value("cells")
-}
-
-fn report_option<'a>(alloc: Global) -> Arg<'a>
-    ensures rule { (value : ValueParser) × IsOneOf value (codes "text" ∷ codes "json" ∷ codes "junit" ∷ [])
-        × (rule_of result ≡ line.option (codes "report") value (codes "text")) }
-    ensures local { result.global ≡ false }
-{
-    Arg::new(alloc, "report")
-        .long("report")
-        .value_name("FORM")
-        .help(
-            "How the report is written: `text` by lines, `json` as one object a node, by lines, `junit` as JUnit's XML",
-        )
-        .action(ArgAction::Set)
-        .value_parser(["text", "json", "junit"].as_slice())
-        .default_value("text")
-}
-
-/// The flag `--tree` of the command `run`.
-fn report_tree_flag<'a>(alloc: Global) -> Result<Arg<'a>, AllocError>
-    ensures rule { IfOk result (λ arg. rule_of arg ≡ line.tree) }
-    ensures local { IfOk result (λ arg. arg.global ≡ false) }
-{
-    Arg::new(alloc, "tree")
-        .long("tree")
-        .help("Writes the report as an indented tree of the nodes")
-        .action(ArgAction::SetTrue)
-        .conflicts_with("report")
-}
-
-/// The flag `--tree` of the command `check`.
-fn draw_flag<'a>(alloc: Global) -> Arg<'a>
-    ensures rule { rule_of result ≡ line.flag (codes "tree") }
-    ensures local { result.global ≡ false }
-{
-    Arg::new(alloc, "tree")
-        .long("tree")
-        .help("Draws the nodes as an indented tree, with their modes, locks and tests")
-        .action(ArgAction::SetTrue)
-}
-
-fn failures_flag<'a>(alloc: Global) -> Arg<'a>
-    ensures rule { rule_of result ≡ line.flag (codes "failures") }
-    ensures local { result.global ≡ false }
-{
-    Arg::new(alloc, "failures")
-        .long("failures")
-        .help(
-            "Says all faults of the nodes that failed or were aborted once more at the end, on standard error",
-        )
-        .action(ArgAction::SetTrue)
-}
-
-fn progress_flag<'a>(alloc: Global) -> Arg<'a>
-    ensures rule { rule_of result ≡ line.flag (codes "progress") }
-    ensures local { result.global ≡ false }
-{
-    Arg::new(alloc, "progress")
-        .long("progress")
-        .help(
-            "Says on standard error how many nodes have ended and which run, at most once a second",
-        )
-        .action(ArgAction::SetTrue)
-}
-
-fn races_flag<'a>(alloc: Global) -> Arg<'a>
-    ensures rule { rule_of result ≡ line.flag (codes "races") }
-    ensures local { result.global ≡ false }
-{
-    Arg::new(alloc, "races")
-        .long("races")
-        .help("Says instead which nodes may get into each other's way, where they run at once")
-        .action(ArgAction::SetTrue)
-}
-
-/// The flag `--large` of `run` and `check`.
-fn large_flag<'a>(alloc: Global) -> Arg<'a>
-    ensures rule { rule_of result ≡ line.flag (codes "large") }
-    ensures local { result.global ≡ false }
-{
-    Arg::new(alloc, "large")
-        .long("large")
-        .help(
-            "Takes a plan of up to 65,536 nodes and 64 MiB, whose run keeps up to 1,048,575 values; without it 256 nodes, 1 MiB and 65,535",
-        )
-        .action(ArgAction::SetTrue)
-}
-
-fn explain_flag<'a>(alloc: Global) -> Arg<'a>
-    ensures rule { rule_of result ≡ line.flag (codes "explain") }
-    ensures local { result.global ≡ false }
-{
-    Arg::new(alloc, "explain")
-        .long("explain")
-        .help("Says in a second line on standard error what is meant, where the plan is refused")
-        .action(ArgAction::SetTrue)
-}
-
-/// The flag `--explain` of the command `id`.
-fn explain_id_flag<'a>(alloc: Global) -> Arg<'a>
-    ensures rule { rule_of result ≡ line.flag (codes "explain") }
-    ensures local { result.global ≡ false }
-{
-    Arg::new(alloc, "explain")
-        .long("explain")
-        .help("Says in a second line on standard error what is meant, where the text is no id")
-        .action(ArgAction::SetTrue)
-}
-
-/// The text argument of the command `id`.
-fn id_text<'a>(alloc: Global) -> Arg<'a>
-    ensures rule { rule_of result ≡ record (line.word (codes "TEXT")) { required = true } }
-    ensures local { result.global ≡ false }
-{
-    Arg::new(alloc, "TEXT")
-        .help("The id, such as '[engine:x]/[class:A]'")
-        .required(true)
-        .action(ArgAction::Set)
 }

@@ -1,6 +1,6 @@
-//! Reading an id, with its fault explained or not.
+//! Reading an id, with its fault explained or not, and making one.
 use crate::telling::tell;
-use ext_run::{RequestFault, Summary, explain_id, read_id};
+use ext_run::{RequestFault, Summary, explain_id, make_id, read_id};
 use std::io::Write;
 
 /// Reads the id in a text, and prints why if there is none.
@@ -16,6 +16,19 @@ pub(crate) fn outcome_of_id<R: AllocGlobal + Eprint, W: Write>(
         if explained {
             tell_meaning(rt, text, fault);
         }
+    }
+    outcome
+}
+
+/// Makes the id of these parts, each `TYPE=VALUE`, and prints why if they make none.
+pub(crate) fn outcome_of_parts<R: AllocGlobal + Eprint, W: Write>(
+    rt: &R,
+    writer: &mut W,
+    parts: &[String],
+) -> Result<Summary, RequestFault> {
+    let outcome = make_id(rt.alloc(), writer, parts);
+    if let Err(fault) = outcome {
+        tell(rt, fault);
     }
     outcome
 }

@@ -7,6 +7,7 @@
 //! standard error, and `--explain` adds a second one that explains it.
 #![tactic(auto)]
 
+mod args;
 mod command;
 mod failing;
 mod help;
@@ -18,9 +19,9 @@ mod telling;
 
 use command::{Request, request_of};
 use ext_run::{RequestFault, RunFault, Summary, status_of};
-use ids::outcome_of_id;
+use ids::{outcome_of_id, outcome_of_parts};
 use plans::outcome_of_source;
-use std::io::{self, Input};
+use std::io::{self, Input, IsTerminal};
 use std::process::ExitCode;
 use std::rt::{Env, Files};
 use std::sync::Wait;
@@ -29,18 +30,20 @@ use std::time::Clock;
 use telling::tell;
 
 fn main(rt: HostRuntime) -> ExitCode {
+    let is_typed = rt.stdin().is_terminal();
     // An error out of `main` would be status 1, which says that a node failed.
-    let outcome = outcome_of(&rt);
+    let outcome = outcome_of(&rt, is_typed);
     ExitCode::from(status_of(&outcome))
 }
 
-/// Does what the command line asks, and prints why if it was not done.
-fn outcome_of<R>(rt: &R) -> Result<Summary, RequestFault>
+/// Does what the command line asks, and prints why if it was not done. `is_typed` says whether
+/// standard input is a terminal.
+fn outcome_of<R>(rt: &R, is_typed: bool) -> Result<Summary, RequestFault>
 where
     R: Threads + Wait + Sync + Clock + Env + Files + AllocGlobal + Input + Print + Eprint,
 {
     let mut writer = io::writer(rt);
-    let outcome = match request_of(rt) {
+    let outcome = match request_of(rt, is_typed) {
         Request::Plan {
             task,
             file,
@@ -48,6 +51,9 @@ where
         } => return outcome_of_source(rt, &mut writer, task, &file, explain),
         Request::Id { text, explain } => {
             return outcome_of_id(rt, &mut writer, text.as_str(), explain);
+        }
+        Request::MakeId { parts } => {
+            return outcome_of_parts(rt, &mut writer, parts.as_slice());
         }
         Request::Help => Ok(Summary::done()),
         Request::Refused => Err(RequestFault::CommandLine),

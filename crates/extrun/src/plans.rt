@@ -18,8 +18,8 @@ use std::sync::Wait;
 use std::thread::Threads;
 use std::time::Clock;
 
-/// Reads the whole plan from this file, or from standard input, and then does the task. Prints why
-/// if it was not done.
+/// Reads the whole plan from this file, or from standard input if there is none or it is `-`, and
+/// then does the task. Prints why if it was not done.
 pub(crate) fn outcome_of_source<R, W>(
     rt: &R,
     writer: &mut W,
@@ -32,8 +32,8 @@ where
     W: Write,
 {
     let input = match file {
-        None => told(rt, read_input(rt.alloc(), &mut rt.reader(), task.size())),
-        Some(name) => input_of_file(rt, name.as_str(), task.size()),
+        Some(name) if name.as_str() != "-" => input_of_file(rt, name.as_str(), task.size()),
+        _ => told(rt, read_input(rt.alloc(), &mut rt.reader(), task.size())),
     };
     match input {
         Err(fault) => Err(fault),

@@ -7,6 +7,7 @@ pub(crate) fn tell(rt: &impl Eprint, fault: RequestFault) {
     let _ = match fault {
         RequestFault::CommandLine => Ok(()),
         RequestFault::Id(fault) => eprintln!(rt; "{fault}"),
+        RequestFault::Parts(fault) => eprintln!(rt; "{fault}"),
         RequestFault::Run(fault) => eprintln!(rt; "{fault}"),
     };
 }

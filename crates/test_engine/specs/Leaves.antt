@@ -7,4 +7,5 @@ use Rattle.ext_engine.specs.Suites.{Asked, SuiteView}
 
 -- such contexts are tests, which may run beside one another; no node is isolated, and each names these locks
 abbrev pub leaves_with : List Id → List Asked → SuiteView
-leaves_with ids locks = record { is_concurrent = is_leaf ids; is_isolated = λ node. false; is_test = is_leaf ids; locks = λ node. locks }
+leaves_with ids locks =
+    record { is_concurrent = is_leaf ids; is_isolated = λ node. false; is_test = is_leaf ids; locks = λ node. locks }

@@ -1,8 +1,12 @@
 //! Signs that threads give one another, and a gate that holds children at their start.
-use crate::page::{Servers, run_page};
-use crate::server::server_key;
-use ext_engine::Gate;
+use crate::outside::QuietSuite;
+use ext_engine::{Gate, Opened, leaf_laws, open_run, read_ids, run_tree};
+use ext_store::Limits;
+use std::alloc::Global;
+use std::process::Abort;
+use std::sync::Wait;
 use std::sync::atomic::{AtomicU64, Ordering};
+use std::thread::Threads;
 
 /// How often a thread looks for a sign, by one atomic load each.
 const TURNS: u64 = 10_000_000_000;
@@ -52,14 +56,34 @@ impl Gate for MeetingGate {
     fn ended(&self, _index: usize) {}
 }
 
+/// Runs two tests on two lanes, beside one another and with this gate.
+fn run_two<R: Abort + Threads + Wait + Sync>(rt: &R, alloc: Global, gate: &MeetingGate) {
+    let texts = [
+        "[engine:x]",
+        "[engine:x]/[method:m1()]",
+        "[engine:x]/[method:m2()]",
+    ];
+    let ids = read_ids(alloc, &texts).expect(rt, "ids");
+    let Opened {
+        store,
+        mut lanes,
+        closers,
+        locks,
+        mut lock_lanes,
+    } = open_run(alloc, ids.as_slice(), &[], Limits::new(2)).expect(rt, "a store");
+    let suite = QuietSuite { tree: store.tree() };
+    leaf_laws(&suite, &store, &locks);
+    let (lanes, lock_lanes) = (lanes.as_mut_slice(), lock_lanes.as_mut_slice());
+    let ran = run_tree(
+        rt, alloc, &suite, &store, &locks, lanes, lock_lanes, closers, gate,
+    );
+    assert!(rt; ran.is_ok(), "a run");
+}
+
 /// Tests `run_tree`.
 #[test]
 fn two_children_run_at_once(rt: HostRuntime) {
-    let servers = Servers::new();
-    let key = server_key(rt.alloc()).expect(&rt, "a key");
     let gate = MeetingGate::new();
-    let report = run_page(&rt, rt.alloc(), &key, 2, &servers, &gate);
-    assert!(rt; report.is_ok(), "a report");
-    // Two classes with two tests each, of which the classes meet.
-    assert_eq!(rt; gate.told(), (6, 0), "the gate");
+    run_two(&rt, rt.alloc(), &gate);
+    assert_eq!(rt; gate.told(), (2, 0), "the gate");
 }

@@ -1,6 +1,6 @@
-//! Tests of the engine: the code of the guide, refused openings, and suites of their own over its
-//! public calls: children that run at once, locks that are held until a context is closed, values
-//! of a lane that a run has not in hand.
+//! Tests of the engine: the code of the guide, refused openings, what is made of a compute's
+//! answers, and suites of their own over its public calls: children that run at once, locks that
+//! are held until a context is closed, values of a lane that a run has not in hand.
 #![tactic(auto)]
 
 #[cfg(test)]
@@ -13,6 +13,8 @@ mod held;
 mod hour;
 #[cfg(test)]
 mod locking;
+#[cfg(test)]
+mod made;
 #[cfg(test)]
 mod noting;
 #[cfg(test)]

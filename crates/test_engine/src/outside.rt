@@ -21,7 +21,7 @@ use std::thread::Threads;
 
 /// A closeable value.
 #[derive(Debug, Drop, PartialEq, Eq)]
-struct Page;
+pub(crate) struct Page;
 
 impl StoreValue for Page {
     ghost use Rattle.std.specs.Prelude.{true};
@@ -35,7 +35,7 @@ impl StoreValue for Page {
 
 /// What closes a value: it does nothing.
 #[derive(Drop)]
-struct LetGo;
+pub(crate) struct LetGo;
 
 impl CloseAction<Page> for LetGo {
     ghost close_gives = { λ action number value answer left. Unit {0} };
@@ -47,8 +47,8 @@ impl CloseAction<Page> for LetGo {
 
 /// Nodes whose calls do nothing. Those with nothing below them are tests, which may run beside one another.
 #[derive(Drop)]
-struct QuietSuite<'a> {
-    tree: &'a Tree,
+pub(crate) struct QuietSuite<'a> {
+    pub(crate) tree: &'a Tree,
 }
 
 impl Callbacks for QuietSuite<'_> {

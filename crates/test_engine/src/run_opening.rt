@@ -1,17 +1,22 @@
 //! Openings of what a run goes over: those that are refused, and how large they may be.
 mod large;
+mod meeting;
 
 use crate::server::Server;
-use ext_engine::{OpenFault, Opened, open_run, read_ids};
+use ext_engine::{
+    LeafFault, LeafRun, Mode, OpenFault, Opened, Status, open_run, read_ids, run_leaves,
+};
 use ext_ids::{IdFault, UniqueId};
 use ext_locks::LockFault;
-use ext_model::Size;
+use ext_model::{Fault, Size};
 use ext_store::{Limits, StoreFault};
 use ext_tree::TreeFault;
-use large::flat;
+use large::{CountingSuite, flat};
 use std::alloc::Global;
 use std::process::Abort;
+use std::sync::Wait;
 use std::test::Fail;
+use std::thread::Threads;
 
 /// Limits with so many lanes and tries, of a store that keeps no faults.
 fn limits(lanes: usize, tries: u32) -> Limits {
@@ -66,6 +71,34 @@ fn refused_openings_of_runs(rt: HostRuntime) {
     refused(&rt, alloc, &class, &same, limits(1, 8), locks);
 }
 
+/// How many lanes of the store and of the locks were opened, of so many and this size, or why none were.
+fn lanes_of(alloc: Global, size: Size, lanes: usize) -> Result<(usize, usize), OpenFault> {
+    let ids = read_ids(alloc, &["[engine:x]"])?;
+    let limits = Limits {
+        size,
+        numbers: 1,
+        ..Limits::new(lanes)
+    };
+    let opened: Opened<Server> = open_run(alloc, ids.as_slice(), &["db"], limits)?;
+    Ok((opened.lanes.len(), opened.lock_lanes.len()))
+}
+
+/// Tests `open_run`.
+#[test]
+fn lanes_by_size(rt: HostRuntime) {
+    let alloc = rt.alloc();
+    let bad = Err(OpenFault::Store(StoreFault::BadLimit));
+    for (size, lanes, wanted) in [
+        (Size::Usual, 16, Ok((16, 16))),
+        (Size::Usual, 17, bad),
+        (Size::Large, 32, Ok((32, 32))),
+        (Size::Large, 33, bad),
+    ] {
+        let told = lanes_of(alloc, size, lanes);
+        assert!(&rt; told == wanted, "{lanes} lanes");
+    }
+}
+
 /// How many contexts were opened, or why none were. A store of this size draws so many numbers.
 fn contexts_of(
     alloc: Global,
@@ -102,5 +135,68 @@ fn openings_by_size(rt: HostRuntime) -> Result<(), Fail> {
         let told = contexts_of(alloc, ids, size, numbers);
         assert!(rt; told == wanted, "{numbers} numbers");
     }
+    Ok(())
+}
+
+/// Why a run of leaves over these contexts was not opened; `None` where it was run.
+fn leaves_refused<R: Threads + Wait + Sync>(
+    rt: &R,
+    alloc: Global,
+    texts: &[&str],
+    limits: Limits,
+) -> Option<LeafFault> {
+    let ids = match read_ids(alloc, texts) {
+        Ok(ids) => ids,
+        Err(why) => return Some(LeafFault::Open(why)),
+    };
+    let suite = CountingSuite { calls: &[] };
+    let run: Result<LeafRun<Server>, LeafFault> = run_leaves(
+        rt,
+        alloc,
+        &suite,
+        &ids,
+        Mode::Concurrent,
+        limits,
+    );
+    run.err()
+}
+
+/// Tests `run_leaves`.
+#[test]
+fn refused_runs_of_leaves(rt: HostRuntime) {
+    let alloc = rt.alloc();
+    let class = ["[engine:x]", "[engine:x]/[class:A]"];
+    let twice = ["[engine:x]", "[engine:x]"];
+    let bad = Some(LeafFault::Open(OpenFault::Store(StoreFault::BadLimit)));
+    let rows = [
+        (limits(0, 8), bad),
+        (limits(1, 1), None),
+        (limits(16, 64), None),
+        (limits(17, 8), bad),
+        (limits(1, 0), bad),
+        (limits(1, 65), bad),
+    ];
+    for (limits, wanted) in rows {
+        assert!(rt; leaves_refused(&rt, alloc, &class, limits) == wanted);
+    }
+    let tree = Some(LeafFault::Open(OpenFault::Tree(TreeFault::Twice(1))));
+    assert!(rt; leaves_refused(&rt, alloc, &twice, limits(0, 8)) == tree);
+    let none = Some(LeafFault::Open(OpenFault::Tree(TreeFault::NoRoot)));
+    assert!(rt; leaves_refused(&rt, alloc, &[], limits(0, 8)) == none);
+}
+
+/// Tests `run_leaves`.
+#[test]
+fn fault_of_a_leaf_is_that_of_its_test(rt: HostRuntime) -> Result<(), Fail> {
+    let ids = read_ids(rt.alloc(), &["[engine:x]", "[engine:x]/[method:m()]"])?;
+    let suite = CountingSuite { calls: &[] };
+    let limits = Limits::new(1);
+    let alloc = rt.alloc();
+    let run: LeafRun<Server> = run_leaves(&rt, alloc, &suite, &ids, Mode::SameThread, limits)?;
+    let told = run
+        .results
+        .get(1)
+        .map(|it| (it.status, it.fault == Some(Fault::Memory)));
+    assert!(rt; told == Some((Status::Failed, true)));
     Ok(())
 }

@@ -1,7 +1,6 @@
 //! What the system tells of the threads of a process: a run leaves none.
 use crate::page::{Servers, run_page};
 use crate::server::server_key;
-use ext_engine::OpenGate;
 use std::fs::read_dir;
 use std::rt::Files;
 use std::thread::sleep;
@@ -41,7 +40,7 @@ fn no_thread_is_left_after_a_run(rt: HostRuntime) {
     let key = server_key(rt.alloc()).expect(&rt, "a key");
     let before = thread_count(&rt);
     assert!(rt; before.is_some(), "the threads");
-    let report = run_page(&rt, rt.alloc(), &key, 4, &servers, &OpenGate);
+    let report = run_page(&rt, rt.alloc(), &key, 4, &servers);
     assert!(rt; report.is_ok(), "a report");
     assert!(rt; comes_to(&rt, before), "a thread is left");
 }

@@ -1,6 +1,6 @@
-//! Ids from outside: the worked examples of the format, and what each fault prints.
+//! Ids from outside: worked examples of the format, ids of parts, and what each fault prints.
 use crate::same::{prints, same};
-use ext_ids::{IdFault, UniqueId};
+use ext_ids::{IdFault, PartFault, UniqueId};
 use std::alloc::{AllocError, Global};
 use std::process::Abort;
 use std::test::Fail;
@@ -67,6 +67,107 @@ fn ids_and_their_faults(rt: HostRuntime) -> Result<(), Fail> {
     }
     prints(&rt, rt.alloc(), &IdFault::Memory, "id: I9")?;
     Ok(())
+}
+
+/// What is written of an id that is made; or the line of the parts' fault.
+fn made_told(alloc: Global, made: Result<UniqueId, PartFault>) -> Result<String, AllocError> {
+    match made {
+        Ok(id) => id_told(alloc, &id),
+        Err(fault) => fault.to_string(alloc),
+    }
+}
+
+/// Asserts what is told of the id of these parts.
+fn makes(
+    rt: &impl Abort,
+    alloc: Global,
+    parts: &[(&str, &str)],
+    wanted: &str,
+) -> Result<(), AllocError> {
+    let told = made_told(alloc, UniqueId::from_parts(alloc, parts))?;
+    same(rt, told.as_str(), wanted, wanted);
+    Ok(())
+}
+
+/// The id of 16 segments, as it is written.
+const LONGEST: &str =
+    "[a:b]/[a:b]/[a:b]/[a:b]/[a:b]/[a:b]/[a:b]/[a:b]/[a:b]/[a:b]/[a:b]/[a:b]/[a:b]/[a:b]/[a:b]/[a:b]";
+
+/// Two parts, with what is told of their id.
+const PARTS: [(&str, &str, &str, &str, &str); 6] = [
+    (
+        "engine",
+        "x",
+        "class",
+        "a/b",
+        "2 engine = x, class = a/b, [engine:x]/[class:a%2Fb]",
+    ),
+    (
+        "%+[",
+        "]:/",
+        "größe",
+        "日本 case[1]",
+        "2 %+[ = ]:/, größe = 日本 case[1], [%25%2B%5B:%5D%3A%2F]/[größe:日本 case%5B1%5D]",
+    ),
+    ("", "", "", "", "id: part 0 has no type"),
+    ("a", "", "", "b", "id: part 0 has no value"),
+    ("a", "b", "", "", "id: part 1 has no type"),
+    ("a", "b", "c", "", "id: part 1 has no value"),
+];
+
+/// Tests `UniqueId::from_parts`.
+#[test]
+fn ids_of_parts(rt: HostRuntime) -> Result<(), Fail> {
+    let alloc = rt.alloc();
+    for (kind, value, second_kind, second_value, wanted) in &PARTS {
+        let parts = [(*kind, *value), (*second_kind, *second_value)];
+        makes(&rt, alloc, parts.as_slice(), wanted)?;
+    }
+    makes(&rt, alloc, [].as_slice(), "id: no part")?;
+    let parts = [("a", "b"); 17];
+    makes(&rt, alloc, parts.as_slice(), "id: more than 16 parts")?;
+    let longest = UniqueId::from_parts(alloc, &parts[..16])?;
+    let text = longest.write(alloc)?;
+    same(&rt, text.as_str(), LONGEST, "16 parts");
+    prints(&rt, alloc, &PartFault::Memory, "id: I9")?;
+    Ok(())
+}
+
+/// Asserts what is told of the id that a text spells, with one part more.
+fn appends(
+    rt: &impl Abort,
+    alloc: Global,
+    text: &str,
+    part: (&str, &str),
+    wanted: &str,
+) -> Result<(), Fail> {
+    let id = UniqueId::parse(alloc, text)?;
+    let told = made_told(alloc, id.append(alloc, part.0, part.1))?;
+    same(rt, told.as_str(), wanted, wanted);
+    Ok(())
+}
+
+/// Tests `UniqueId::append`.
+#[test]
+fn segments_are_appended(rt: HostRuntime) -> Result<(), Fail> {
+    let alloc = rt.alloc();
+    let child = "2 engine = x, case = case[1], [engine:x]/[case:case%5B1%5D]";
+    appends(&rt, alloc, "[engine:x]", ("case", "case[1]"), child)?;
+    appends(
+        &rt,
+        alloc,
+        "[engine:x]",
+        ("", "b"),
+        "id: part 1 has no type",
+    )?;
+    appends(
+        &rt,
+        alloc,
+        "[engine:x]",
+        ("a", ""),
+        "id: part 1 has no value",
+    )?;
+    appends(&rt, alloc, LONGEST, ("", ""), "id: more than 16 parts")
 }
 
 /// Whether the first id is the parent of the second, whether they are equal, and whether a copy of the first is the first.

@@ -42,8 +42,7 @@ public class Resources implements BeforeAllCallback, BeforeEachCallback, AfterEa
             closed = true;
             int count = CLOSED.incrementAndGet();
             if (key.equals("server")) {
-                System.out.println("servers " + SERVERS + ", classes " + CLASSES + ", tests " + TESTS + ", closed " + count + ", proved "
-                        + (store instanceof ProvedStore));
+                System.out.println("servers " + SERVERS + ", classes " + CLASSES + ", tests " + TESTS + ", closed " + count);
             }
         }
     }

@@ -27,7 +27,7 @@ final class Library {
             }
             return null;
         } catch (IOException | UnsatisfiedLinkError fault) {
-            return (given == null ? inJar : given) + " is not loaded: " + fault.getMessage();
+            return "the native library " + (given == null ? "for this machine, " + inJar + "," : given) + " is not loaded: " + fault.getMessage();
         }
     }
 

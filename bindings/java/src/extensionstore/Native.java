@@ -24,12 +24,6 @@ final class Native {
         "there are more than 256 contexts",
     };
 
-    static {
-        if (Library.MISSING != null) {
-            throw new UnsatisfiedLinkError(Library.MISSING);
-        }
-    }
-
     private Native() {}
 
     static native long open(byte[] bytes, int[] lengths, int tries, int numbers, int lanes);

@@ -14,7 +14,7 @@ use std::snapshot::Snapshot;
 use std::sync::Wait;
 
 /// Opens a counter at 0 over a slot for each item, and gives it with the first hand, from which
-/// those of up to 16 workers can be split off (`split_seat::<Hires>` of the counter).
+/// those of up to 32 workers can be split off (`split_seat::<Hires>` of the counter).
 ///
 /// There are at most 65,536 items, possibly none. Takes memory for a slot for each item, and for
 /// the counter; if an allocation fails, the items are dropped.
@@ -137,7 +137,7 @@ pub(crate) fn take_outcomes<T: Drop, O: Drop, M: Allocator>(
     outcomes: &mut Vec<O, M>,
 )
     requires counter { IsCounter table.shared.table_id table.shared.key.value.items (length table.shared.key.value.items) }
-    requires first { (first.table_id ≡ table.shared.table_id) × (first.me.0.parts ≡ 17) }
+    requires first { (first.table_id ≡ table.shared.table_id) × (first.me.0.parts ≡ 33) }
     requires room { length table.shared.key.value.items ≤ vec_capacity outcomes.old }
     requires none { outcomes.old.items ≡ [] }
     ensures drawn { (drawn : ℕ) × ((x : ℕ) → times x first.me.0.draws ≡ cond (ltb x drawn) 1 0) }

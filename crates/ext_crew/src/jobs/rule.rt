@@ -46,7 +46,7 @@ impl<T, O, M: Allocator> TableRule<Slot<T, O>, Drawn<T, O>, Snapshot<Vec<T, M>>>
 
     ghost holds = { λ key s. Kept key.value.items s };
 
-    ghost first = { λ key. drawn 17 [] [] key.value.items };
+    ghost first = { λ key. drawn 33 [] [] key.value.items };
 }
 
 /// A load of the counter.

@@ -51,7 +51,7 @@ impl<'a, R: Wait, V: StoreValue + Drop, S: Suite<V>> NodeRunner<'a, R, V, S> {
     /// runs this node alone.
     ///
     /// The item is a test with the closer of its context, and no node is below it. There are 1 to
-    /// 16 lanes of the store and as many of the locks, which hold nothing. The locks have every
+    /// 32 lanes of the store and as many of the locks, which hold nothing. The locks have every
     /// name that the test and the nodes above it ask for, and the suite may be run over the store.
     /// `depth` is 17 less the levels from the root to the test.
     ///

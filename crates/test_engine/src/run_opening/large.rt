@@ -1,17 +1,10 @@
 //! Runs of suites that no store of usual size has contexts for.
-ghost use Rattle.std.specs.Prelude.{◌≡◌};
-
 use crate::server::Server;
 use ext_closing::CloseAction;
-use ext_engine::{
-    Call, Callbacks, Kind, Mode, NodeResult, OpenGate, Opened, Outcome, Status, Suite, Verdict,
-    is_leaf, leaf_laws, open_run, run_tree,
-};
+use ext_engine::{LeafSuite, Mode, NodeResult, Outcome, Status, Verdict, run_leaves};
 use ext_ids::UniqueId;
-use ext_locks::{Held, LockRequest};
 use ext_model::{ContextNo, Fault, Size};
 use ext_store::{Lane, Limits, Store};
-use ext_tree::Tree;
 use std::alloc::{AllocError, Global};
 use std::process::Abort;
 use std::sync::Wait;
@@ -21,7 +14,7 @@ use std::thread::Threads;
 
 /// Closes nothing: no test leaves a value.
 #[derive(Drop)]
-struct CloseNothing;
+pub(super) struct CloseNothing;
 
 impl CloseAction<Server> for CloseNothing {
     ghost close_gives = { λ before number server answer after. Unit {0} };
@@ -31,75 +24,33 @@ impl CloseAction<Server> for CloseNothing {
     }
 }
 
-/// Counts the calls of each node. All nodes are of one mode, and those with nothing below them are tests.
+/// Counts the runs of each test. One without a count fails.
 #[derive(Drop)]
-struct CountingSuite<'a> {
-    tree: &'a Tree,
-    mode: Mode,
-    calls: &'a [AtomicU64],
+pub(super) struct CountingSuite<'a> {
+    pub(super) calls: &'a [AtomicU64],
 }
 
-impl Callbacks for CountingSuite<'_> {
-    ghost registered = { λ suite kind node. 0 };
-
-    /// No node has callbacks.
-    fn count(&self, _kind: Kind, _node: ContextNo) -> usize {
-        0
-    }
-}
-
-impl<'a> Suite<Server> for CountingSuite<'a> {
-    ghost use Rattle.std.specs.Prelude.{◌≡◌, [], false};
-    ghost use Rattle.ext_engine.specs.Leaves.{is_leaf};
-    ghost use Rattle.ext_engine.specs.Modes.{is_concurrent};
-
+impl LeafSuite<Server> for CountingSuite<'_> {
     type Action = CloseNothing;
-
-    ghost suite_view = { λ suite. record { is_concurrent = λ node. is_concurrent suite.mode; is_isolated = λ node. false; is_test = is_leaf suite.tree.now; locks = λ node. [] } };
-
-    ghost fits = { λ suite store. suite.tree.now ≡ store.tree };
-
-    ghost call_gives = { λ suite store node call held before outcome after. Unit {0} };
-
-    ghost action_gives = { λ suite node action. Unit {0} };
-
-    fn mode(&self, _node: ContextNo) -> Mode {
-        self.mode
-    }
-
-    fn isolated(&self, _node: ContextNo) -> bool {
-        false
-    }
-
-    fn is_test(&self, node: ContextNo) -> bool {
-        is_leaf(self.tree, node)
-    }
-
-    fn lock_count(&self, _node: ContextNo) -> usize {
-        0
-    }
-
-    fn lock<'l>(&'l self, _node: ContextNo, _i: usize) -> Option<LockRequest<'l>> {
-        None
-    }
 
     fn action(&self, _node: ContextNo) -> CloseNothing {
         CloseNothing
     }
 
-    fn call<R: Wait>(
+    fn run<R: Wait>(
         &self,
         _rt: &R,
         _store: &Store<Server>,
         node: ContextNo,
-        _call: &Call,
         _lane: &mut Lane<Server>,
-        _held: Option<&Held>,
-    ) -> Outcome {
-        if let Some(calls) = self.calls.get(node) {
-            calls.fetch_add(1, Ordering::SeqCst);
+    ) -> Result<Outcome, Fault> {
+        match self.calls.get(node) {
+            Some(calls) => {
+                calls.fetch_add(1, Ordering::SeqCst);
+                Ok(Outcome::of(Verdict::Successful))
+            }
+            None => Err(Fault::Memory),
         }
-        Outcome::of(Verdict::Successful)
     }
 }
 
@@ -165,24 +116,10 @@ fn run_all<R: Abort + Threads + Wait + Sync>(
         size: Size::Large,
         ..Limits::new(lanes)
     };
-    let Opened {
-        store,
-        mut lanes,
-        closers,
-        locks,
-        mut lock_lanes,
-    } = open_run(alloc, ids, &[], limits).expect(rt, "a store");
-    let suite = CountingSuite {
-        tree: store.tree(),
-        mode,
-        calls,
-    };
-    leaf_laws(&suite, &store, &locks);
-    let (lanes, lock_lanes) = (lanes.as_mut_slice(), lock_lanes.as_mut_slice());
-    run_tree(
-        rt, alloc, &suite, &store, &locks, lanes, lock_lanes, closers, &OpenGate,
-    )
-    .expect(rt, "a run")
+    let suite = CountingSuite { calls };
+    run_leaves(rt, alloc, &suite, ids, mode, limits)
+        .expect(rt, "a run")
+        .results
 }
 
 /// Whether each result is that of the node at its place, which was successful, and was called once if it is a test.
@@ -220,14 +157,14 @@ fn runs_once_in_order<R: Abort + Threads + Wait + Sync>(
     Ok(())
 }
 
-/// Tests `open_run` and `run_tree`.
+/// Tests `run_leaves`, `open_run` and `run_tree`.
 #[test]
 fn flat_suite_of_300_tests(rt: HostRuntime) -> Result<(), Fail> {
     let ids = flat(rt.alloc(), 300)?;
     runs_once_in_order(&rt, rt.alloc(), ids.as_slice())
 }
 
-/// Tests `open_run` and `run_tree`.
+/// Tests `run_leaves`, `open_run` and `run_tree`.
 #[test]
 fn suite_of_1000_tests_in_classes(rt: HostRuntime) -> Result<(), Fail> {
     let ids = in_classes(rt.alloc(), 10)?;

@@ -1,4 +1,6 @@
 //! Openings at the limits, and refused ones.
+ghost use Rattle.std.specs.Prelude.{◌≤◌};
+
 use crate::held::same;
 use crate::locks::asking::read;
 use crate::locks::scenario::{Scenario, with_locks};
@@ -39,6 +41,26 @@ fn refused_openings(rt: HostRuntime) {
     refused(&rt, alloc, &[], 2, 0, LockFault::BadLimit);
     refused(&rt, alloc, &[], 2, 65, LockFault::BadLimit);
     refuses_many(&rt, alloc, &["x"; 64]);
+}
+
+/// How many lanes the locks have that are opened for so many of at most `most`, or why they are not opened.
+fn lanes_within(alloc: Global, lanes: usize, most: usize) -> Result<usize, LockFault>
+    requires { most ≤ 32 }
+{
+    let (_locks, opened) = Locks::open_within(alloc, &[], lanes, 8, most)?;
+    Ok(opened.len())
+}
+
+/// Tests `Locks::open_within`.
+#[test]
+fn lanes_within_a_limit(rt: HostRuntime) {
+    let alloc = rt.alloc();
+    let bad = Err(LockFault::BadLimit);
+    same(&rt, lanes_within(alloc, 4, 4), Ok(4), "4 lanes of 4");
+    same(&rt, lanes_within(alloc, 5, 4), bad, "5 lanes of 4");
+    same(&rt, lanes_within(alloc, 32, 32), Ok(32), "32 lanes of 32");
+    same(&rt, lanes_within(alloc, 33, 32), bad, "33 lanes of 32");
+    same(&rt, lanes_within(alloc, 0, 32), bad, "no lanes");
 }
 
 /// Puts `key0`, `key1`, and so on, up to 62, into the texts.

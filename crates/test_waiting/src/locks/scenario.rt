@@ -27,7 +27,7 @@ pub(crate) fn open(
 ) -> (Locks, Vec<LockLane>)
     ensures { result.1.items ≡ fresh_lanes result.0.table lanes lanes }
 {
-    match Locks::open(alloc, names, lanes, tries) {
+    match Locks::open_within(alloc, names, lanes, tries, 32) {
         Ok(opened) => opened,
         Err(fault) => panic!(rt; "{fault}"),
     }

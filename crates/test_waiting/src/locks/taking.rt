@@ -162,3 +162,44 @@ impl<R: Abort> Scenario<R> for BesideGlobalLock {
 fn third_lane_takes_the_global_lock(rt: HostRuntime) {
     with_locks(&rt, rt.alloc(), &["a"], 3, 8, BesideGlobalLock);
 }
+
+/// What the last lane is answered that reads b and wants to write it while the first one reads it, and what the first one
+/// is answered that reads b while the last one writes it. Nothing, if one of them doesn't get its lock.
+fn first_and_last(locks: &Locks, first: &mut LockLane, last: &mut LockLane) -> Option<[Answer; 3]>
+    requires lanes { (first.old.table ≡ locks.now.table) × (last.old.table ≡ locks.now.table) }
+    requires nothing { HoldsNothing first.old × HoldsNothing last.old }
+{
+    let reads = hold(locks, first, &[read("b")])?;
+    let beside = ask(locks, last, &[read("b")]);
+    let over = ask(locks, last, &[write("b")]);
+    locks.give(first, reads);
+    let writes = hold(locks, last, &[write("b")])?;
+    let under = ask(locks, first, &[read("b")]);
+    locks.give(last, writes);
+    Some([beside, over, under])
+}
+
+/// The first and the last of as many lanes as there can be read beside each other, and one writes alone.
+#[derive(Drop)]
+struct FirstAndLast;
+
+impl<R: Abort> Scenario<R> for FirstAndLast {
+    fn play(self, rt: &R, locks: &Locks, lanes: &mut [LockLane]) {
+        let [first, .., last] = lanes else {
+            panic!(rt; "not two lanes");
+        };
+        let taken = Ok(Some(LockRefusal::Taken(2)));
+        same(
+            rt,
+            first_and_last(locks, first, last),
+            Some([Ok(None), taken, taken]),
+            "first and last",
+        );
+    }
+}
+
+/// Tests `Locks::open_within` and `Locks::try_take`.
+#[test]
+fn last_of_32_lanes(rt: HostRuntime) {
+    with_locks(&rt, rt.alloc(), &["b", "a"], 32, 8, FirstAndLast);
+}

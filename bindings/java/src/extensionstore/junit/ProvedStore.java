@@ -1,191 +1,144 @@
 package extensionstore.junit;
 
 import extensionstore.Contexts;
-import extensionstore.Limits;
 import extensionstore.StoreException;
-import java.util.ArrayList;
-import java.util.List;
-import java.util.concurrent.atomic.AtomicBoolean;
+import java.lang.invoke.MethodType;
 import java.util.function.Function;
-import java.util.logging.Logger;
 import org.junit.jupiter.api.extension.ExtensionContext;
 import org.junit.jupiter.api.extension.ExtensionContext.Namespace;
 import org.junit.jupiter.api.extension.ExtensionContext.Store;
 import org.junit.jupiter.api.extension.ExtensionContextException;
+import org.junit.platform.commons.PreconditionViolationException;
 
 /**
  * JUnit's {@code Store} over the proved one, for extensions: {@code ProvedStore.of(context, namespace)} in place of {@code context.getStore(namespace)}. What is
  * stored by the one is not seen by the other.
  *
- * <p>Each of JUnit's contexts in which something is stored has a proved store of its own, which JUnit closes with it. A look-up asks them one after
- * another, the nearest first, as JUnit's does. A context has at most 64 keys, over all namespaces; and 1,023 values are stored in it, those that are
- * replaced or removed among them, or as many as the configuration parameter {@code extensionstore.numbers} says (1 to 65,535, which is also what the root
- * has). What is refused is refused by a {@link StoreException}; so is each call after the context was closed.
+ * <p>Each of JUnit's contexts in which something is stored has a proved store of its own. JUnit closes it with the context, as a resource that stands there
+ * since the first {@code of} for this context or for one below it; and with it each {@code CloseableResource}, the latest first. A look-up asks the stores
+ * one after another, the nearest first, as JUnit's does.
+ *
+ * <p>A context has at most 64 keys, over all namespaces; and 1,023 values are stored in it, those that are replaced, removed or refused among them, or as
+ * many as the configuration parameter {@code extensionstore.numbers} says (1 to 65,535, which is also what the root has). What is refused is refused by a
+ * {@link StoreException}; so is each call after the context was closed. A close fails while a creator runs for the context, where JUnit waits.
  */
 public final class ProvedStore implements Store {
-    private static final Logger LOGGER = Logger.getLogger(ProvedStore.class.getName());
-    private static final AtomicBoolean SAID = new AtomicBoolean();
-    private static final Namespace OWN = Namespace.create(ProvedStore.class);
-    private static final int NUMBERS = 1_023;
-    private static final int NUMBERS_OF_ROOT = 65_535;
-
     private final Namespace namespace;
-    private final List<Own> path; // of this context and those above it
+    private final Own own;
 
-    private ProvedStore(Namespace namespace, List<Own> path) {
+    private ProvedStore(Namespace namespace, Own own) {
         this.namespace = namespace;
-        this.path = path;
+        this.own = own;
     }
 
     /** A key of a namespace. */
-    private record Name(Namespace namespace, Object key) {}
+    private record Name(Namespace namespace, Object key) {
+        /** The key, for messages. */
+        @Override
+        public String toString() {
+            return key.toString();
+        }
+    }
 
     /** Null as a value, which ends a look-up. */
     private enum Nothing {
         HERE
     }
 
-    /** A resource of JUnit's as one of ours. */
-    private record Resource(CloseableResource value) implements extensionstore.CloseableResource {
-        @Override
-        public void close() throws Throwable {
-            value.close();
-        }
-    }
-
-    /** What one of JUnit's contexts has: a proved store, from when something is stored until JUnit closes the context. */
-    private static final class Own implements CloseableResource {
-        private final int numbers;
-        private Contexts contexts;
-        private boolean closed;
-        private volatile extensionstore.Store store;
-
-        Own(ExtensionContext context) {
-            int usual = context.getParent().isPresent() ? NUMBERS : NUMBERS_OF_ROOT;
-            numbers = context.getConfigurationParameter("extensionstore.numbers").map(Integer::valueOf).orElse(usual);
-        }
-
-        /** The store, if something was stored. */
-        extensionstore.Store store() {
-            return store;
-        }
-
-        extensionstore.Store opened() {
-            return store != null ? store : open();
-        }
-
-        private synchronized extensionstore.Store open() {
-            if (closed) {
-                throw new IllegalStateException("the context is closed");
-            }
-            if (store == null) {
-                contexts = Contexts.open(new Limits(15, 64, numbers, true), List.of("[context:it]"));
-                store = contexts.root().getStore(extensionstore.Namespace.GLOBAL);
-            }
-            return store;
-        }
-
-        @Override
-        public void close() {
-            Contexts opened;
-            synchronized (this) {
-                closed = true;
-                opened = contexts;
-            }
-            if (opened != null) {
-                opened.close();
-            }
-        }
-    }
-
     /**
-     * The values of the context in the namespace. Where the jar has no native library that fits this machine it is JUnit's own store, and a warning says
-     * so once.
+     * The values of the context in the namespace.
+     *
+     * @throws ExtensionContextException where no native library fits this machine, which {@link Contexts#unavailable()} tells before
      */
-    public static Store of(ExtensionContext context, Namespace namespace) {
-        String missing = Contexts.unavailable().orElse(null);
-        if (missing != null) {
-            if (SAID.compareAndSet(false, true)) {
-                LOGGER.warning(() -> "not proved: JUnit's own store is used, since " + missing);
-            }
-            return context.getStore(namespace);
-        }
-        List<Own> path = new ArrayList<>();
-        for (ExtensionContext at = context; at != null; at = at.getParent().orElse(null)) {
-            ExtensionContext of = at;
-            path.add(at.getStore(OWN).getOrComputeIfAbsent(at.getUniqueId(), id -> new Own(of), Own.class));
-        }
-        return new ProvedStore(namespace, path);
+    public static ProvedStore of(ExtensionContext context, Namespace namespace) {
+        given(namespace, "Namespace");
+        Contexts.unavailable().ifPresent(why -> {
+            throw new ExtensionContextException("no proved store: " + why);
+        });
+        return new ProvedStore(namespace, Own.of(context));
     }
 
     @Override
     public Object get(Object key) {
-        return told(found(new Name(namespace, key)));
+        return told(found(named(key)));
     }
 
     @Override
     public <V> V get(Object key, Class<V> requiredType) {
-        return cast(key, get(key), requiredType);
+        return cast(named(key), type(requiredType), get(key));
     }
 
     @Override
     public <K, V> Object getOrComputeIfAbsent(K key, Function<K, V> defaultCreator) {
-        Name name = new Name(namespace, key);
+        Name name = named(key);
+        given(defaultCreator, "defaultCreator function");
         Object found = found(name);
-        return told(found != null ? found : path.get(0).opened().getOrComputeIfAbsent(name, it -> stored(defaultCreator.apply(key))));
+        return told(found != null ? found : own.opened().getOrComputeIfAbsent(name, it -> stored(defaultCreator.apply(key))));
     }
 
     @Override
     public <K, V> V getOrComputeIfAbsent(K key, Function<K, V> defaultCreator, Class<V> requiredType) {
-        return cast(key, getOrComputeIfAbsent(key, defaultCreator), requiredType);
+        Name name = named(key);
+        given(defaultCreator, "defaultCreator function");
+        return cast(name, type(requiredType), getOrComputeIfAbsent(key, defaultCreator));
     }
 
     @Override
     public void put(Object key, Object value) {
-        path.get(0).opened().put(new Name(namespace, key), stored(value));
+        Name name = named(key);
+        own.opened().put(name, stored(value));
     }
 
     @Override
     public Object remove(Object key) {
-        extensionstore.Store own = path.get(0).store();
-        return own == null ? null : told(own.remove(new Name(namespace, key)));
+        Name name = named(key);
+        extensionstore.Store store = own.store();
+        return store == null ? null : told(store.remove(name));
     }
 
     @Override
     public <V> V remove(Object key, Class<V> requiredType) {
-        return cast(key, remove(key), requiredType);
+        return cast(named(key), type(requiredType), remove(key));
+    }
+
+    // What is null is refused in the order and by the exception of JUnit's own store, and nothing is done then.
+    private static <T> T given(T it, String name) {
+        if (it == null) {
+            throw new PreconditionViolationException(name + " must not be null");
+        }
+        return it;
+    }
+
+    private Name named(Object key) {
+        return new Name(namespace, given(key, "key"));
+    }
+
+    private static <V> Class<V> type(Class<V> required) {
+        return given(required, "requiredType");
     }
 
     private Object found(Name name) {
-        for (Own at : path) {
+        Object value = null;
+        for (Own at = own; at != null && value == null; at = at.above()) {
             extensionstore.Store store = at.store();
-            Object value = store == null ? null : store.get(name);
-            if (value != null) {
-                return value;
-            }
+            value = store == null ? null : store.get(name);
         }
-        return null;
+        return value;
     }
 
     private static Object stored(Object value) {
-        if (value == null) {
-            return Nothing.HERE;
-        }
-        return value instanceof CloseableResource resource ? new Resource(resource) : value;
+        return value == null ? Nothing.HERE : value;
     }
 
     private static Object told(Object value) {
-        if (value == Nothing.HERE) {
-            return null;
-        }
-        return value instanceof Resource resource ? resource.value() : value;
+        return value == Nothing.HERE ? null : value;
     }
 
     @SuppressWarnings("unchecked")
-    private static <V> V cast(Object key, Object value, Class<V> type) {
-        Class<?> wanted = type.isPrimitive() ? java.lang.invoke.MethodType.methodType(type).wrap().returnType() : type;
+    private static <V> V cast(Name name, Class<V> type, Object value) {
+        Class<?> wanted = type.isPrimitive() ? MethodType.methodType(type).wrap().returnType() : type;
         if (value != null && !wanted.isInstance(value)) {
-            throw new ExtensionContextException("Object stored under key [" + key + "] is not of required type [" + type.getName() + "]");
+            throw new ExtensionContextException("Object stored under key [" + name + "] is not of required type [" + type.getName() + "]");
         }
         return (V) value;
     }

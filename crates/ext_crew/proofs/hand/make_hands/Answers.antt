@@ -12,7 +12,7 @@ use Rattle.ext_crew.proofs.hand.make_hands.Goals as goal
 pub split_seat-requires : goal.split_seat-requires
 split_seat-requires g c =
     let I = c.loop.invariant in
-    let parts : c.loop.first.me.0.parts ≡ 17 - c.loop.counter = ap (λ m. m.0.parts) I.me in
+    let parts : c.loop.first.me.0.parts ≡ 33 - c.loop.counter = ap (λ m. m.0.parts) I.me in
     let below : c.loop.counter < c.args.workers = search rules in
     let few = c.requires.workers in (
       I.table ∙ c.requires.first.0,
@@ -30,7 +30,7 @@ loop-preserved g c =
     let L : Me (Slot g.row.T.Denot g.row.O.Denot) (Drawn g.row.T.Denot g.row.O.Denot) → Me (Slot g.row.T.Denot g.row.O.Denot) (Drawn g.row.T.Denot g.row.O.Denot) = λ m. (hirer m.0, m.1) in
     let N : Me (Slot g.row.T.Denot g.row.O.Denot) (Drawn g.row.T.Denot g.row.O.Denot) → Me (Slot g.row.T.Denot g.row.O.Denot) (Drawn g.row.T.Denot g.row.O.Denot) = λ m. (hired m.0, []) in
     let M : ℕ → Me (Slot g.row.T.Denot g.row.O.Denot) (Drawn g.row.T.Denot g.row.O.Denot) = λ n. (drawn n [] [] items, []) in
-    let less : 17 - c.loop.counter - 1 ≡ 17 - (c.loop.counter + 1) = omega arith in
+    let less : 33 - c.loop.counter - 1 ≡ 33 - (c.loop.counter + 1) = omega arith in
     let P : Hand g.row.T.Denot g.row.O.Denot → Type 0 = λ h. IsReady table items h in
     let A : List (Hand g.row.T.Denot g.row.O.Denot) → Type 0 = λ l. All P l in
     let ready : P c.split_seat.result = record { same_table = split.3 ∙ (I.table ∙ c.requires.first.0); me = split.4 ∙ ap N I.me } in

@@ -10,5 +10,5 @@ invariant-loop g l = record {
   room : l.workers ≤ vec_capacity l.hands;
   ready : All (λ h. IsReady l.counter-2.table_id l.counter-2.key.value.items h) l.hands.items;
   table : l.first.table_id ≡ l.initial.first.table_id;
-  me : l.first.me ≡ (drawn (17 - l.counter) [] [] l.counter-2.key.value.items, []);
+  me : l.first.me ≡ (drawn (33 - l.counter) [] [] l.counter-2.key.value.items, []);
 }

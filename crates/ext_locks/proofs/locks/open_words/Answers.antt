@@ -35,5 +35,5 @@ invariant_of-result c =
       omega (arith, same, few),
       c.in_ok-names.ensures.sorted,
       c.in_ok-names.ensures.different,
-      subst (λ n. AreLimits n c.args.tries) (sym (ap (λ x. x.lanes) key)) c.requires.limits,
+      subst (λ n. AreLimits 32 n c.args.tries) (sym (ap (λ x. x.lanes) key)) c.requires.limits,
     )

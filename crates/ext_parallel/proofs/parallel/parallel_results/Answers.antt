@@ -1,4 +1,4 @@
-use Rattle.std.proofs.Common.{◌≡◌, ◌∙◌, ◌<◌, inr, ℕ, All, List, length, map, ap, sym, subst}
+use Rattle.std.proofs.Common.{◌≡◌, ◌∙◌, ◌<◌, inr, ℕ, All, List, length, map, ap, arith, sym, subst}
 use Rattle.std.proofs.lemmas.List.Sorted.{Contains-permutation}
 use Rattle.ext_plan.specs.LockNames.{lock_names}
 use Rattle.ext_lifecycle.specs.Results.{told}
@@ -20,7 +20,8 @@ use Rattle.ext_parallel.proofs.parallel.parallel_results.Goals as goal
 pub results_of-requires-clause-lanes : goal.results_of-requires-clause-lanes
 results_of-requires-clause-lanes g c κs inside =
     let st = c.in_ok-store.store in let lk = c.in_ok-locks.locks in
-    let usable = fresh_usable st lk c.args.lanes c.in_ok-store.store_lanes.items c.in_ok-locks.lock_lanes.items c.requires.lanes c.in_ok-store.ensures.lanes c.in_ok-store.ensures.own_lanes c.in_ok-locks.ensures.lanes in
+    let few = c.requires.lanes in
+    let usable = fresh_usable st lk c.args.lanes c.in_ok-store.store_lanes.items c.in_ok-locks.lock_lanes.items (few.0, omega (arith, few.1)) c.in_ok-store.ensures.lanes c.in_ok-store.ensures.own_lanes c.in_ok-locks.ensures.lanes in
     let P : List (StoreLane StoredValue) → Type 0 = λ l. IsUsable st lk (record { first = l; second = c.in_ok-locks.lock_lanes.items }) in
     let Q : List Lane → Type 0 = λ l. IsUsable st lk (record { first = c.as_mut_slice-all_lanes.result.now; second = l }) in
     subst Q (sym c.as_mut_slice-all_locks.ensures.value) (subst P (sym c.as_mut_slice-all_lanes.ensures.value) usable)

@@ -1,13 +1,18 @@
-use Rattle.std.proofs.Common.{◌++◌, ◌∙◌, ap, sym, string_bytes, take, rules}
+use Rattle.std.proofs.Common.{◌++◌, ◌∙◌, ap, arith, sym, string_bytes, take}
 use Rattle.std.specs.List.{flat_map}
-use Rattle.ext_lifecycle.specs.FaultTexts.{result_view, results_view}
-use Rattle.ext_report.specs.JunitXml.{case_in}
-use Rattle.ext_report.proofs.Lines.{joined, results-more}
+use Rattle.ext_lifecycle.specs.FaultTexts.{result_view}
+use Rattle.ext_report.specs.InnerSuites.{cases_view}
+use Rattle.ext_report.specs.JunitXml.{case_element}
+use Rattle.ext_report.proofs.SuiteCases.{case_in_tree, cases_more}
+use Rattle.ext_report.proofs.Lines.{joined}
 use Rattle.ext_report.proofs.junit_xml.write_cases.Goals as goal
 
-pub loop-node-preserved : goal.loop-node-preserved
-loop-node-preserved c =
-    let tell = case_in c.args.tree.now c.args.suite in
-    let before = flat_map tell (results_view (take c.loop-node.node-index c.args.results.now)) in
-    joined (string_bytes c.args.text.now) (string_bytes c.loop-node.text) _ before (tell (result_view c.node-item.result)) c.loop-node.invariant c.in_ok-write_case_if_in.ensures
-    ∙ ap (λ t. string_bytes c.args.text.now ++ t) (sym (results-more tell c.args.results.now c.loop-node.node-index c.node-item.result (search rules) c.node-item.is))
+pub write_case-requires-clause-in_tree : goal.write_case-requires-clause-in_tree
+write_case-requires-clause-in_tree c = case_in_tree _ c.loop-case.case-index c.args.cases.now c.case-item.result (omega arith) c.case-item.is c.requires.in_tree
+
+pub loop-case-preserved : goal.loop-case-preserved
+loop-case-preserved c =
+    let tell = case_element c.args.tree.now c.args.suite in
+    let before = flat_map tell (cases_view (take c.loop-case.case-index c.args.cases.now)) in
+    joined (string_bytes c.args.text.now) (string_bytes c.loop-case.text) _ before (tell (result_view c.case-item.result.now)) c.loop-case.invariant c.in_ok-write_case.ensures
+    ∙ ap (λ t. string_bytes c.args.text.now ++ t) (sym (cases_more tell c.args.cases.now c.loop-case.case-index c.case-item.result (omega arith) c.case-item.is))

@@ -7,7 +7,7 @@ use Rattle.ext_crew.proofs.jobs.counter.open_counter.Goals as goal
 
 pub new-requires : goal.new-requires
 new-requires g c =
-    let S : List (Slot g.row.T.Denot g.row.O.Denot) → Type 0 = λ xs. Kept c.args.items.items (opening (0 ∷ []) xs (drawn 17 [] [] c.args.items.items)) in
-    let K : List g.row.T.Denot → Type 0 = λ xs. Kept xs (opening (0 ∷ []) c.in_ok-slots.slots.items (drawn 17 [] [] xs)) in
+    let S : List (Slot g.row.T.Denot g.row.O.Denot) → Type 0 = λ xs. Kept c.args.items.items (opening (0 ∷ []) xs (drawn 33 [] [] c.args.items.items)) in
+    let K : List g.row.T.Denot → Type 0 = λ xs. Kept xs (opening (0 ∷ []) c.in_ok-slots.slots.items (drawn 33 [] [] xs)) in
     let same : c.args.items.items ≡ c.of-key.result.value.items = search rules in
     subst K same (subst S (sym c.in_ok-slots.ensures) (opens c.args.items.items))

@@ -12,7 +12,6 @@ import java.util.List;
 import java.util.function.Function;
 import java.util.function.Supplier;
 import org.junit.jupiter.api.extension.ExtensionContext.Namespace;
-import org.junit.jupiter.api.extension.ExtensionContext.Store.CloseableResource;
 import org.junit.jupiter.api.extension.ExtensionContextException;
 import org.junit.platform.engine.support.hierarchical.ThrowableCollector;
 
@@ -34,22 +33,6 @@ public class ExtensionValuesStore {
     public ExtensionValuesStore(ExtensionValuesStore parentStore) {
         parent = parentStore;
         places = parentStore == null ? new Places() : parentStore.places;
-    }
-
-    /** A value of JUnit's that is closeable, as one of ours. */
-    private record Resource(CloseableResource value) implements extensionstore.CloseableResource {
-        @Override
-        public void close() throws Throwable {
-            value.close();
-        }
-    }
-
-    private static Object stored(Object value) {
-        return value instanceof CloseableResource resource ? new Resource(resource) : value;
-    }
-
-    private static Object told(Object value) {
-        return value instanceof Resource resource ? resource.value() : value;
     }
 
     private static List<Object> named(Namespace namespace, Object key) {
@@ -86,7 +69,7 @@ public class ExtensionValuesStore {
 
     private static Object unlessClosed(Supplier<Object> call) {
         try {
-            return told(call.get());
+            return call.get();
         } catch (StoreException refused) {
             if (refused.isClosed()) {
                 return null;
@@ -113,7 +96,7 @@ public class ExtensionValuesStore {
     }
 
     <K, V> Object getOrComputeIfAbsent(Namespace namespace, K key, Function<K, V> defaultCreator) {
-        return told(own().getOrComputeIfAbsent(named(namespace, key), it -> stored(defaultCreator.apply(key))));
+        return own().getOrComputeIfAbsent(named(namespace, key), it -> defaultCreator.apply(key));
     }
 
     <K, V> V getOrComputeIfAbsent(Namespace namespace, K key, Function<K, V> defaultCreator, Class<V> requiredType) {
@@ -121,7 +104,7 @@ public class ExtensionValuesStore {
     }
 
     void put(Namespace namespace, Object key, Object value) {
-        own().put(named(namespace, key), stored(value));
+        own().put(named(namespace, key), value);
     }
 
     Object remove(Namespace namespace, Object key) {

@@ -1,5 +1,6 @@
 package org.junit.jupiter.engine.execution;
 
+import extensionstore.CloseableResource;
 import extensionstore.Context;
 import extensionstore.Contexts;
 import extensionstore.Limits;
@@ -11,6 +12,7 @@ import java.util.List;
 import java.util.Map;
 import java.util.Queue;
 import java.util.concurrent.atomic.AtomicInteger;
+import org.junit.jupiter.api.extension.ExtensionContext;
 
 /**
  * A tree of contexts of a fixed shape, whose places are given out one by one. The property {@code places.shape} has how many children a context
@@ -30,13 +32,17 @@ final class Places {
         if (contexts == null) {
             List<String> ids = new ArrayList<>();
             grow("[root:0]", 0, ids);
-            contexts = Contexts.open(Limits.USUAL, ids);
+            contexts = Contexts.open(Limits.USUAL, ids, Places::resource);
             OPENED.incrementAndGet();
             for (Context context : contexts.all()) {
                 context.getParent().ifPresent(parent -> free.computeIfAbsent(parent, it -> new ArrayDeque<>()).add(context));
             }
         }
         return contexts.root();
+    }
+
+    private static CloseableResource resource(Object value) {
+        return value instanceof ExtensionContext.Store.CloseableResource resource ? resource::close : null;
     }
 
     /** A context below this one that was not given out before. */

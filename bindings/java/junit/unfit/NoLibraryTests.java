@@ -1,0 +1,35 @@
+package unfit;
+
+import extensionstore.Contexts;
+import extensionstore.Limits;
+import extensionstore.StoreException;
+import extensionstore.junit.ProvedStore;
+import java.util.List;
+import org.junit.jupiter.api.Assertions;
+import org.junit.jupiter.api.Test;
+import org.junit.jupiter.api.extension.BeforeEachCallback;
+import org.junit.jupiter.api.extension.ExtendWith;
+import org.junit.jupiter.api.extension.ExtensionContext;
+import org.junit.jupiter.api.extension.ExtensionContext.Namespace;
+import org.junit.jupiter.api.extension.ExtensionContextException;
+
+/** The jar where it has no library for the machine: both ways to a store say so, each time. */
+@ExtendWith(NoLibraryTests.Asking.class)
+class NoLibraryTests {
+    static class Asking implements BeforeEachCallback {
+        @Override
+        public void beforeEach(ExtensionContext context) {
+            String why = Contexts.unavailable().orElseThrow();
+            Assertions.assertTrue(why.startsWith("the native library for this machine, META-INF/native/linux-another/libextension_store.so, is not loaded: "));
+            for (int time = 0; time < 2; time++) {
+                Exception refused = Assertions.assertThrows(ExtensionContextException.class, () -> ProvedStore.of(context, Namespace.GLOBAL));
+                Assertions.assertEquals("no proved store: " + why, refused.getMessage());
+                refused = Assertions.assertThrows(StoreException.class, () -> Contexts.open(Limits.USUAL, List.of("[engine:x]")));
+                Assertions.assertEquals("not opened: " + why, refused.getMessage());
+            }
+        }
+    }
+
+    @Test
+    void isTold() {}
+}

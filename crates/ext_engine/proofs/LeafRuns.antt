@@ -1,0 +1,13 @@
+-- What `open_run` opens, as a run of leaves speaks of it.
+use Rattle.std.proofs.Common.{◌≡◌, ◌*◌, List, length}
+use Rattle.ext_model.specs.Sizes.{most_contexts}
+use Rattle.ext_tree.specs.Trees.{Id, IsTreeWithin}
+use Rattle.ext_store.specs.declared.limits.Limits.{Limits}
+use Rattle.ext_store.specs.Opening.{places_for}
+use Rattle.ext_store.specs.Stores.{AreStoreLimits, StoreView}
+use Rattle.ext_engine.specs.LeafRuns.{IsStoreFor}
+
+pub store_for : (ids : List Id) (limits : Limits) (store : StoreView) → store.tree ≡ ids
+    → store.id.cells.limits ≡ record { cells = length ids * places_for limits.keys; lanes = limits.lanes; numbers = limits.numbers; keep_faults = limits.keep_faults }
+    → length store.id.keys ≡ places_for limits.keys → store.tries ≡ limits.tries → IsTreeWithin (most_contexts limits.size) ids × AreStoreLimits limits.size limits.keys limits.lanes limits.tries limits.numbers → IsStoreFor ids limits store
+store_for ids limits store tree are keys tries within = record { tree = tree; limits_are = are; keys = keys; tries = tries; few = within.0; within = within.1 }

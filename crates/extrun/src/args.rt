@@ -1,0 +1,181 @@
+//! The words, options and flags that the commands take, for clap.
+ghost use Rattle.std.specs.Prelude.{◌≡◌, codes, [], ◌∷◌, false, IfOk};
+ghost use Rattle.clap.specs.Words.{rule_of};
+ghost use Rattle.clap.specs.declared.builder.value_parser.ValueParser.{ValueParser};
+ghost use Rattle.extrun.specs.CommandLine as line;
+ghost use Rattle.extrun.specs.CommandLine.{IsOneOf};
+
+use clap::{Arg, ArgAction, value_parser};
+use std::alloc::{AllocError, Global};
+
+/// The file argument of `run` and `check`.
+pub(crate) fn plan_file<'a>(alloc: Global) -> Arg<'a>
+    ensures rule { rule_of result ≡ line.plan_file }
+    ensures local { result.global ≡ false }
+{
+    Arg::new(alloc, "FILE")
+        .help("The file of the plan; without it, or for -, the plan is read from standard input")
+        .action(ArgAction::Set)
+}
+
+pub(crate) fn lanes_option<'a>(alloc: Global) -> Arg<'a>
+    ensures rule { rule_of result ≡ line.lanes }
+    ensures local { result.global ≡ false }
+{
+    Arg::new(alloc, "lanes")
+        .long("lanes")
+        .value_name("N")
+        .help("How many lanes run the plan, 1 to 16, each at most by one thread")
+        .action(ArgAction::Set)
+        .value_parser(value_parser!(u8).range(1..17))
+        .default_value("4")
+}
+
+pub(crate) fn store_option<'a>(alloc: Global) -> Arg<'a>
+    ensures rule { (value : ValueParser) × IsOneOf value (codes "plain" ∷ codes "cells" ∷ [])
+        × (rule_of result ≡ line.option (codes "store") value (codes "cells")) }
+    ensures local { result.global ≡ false }
+{
+    Arg::new(alloc, "store")
+        .long("store")
+        .value_name("STORE")
+        .help(
+            "The store that the plan runs on: `cells` is for several threads; `plain` is for one, which then runs all",
+        )
+        .action(ArgAction::Set)
+        .value_parser(["plain", "cells"].as_slice())
+        .default_value("cells")
+}
+
+pub(crate) fn report_option<'a>(alloc: Global) -> Arg<'a>
+    ensures rule { (value : ValueParser) × IsOneOf value (codes "text" ∷ codes "json" ∷ codes "junit" ∷ [])
+        × (rule_of result ≡ line.option (codes "report") value (codes "text")) }
+    ensures local { result.global ≡ false }
+{
+    Arg::new(alloc, "report")
+        .long("report")
+        .value_name("FORM")
+        .help(
+            "How the report is written: `text` by lines, `json` as one object a node, by lines, `junit` as JUnit's XML",
+        )
+        .action(ArgAction::Set)
+        .value_parser(["text", "json", "junit"].as_slice())
+        .default_value("text")
+}
+
+/// The flag `--tree` of the command `run`.
+pub(crate) fn report_tree_flag<'a>(alloc: Global) -> Result<Arg<'a>, AllocError>
+    ensures rule { IfOk result (λ arg. rule_of arg ≡ line.tree) }
+    ensures local { IfOk result (λ arg. arg.global ≡ false) }
+{
+    Arg::new(alloc, "tree")
+        .long("tree")
+        .help("Writes the report as an indented tree of the nodes")
+        .action(ArgAction::SetTrue)
+        .conflicts_with("report")
+}
+
+/// The flag `--tree` of the command `check`.
+pub(crate) fn draw_flag<'a>(alloc: Global) -> Arg<'a>
+    ensures rule { rule_of result ≡ line.flag (codes "tree") }
+    ensures local { result.global ≡ false }
+{
+    Arg::new(alloc, "tree")
+        .long("tree")
+        .help("Draws the nodes as an indented tree, with their modes, locks and tests")
+        .action(ArgAction::SetTrue)
+}
+
+pub(crate) fn failures_flag<'a>(alloc: Global) -> Arg<'a>
+    ensures rule { rule_of result ≡ line.flag (codes "failures") }
+    ensures local { result.global ≡ false }
+{
+    Arg::new(alloc, "failures")
+        .long("failures")
+        .help(
+            "Says all faults of the nodes that failed or were aborted once more at the end, on standard error",
+        )
+        .action(ArgAction::SetTrue)
+}
+
+pub(crate) fn progress_flag<'a>(alloc: Global) -> Arg<'a>
+    ensures rule { rule_of result ≡ line.flag (codes "progress") }
+    ensures local { result.global ≡ false }
+{
+    Arg::new(alloc, "progress")
+        .long("progress")
+        .help(
+            "Says on standard error how many nodes have ended and which run, at most once a second",
+        )
+        .action(ArgAction::SetTrue)
+}
+
+pub(crate) fn races_flag<'a>(alloc: Global) -> Arg<'a>
+    ensures rule { rule_of result ≡ line.flag (codes "races") }
+    ensures local { result.global ≡ false }
+{
+    Arg::new(alloc, "races")
+        .long("races")
+        .help("Says instead which nodes may get into each other's way, where they run at once")
+        .action(ArgAction::SetTrue)
+}
+
+/// The flag `--large` of `run` and `check`.
+pub(crate) fn large_flag<'a>(alloc: Global) -> Arg<'a>
+    ensures rule { rule_of result ≡ line.flag (codes "large") }
+    ensures local { result.global ≡ false }
+{
+    Arg::new(alloc, "large")
+        .long("large")
+        .help(
+            "Takes a plan of up to 65,536 nodes and 64 MiB, whose run keeps up to 1,048,575 values; without it 256 nodes, 1 MiB and 65,535",
+        )
+        .action(ArgAction::SetTrue)
+}
+
+pub(crate) fn explain_flag<'a>(alloc: Global) -> Arg<'a>
+    ensures rule { rule_of result ≡ line.flag (codes "explain") }
+    ensures local { result.global ≡ false }
+{
+    Arg::new(alloc, "explain")
+        .long("explain")
+        .help("Says in a second line on standard error what is meant, where the plan is refused")
+        .action(ArgAction::SetTrue)
+}
+
+/// The flag `--explain` of the command `id`.
+pub(crate) fn explain_id_flag<'a>(alloc: Global) -> Arg<'a>
+    ensures rule { rule_of result ≡ line.flag (codes "explain") }
+    ensures local { result.global ≡ false }
+{
+    Arg::new(alloc, "explain")
+        .long("explain")
+        .help("Says in a second line on standard error what is meant, where the text is no id")
+        .action(ArgAction::SetTrue)
+}
+
+/// The flag `--make` of the command `id`.
+pub(crate) fn make_flag<'a>(alloc: Global) -> Arg<'a>
+    ensures rule { rule_of result ≡ line.flag (codes "make") }
+    ensures local { result.global ≡ false }
+{
+    Arg::new(alloc, "make")
+        .long("make")
+        .help(
+            "Makes the id of parts, each TYPE=VALUE, in which any characters may stand, and prints it",
+        )
+        .action(ArgAction::SetTrue)
+}
+
+/// The texts of the command `id`: one id, or with `--make` its parts.
+pub(crate) fn id_texts<'a>(alloc: Global) -> Arg<'a>
+    ensures rule { rule_of result ≡ line.id_texts }
+    ensures local { result.global ≡ false }
+{
+    Arg::new(alloc, "TEXT")
+        .help(
+            "The id, such as '[engine:x]/[class:A]'; with --make its parts, such as engine=x 'class=a/b'",
+        )
+        .required(true)
+        .action(ArgAction::Append)
+}
