@@ -11,8 +11,8 @@ use ext_rows::{CellLimits, row_count};
 use std::alloc::{AllocError, Global};
 
 /// Whether cells of this size may have these limits: at most 1,024 cells for each context, 1 to
-/// `size.lanes()` lanes, 1 to 64 tries and 1 to `size.numbers()` numbers. `Cells::open` refuses all others of the
-/// usual size, and `Cells::open_for` of the large one.
+/// `size.lanes()` lanes, 1 to 64 tries and 1 to `size.numbers()` numbers. `Cells::open` refuses all
+/// others of the usual size, and `Cells::open_for` of the large one.
 pub fn are_limits(size: Size, cells: usize, lanes: usize, tries: u32, numbers: u32) -> bool
     ensures { IsTrue result ↔ AreLimits size cells lanes tries numbers }
 {

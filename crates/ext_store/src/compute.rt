@@ -145,19 +145,16 @@ impl<V: StoreValue + Drop> Store<V> {
     /// Computes as `compute` does, and tries again until neither a running factory nor other lanes
     /// are in the way. While a running factory decides a look-up or the claim, it sleeps until a
     /// claim has ended, and begins anew. Where other lanes were in the way it begins anew at once,
-    /// or draws again if its own factory has run. So it is never refused as `Busy` or `Contended`,
-    /// nor is its value `Unkept` as `Contended`; otherwise it answers as `compute` does. It may
-    /// wait.
+    /// or draws again if its own factory has run. So neither it nor its value is ever refused as
+    /// `Busy` or `Contended`; otherwise it answers as `compute` does. It may wait.
     ///
     /// Before its last attempt it may claim the context's cell and give it up several times, each
     /// time since a factory runs in an ancestor or other lanes were in the way. It holds no claim
     /// while it sleeps, so that no two lanes wait for each other: what it calls with a claim in
     /// hand gets no means to sleep. The factory is called at most once. That its last claim stands
-    /// meanwhile is tested, since no clause can say it. Takes memory for the value, and may take it
-    /// for a key that is new to the lane.
+    /// meanwhile is tested, since no clause can say it. Takes memory as `compute` does.
     ///
-    /// Javadoc `ExtensionContext.Store`, `getOrComputeIfAbsent`, which waits for a running factory
-    /// too.
+    /// Javadoc `ExtensionContext.Store`, `getOrComputeIfAbsent`: it waits for a running factory.
     #[tactic(auto, unfolding(crate::specs::LaneCalls::Frame))]
     pub fn compute_wait<R: Wait, F: FnOnce(&Key) -> Result<V, Fault>>(
         &self,
