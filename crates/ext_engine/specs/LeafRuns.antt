@@ -1,6 +1,6 @@
 -- What `run_leaves` opens, runs and answers. It is the run of a tree (`TreeRun`), over a store and locks that were
 -- opened for it and on lanes that have made no step. Openings, lanes and limits are not from JUnit.
-use Rattle.std.specs.Prelude.{◌≡◌, ℕ, ◌*◌, List, [], length, map, IsPermutation}
+use Rattle.std.specs.Prelude.{◌≡◌, ◌*◌, List, [], length, map, IsPermutation}
 use Rattle.ext_model.specs.declared.look.Fault.{Fault}
 use Rattle.ext_model.specs.Sizes.{most_contexts}
 use Rattle.ext_lifecycle.specs.Results.{ResultOf}
