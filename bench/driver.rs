@@ -60,8 +60,17 @@ pub trait Peer: Sync + Sized {
 }
 
 const LOOKS: u32 = 200_000;
-const VALUES: u32 = 65_535;
+const PUTS: u32 = 4_095;
 const KEYS: u32 = 16;
+
+/// For how many values a store of so many contexts is opened.
+fn values_for(contexts: usize) -> u32 {
+    if contexts > 256 {
+        1_048_575
+    } else {
+        65_535
+    }
+}
 
 fn key<P: Peer>(number: u32) -> P::Key {
     P::Key::from(Key {
@@ -100,6 +109,17 @@ fn look_up<P: Peer>(store: &P, context: usize, key: &P::Key, there: bool) -> u64
     u64::from(LOOKS)
 }
 
+/// Looks up from each context in turn.
+fn look_up_in_turn<P: Peer>(store: &P, last: usize, key: &P::Key) -> u64 {
+    let (mut right, mut context) = (true, last);
+    for _ in 0..10 * LOOKS {
+        right &= black_box(store.get(context, key)).is_some();
+        context = if context == 0 { last } else { context - 1 };
+    }
+    assert!(right);
+    u64::from(10 * LOOKS)
+}
+
 fn put_over<P: Peer>(store: &P, context: usize, key: &P::Key, times: u32) -> u64 {
     for value in 0..times {
         assert!(store.put(context, key, resource(value)));
@@ -122,11 +142,11 @@ fn compute_often<P: Peer>(store: &P, context: usize, key: &P::Key) -> u64 {
     u64::from(LOOKS)
 }
 
-fn opening<P: Peer>() -> Span {
-    let (parents, keys) = (vec![0; 256], keys::<P>(KEYS));
+fn opening<P: Peer>(contexts: usize) -> Span {
+    let (parents, keys) = (vec![0; contexts], keys::<P>(KEYS));
     let mut store = None;
     let span = measured(Whose::Thread, || {
-        store = Some(P::open(&parents, &keys, VALUES));
+        store = Some(P::open(&parents, &keys, values_for(contexts)));
         1
     });
     black_box(&store);
@@ -135,7 +155,7 @@ fn opening<P: Peer>() -> Span {
 
 fn computing<P: Peer>() -> Span {
     let names = keys::<P>(KEYS);
-    let store = P::open(&vec![0; 256], &names, VALUES);
+    let store = P::open(&vec![0; 256], &names, values_for(256));
     let mut closed = 0;
     measured(Whose::Thread, || {
         for context in (1..256).rev() {
@@ -158,8 +178,11 @@ fn work<P: Peer>(store: &P, case: &str, writes: bool, deepest: usize) -> Option<
         "get-root-3-beside-other" if writes => put_over(store, 0, &other, 60_000),
         "get-root-3-beside-same" if writes => put_over(store, 0, &one, 60_000),
         "get-absent-3" => look_up(store, deepest, &one, false),
-        "put-over" => put_over(store, deepest, &one, VALUES / 16),
-        "put-remove" => put_and_remove(store, deepest, &one, VALUES / 16),
+        "get-root-numbered-256" | "get-root-numbered-65536" => {
+            look_up_in_turn(store, deepest, &one)
+        }
+        "put-over" => put_over(store, deepest, &one, PUTS),
+        "put-remove" => put_and_remove(store, deepest, &one, PUTS),
         "compute-hot" => compute_often(store, deepest, &one),
         _ => look_up(store, deepest, &one, true),
     });
@@ -167,12 +190,22 @@ fn work<P: Peer>(store: &P, case: &str, writes: bool, deepest: usize) -> Option<
 }
 
 fn batch<P: Peer>(case: &str, threads: usize) -> Vec<Span> {
-    let parents = chain(if case == "get-root-16" { 16 } else { 3 });
+    let parents = match case {
+        "get-root-16" => chain(16),
+        "get-root-numbered-256" => vec![0; 256],
+        "get-root-numbered-65536" => vec![0; 65_536],
+        _ => chain(3),
+    };
     let deepest = parents.len() - 1;
-    let store = P::open(&parents, &keys::<P>(2), VALUES);
+    let store = P::open(&parents, &keys::<P>(2), values_for(parents.len()));
     match case {
         "get-absent-3" => {}
         "get-own-3" | "put-over" => assert!(store.put(deepest, &key::<P>(0), resource(1))),
+        "get-root-numbered-256" | "get-root-numbered-65536" => {
+            assert!(store.put(0, &key::<P>(0), resource(1)));
+            let other = key::<P>(1);
+            assert!((0..parents.len()).all(|it| store.put(it, &other, resource(1))));
+        }
         _ => assert!(store.put(0, &key::<P>(0), resource(1))),
     }
     let beside = case.contains("-beside-");
@@ -189,7 +222,8 @@ fn round<P: Peer>(case: &str, threads: usize, limit: Duration) -> Spent {
     let mut spent = Spent::default();
     while spent.wall < limit {
         match case {
-            "open-256x16" => spent.add(&[opening::<P>()]),
+            "open-256x16" => spent.add(&[opening::<P>(256)]),
+            "open-65536x16" => spent.add(&[opening::<P>(65_536)]),
             "compute-fresh-and-close" => spent.add(&[computing::<P>()]),
             _ => spent.add(&batch::<P>(case, threads)),
         }

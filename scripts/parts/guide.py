@@ -15,7 +15,7 @@ import tempfile
 
 TOP = pathlib.Path(__file__).resolve().parent.parent.parent
 GUIDE = "docs/GUIDE.md"
-PAGES = [GUIDE, "docs/JUNIT.md", "bindings/README.md"]
+PAGES = [GUIDE, "docs/JUNIT.md", "docs/RECIPES.md", "bindings/README.md"]
 COMMANDS = "sh"
 OTHERS = [COMMANDS, "java"]
 HELP = "examples/help.report"

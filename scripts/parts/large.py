@@ -67,6 +67,34 @@ def forms(cases, classes, tests):
     cases.passed, cases.failed = cases.passed + all(right), cases.failed + (not all(right))
 
 
+def one_place(count, steps, mode="concurrent", above=""):
+    """A plan of so many tests with these steps below the root, or below a class with these fields."""
+    id = "[a:b]/[d:e]" if above else "[a:b]"
+    plan = ROOT + (f'[[node]]\nid = "{id}"\n{above}' if above else "")
+    return plan + "".join(f'[[node]]\nid = "{id}/[c:{number}]"\nmode = "{mode}"\ntest = {steps}\n' for number in range(1, count + 1))
+
+
+def races(cases):
+    """Checks for races that must not take longer the more tests touch one place."""
+    alike = one_place(65_534, ["compute a x up 1", "want a x"])
+    other = '[[node]]\nid = "[a:b]/[c:65535]"\nmode = "concurrent"\ntest = ["compute a y up 1"]\n'
+    pairs = "".join(f"compute a of [a:b]/[c:{number}] and compute a of [a:b]/[c:65535] in [a:b]\n" for number in range(1, 21))
+    a_class = 'mode = "concurrent"\nafter_all = [["remove a"]]\n'
+    plans = {
+        "compute the same at one place": (alike + other.replace("a y", "a x"), "no races\n"),
+        "compute there, one of them something else": (alike + other, f"{pairs}and more\n"),
+        "change one place, one after another": (one_place(65_535, ["put a x up 1"], "same_thread"), "no races\n"),
+        "do so in a class beside others": (one_place(65_534, ["put a x up 1"], "same_thread", 'mode = "concurrent"\n'), "no races\n"),
+        "compute in a class that removes at its end": (one_place(65_534, ["compute a x up 1"], above=a_class), "no races\n"),
+        "put at one place": (one_place(65_535, ["put a x up 1"]), "".join(f"put a of [a:b]/[c:1] and put a of [a:b]/[c:{number}] in [a:b]\n" for number in range(2, 22)) + "and more\n"),
+    }
+    for name, (plan, wanted) in plans.items():
+        ran = cases.ran(["check", "--large", "--races"], plan, SECONDS)
+        right = (ran.returncode, ran.stdout, ran.stderr) == (wanted != "no races\n", wanted.encode(), b"")
+        print(f"case tests that {name}: {'as it has to be' if right else f'NOT as it has to be: {ran.stdout[:200]}'}")
+        cases.passed, cases.failed = cases.passed + right, cases.failed + (not right)
+
+
 def filled(plan, count):
     """The plan with a comment behind it, so that it has so many bytes."""
     return plan + "#" * (count - len(plan))
@@ -96,5 +124,7 @@ def main(program, _words):
         cases.run(f"65,536 numbers, {' '.join(words)}", ["run", *words], puts(65_536), nodes_report(CHAIN_IDS, 1))
         cases.run(f"1,048,575 numbers, {' '.join(words)}", ["run", *words], puts(1_048_575), nodes_report(CHAIN_IDS, 1))
         cases.run(f"1,048,576 puts, {' '.join(words)}", ["run", *words], puts(1_048_576), numbers_full("put a"))
-    forms(cases, 64, 64)
+    forms(cases, 250, 250)
+    forms(cases, 20_000, 2)
+    races(cases)
     return cases.passed, cases.failed

@@ -1,16 +1,17 @@
 -- Closes that are asked again: those that were refused, and then one that is not.
-use Rattle.std.proofs.Common.{◌≡◌, ◌≤◌, ℕ, Bool, List, [], ◌∷◌, length, get_or, refl, ap, sym, subst, ◌∙◌, arith, All}
+use Rattle.std.proofs.Common.{◌≡◌, ◌≤◌, ℕ, Bool, List, [], ◌∷◌, length, get_or, refl, sym, subst, ◌∙◌, arith, All}
 use Rattle.std.specs.Prelude.{Ok}
-use Rattle.std.specs.List.{AllZip, FoldsTo}
+use Rattle.std.specs.List.{FoldsTo}
 use Rattle.ext_history.specs.Histories.{seen_by}
 use Rattle.ext_model.specs.History.{IsLegal}
-use Rattle.ext_cells.specs.Lanes.{CellsId, Lane}
-use Rattle.ext_store.specs.Stores.{StoreView, StoreLane, CloserView, IsLaneOf, StillKeeps}
+use Rattle.ext_cells.specs.Lanes.{CellsId}
+use Rattle.ext_store.specs.Stores.{StoreView, StoreLane, CloserView, IsLaneOf}
 use Rattle.ext_model.specs.declared.closed.Closed.{Closed}
 use Rattle.ext_closing.specs.declared.fault.CloseFault.{CloseFault}
-use Rattle.ext_closing.specs.Lanes.{OnlyFirstSteps, first_lane, with_first}
+use Rattle.ext_closing.specs.Lanes.{first_lane}
 use Rattle.ext_closing.specs.Closing.{Answer}
 use Rattle.ext_closing.specs.Closes.{Closes, IsRefused, ClosesAtLast}
+use Rattle.ext_closing.proofs.InHand.{keeps_on, only_first_on}
 use Rattle.ext_closing.proofs.Sealing.{makes_both}
 
 -- ---- the lanes
@@ -19,21 +20,6 @@ module _ {V : Type 0} where
   first_own : (store : StoreView) (lanes : List (StoreLane V)) → All (IsLaneOf store.id) lanes → (first_lane store lanes).cells ≡ store.id.cells
   first_own store [] all = refl
   first_own store (lane ∷ others) all = (all 0 lane (omega arith)).cells
-
-  with_first-twice : (one two : Lane) (lanes : List (StoreLane V)) → with_first two (with_first one lanes) ≡ with_first two lanes
-  with_first-twice one two [] = refl
-  with_first-twice one two (lane ∷ others) = refl
-
-  first_steps : (a b c : List (StoreLane V)) → OnlyFirstSteps a b → OnlyFirstSteps b c → OnlyFirstSteps a c
-  first_steps a b c one two = (two.0, two.1 ∙ ap (with_first two.0) one.1 ∙ with_first-twice one.0 two.0 a)
-
-  keeps_on : (a b c : List (StoreLane V)) → AllZip StillKeeps a b → AllZip StillKeeps b c → AllZip StillKeeps a c
-  keeps_on [] [] [] one two = tt
-  keeps_on [] [] (z ∷ c) one two = absurd two
-  keeps_on [] (y ∷ b) c one two = absurd one
-  keeps_on (x ∷ a) [] c one two = absurd one
-  keeps_on (x ∷ a) (y ∷ b) [] one two = absurd two
-  keeps_on (x ∷ a) (y ∷ b) (z ∷ c) one two = ((λ number keeps. two.0 number (one.0 number keeps)), keeps_on a b c one.1 two.1)
 
 -- ---- the closes
 
@@ -57,7 +43,7 @@ module _ {V A : Type 0} (is_closeable : V → Bool) (gives : A → ℕ → V →
       unjoined = tt;
       handed_back = tt;
       not_called = tt;
-      lanes = first_steps before between after refused.lanes close.lanes;
+      lanes = only_first_on before between after refused.lanes close.lanes;
       own_lanes = close.own_lanes;
       kept = keeps_on before between after refused.kept close.kept;
     }

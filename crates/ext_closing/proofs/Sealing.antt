@@ -1,15 +1,13 @@
 -- The seals of a context, one after the other: what was sealed stays, and the numbers are those of all seals so far.
-use Rattle.std.proofs.Common.{◌≡◌, ◌≢◌, ◌<◌, ◌≤◌, inl, inr, ℕ, zero, suc, ◌+◌, ◌*◌, ◌-◌, ◌/◌, ◌%◌, true, false, List, [], ◌∷◌, ◌++◌, length, map, refl, ap, sym, subst, ◌∙◌, arith, append-nil, Option, None, Some, nat_eq, add-one, Contains}
-use Rattle.std.specs.Prelude.{if◌then◌else◌, Ok, Err}
+use Rattle.std.proofs.Common.{◌≡◌, ◌≢◌, ◌<◌, ◌≤◌, inl, inr, ℕ, zero, suc, ◌+◌, ◌*◌, ◌-◌, ◌/◌, ◌%◌, true, false, List, [], ◌∷◌, ◌++◌, length, refl, ap, sym, subst, ◌∙◌, arith, Option, None, Some, nat_eq, add-one, Contains}
+use Rattle.std.specs.Prelude.{if◌then◌else◌, Result, Ok, Err, IfOk, IfErr}
 use Rattle.std.specs.Int.{bit_at}
-use Rattle.std.specs.List.{IsDistinct}
 use Rattle.std.proofs.Common.{below_more}
 use Rattle.std.proofs.lemmas.Bool.Decides.{nat_tests}
 use Rattle.std.proofs.lemmas.Nat.Bits.{bit_at_lowest, bit_at-suc, bit_at-zero}
 use Rattle.std.proofs.lemmas.List.{map-append}
 use Rattle.std.proofs.lemmas.List.Elements.{Contains-append_cases, Contains-append_right, Contains-push_cases}
 use mathlib.Core.List.{IsPrefix}
-use Rattle.ext_model.specs.declared.event.Act.{Act}
 use Rattle.ext_model.specs.declared.event.Act.TheVariants.{Seal}
 use Rattle.ext_model.specs.declared.event.Event.{Event}
 use Rattle.ext_model.specs.declared.slot.Slot.{Slot}
@@ -33,13 +31,12 @@ use Rattle.ext_model.proofs.Remaining.{stays_closed, remaining_stays}
 use Rattle.ext_cells.specs.Lanes.{CellsId, Lane}
 use Rattle.ext_cells.specs.CellCalls.{IsUnmarked}
 use Rattle.ext_store.specs.Stores.{StoreView, StoreLane, IsLaneOf, StillKeeps, cell_in}
-use Rattle.ext_store.specs.LaneCalls.{Stays, steps_of}
 use Rattle.ext_store.specs.ContextCalls.{SealsCell, SealsUnused, IsBusyThere, seals_of}
-use Rattle.ext_closing.specs.Sealing.{slots_seen, AreSealed, IsUnused, SealOvertaken, MakesSeals, StopsAt}
+use Rattle.ext_closing.specs.Sealing.{numbers_left, slots_seen, AreSealed, IsUnused, SealOvertaken, MakesSeals, StopsAt}
 use Rattle.ext_closing.specs.declared.fault.CloseFault.{CloseFault}
 use Rattle.ext_closing.specs.declared.fault.CloseFault.TheVariants.{Busy, Contended, Unjoined}
 use Rattle.ext_closing.specs.InnerSteps.{AreUnused, SealsNext, SealsOn, SealedSoFar, SealingEnds}
-use Rattle.ext_closing.proofs.Counting.{fronts_within, one_more_within}
+use Rattle.ext_closing.proofs.Counting.{one_more_within}
 
 -- ---- one seal
 
@@ -233,6 +230,22 @@ module _ (store : StoreView) (context : ℕ) (before lane : Lane) (numbers : Lis
       subst (λ keys. SealedSoFar store context keys before lane numbers) (let e : key + 1 + n ≡ key + suc n = omega arith in e)
       (all_unused n (key + 1) (λ other past below. unused other (omega (arith, past)) (omega (arith, below))) next)
 
+-- ---- marks
+
+-- a key of the block whose mark is not set
+unmarked_at : (block marks place : ℕ) → place < 32 → bit_at marks place ≡ 0 → IsUnmarked block marks (block * 32 + place)
+unmarked_at block marks place less zero_is =
+    let same : place ≡ (block * 32 + place) % 32 = omega (arith, less) in
+    record { block_is = omega (arith, less); mark = subst (λ k. bit_at marks k ≡ 0) same zero_is }
+
+-- no key from here on is marked, where no mark is left
+none_left : (block marks left place : ℕ) → left ≡ 0 → ((i : ℕ) → bit_at left i ≡ bit_at marks (place + i)) → (key : ℕ) → block * 32 + place ≤ key → key < block * 32 + 32 → IsUnmarked block marks key
+none_left block marks left place none bits key past below =
+    let i = key - (block * 32 + place) in
+    let bit : bit_at marks (place + i) ≡ 0 = sym (bits i) ∙ ap (λ n. bit_at n i) none ∙ bit_at-zero i in
+    let same : place + i ≡ key % 32 = omega (arith, past, below) in
+    record { block_is = omega (arith, past, below); mark = subst (λ k. bit_at marks k ≡ 0) same bit }
+
 -- ---- a call that goes on
 
 module _ (store : StoreView) (context : ℕ) (between after : Lane) (same : after.cells ≡ between.cells) (legal : IsLegal between.cells.limits (seen_by after.view)) where
@@ -255,6 +268,16 @@ module _ (store : StoreView) (context : ℕ) (between after : Lane) (same : afte
         ];
         numbers_are = so_far.numbers_are ∙ sym (still_remaining store context limits between after on legal keys so_far.sealed);
       }
+
+  -- where none of them is marked, that is all
+  pub with_all_unused : (block marks : ℕ) → block * 32 + 32 ≤ length store.id.keys → marks ≡ 0 → SealsUnused store context block marks between after → (before : Lane) (numbers : List ℕ)
+      → SealedSoFar store context (block * 32) before between numbers → SealedSoFar store context ((block + 1) * 32) before after numbers
+  with_all_unused block marks below none unused before numbers so_far =
+      let up : block * 32 + 32 ≡ (block + 1) * 32 = omega arith in
+      let bits : (i : ℕ) → bit_at marks i ≡ bit_at marks (0 + i) = λ i. ap (bit_at marks) (let e : i ≡ 0 + i = omega arith in e) in
+      subst (λ n. SealedSoFar store context n before after numbers) up
+      (all_unused store context before after numbers 32 (block * 32) (λ key past under. unused.unused key (none_left block marks marks 0 none bits key (omega (arith, past)) under))
+      (with_unused block marks (block * 32) below unused before numbers so_far))
 
   module _ (key : ℕ) (below : key < length store.id.keys) (before : Lane) (numbers : List ℕ) (so_far : SealedSoFar store context key before between numbers) where
     -- after the seal of the next key
@@ -298,22 +321,6 @@ module _ (store : StoreView) (context : ℕ) (between after : Lane) (same : afte
         subst (λ k. SealingEnds store context before after (Some (Contended k))) (sym next.0) (record { stops = stops (SealOvertaken store context key) next.1; sealed = e.0; made = e.1 })
     refused_end (Unjoined number) next = absurd next
 
--- ---- marks
-
--- a key of the block whose mark is not set
-unmarked_at : (block marks place : ℕ) → place < 32 → bit_at marks place ≡ 0 → IsUnmarked block marks (block * 32 + place)
-unmarked_at block marks place less zero_is =
-    let same : place ≡ (block * 32 + place) % 32 = omega (arith, less) in
-    record { block_is = omega (arith, less); mark = subst (λ k. bit_at marks k ≡ 0) same zero_is }
-
--- no key from here on is marked, where no mark is left
-none_left : (block marks left place : ℕ) → left ≡ 0 → ((i : ℕ) → bit_at left i ≡ bit_at marks (place + i)) → (key : ℕ) → block * 32 + place ≤ key → key < block * 32 + 32 → IsUnmarked block marks key
-none_left block marks left place none bits key past below =
-    let i = key - (block * 32 + place) in
-    let bit : bit_at marks (place + i) ≡ 0 = sym (bits i) ∙ ap (λ n. bit_at n i) none ∙ bit_at-zero i in
-    let same : place + i ≡ key % 32 = omega (arith, past, below) in
-    record { block_is = omega (arith, past, below); mark = subst (λ k. bit_at marks k ≡ 0) same bit }
-
 -- ---- a block of the keys
 
 -- a block up to this place, and the marks that are left
@@ -322,35 +329,32 @@ pub record BlockSoFar {V : Type 0} (store : StoreView) (context block marks left
   pub unused : AreUnused store context block marks lane.cells
   pub bits : (i : ℕ) → bit_at left i ≡ bit_at marks (place + i)
   pub few : length numbers ≤ block * 32 + place
-  pub steps : length lane.cells.view.fronts ≤ length first.cells.view.fronts + 1 + place * (store.tries + 1)
+  pub steps : length lane.cells.view.fronts ≤ length first.cells.view.fronts + place * (store.tries + 1)
   pub known : lane.known ≡ first.known
   pub faults : lane.faults ≡ first.faults
   pub keys : lane.keys ≡ first.keys
   pub lane_is : IsLaneOf store.id lane
   pub kept : StillKeeps first lane
 
-legal_as : (before after : Lane) → after.cells ≡ before.cells → IsLegal after.cells.limits (seen_by after.view) → IsLegal before.cells.limits (seen_by after.view)
+pub legal_as : (before after : Lane) → after.cells ≡ before.cells → IsLegal after.cells.limits (seen_by after.view) → IsLegal before.cells.limits (seen_by after.view)
 legal_as before after same legal = subst (λ (id : CellsId). IsLegal id.limits (seen_by after.view)) same legal
 
 module _ {V : Type 0} (store : StoreView) (context block marks : ℕ) (below : block * 32 + 32 ≤ length store.id.keys) (first : StoreLane V) (mine : IsLaneOf store.id first) (old : List ℕ) where
-  -- after the step for the keys that nobody used
-  pub block_begun : (lane : StoreLane V) → IsLegal lane.cells.cells.limits (seen_by lane.cells.view) → SealsUnused store context block marks first.cells lane.cells → Stays store.id [] first lane
-      → lane.keys ≡ first.keys → steps_of first.cells lane.cells ≡ 1 → length old ≤ block * 32 → BlockSoFar store context block marks marks 0 first lane old old
-  block_begun lane legal unused stays keys one few =
-      let same = stays.lane.cells ∙ sym mine.cells in
+  -- before any of them
+  pub block_begun : AreUnused store context block marks first.cells → length old ≤ block * 32 → BlockSoFar store context block marks marks 0 first first old old
+  block_begun unused few =
       let up : block * 32 ≡ block * 32 + 0 = omega arith in
       record {
-        so_far = λ before so_far. subst (λ n. SealedSoFar store context n before lane.cells old) up
-            (with_unused store context first.cells lane.cells same (legal_as first.cells lane.cells same legal) block marks (block * 32) below unused before old so_far);
-        unused = λ key none. unused.unused key none;
+        so_far = λ before so_far. subst (λ n. SealedSoFar store context n before first.cells old) up so_far;
+        unused = unused;
         bits = λ i. ap (bit_at marks) (let e : i ≡ 0 + i = omega arith in e);
         few = omega (arith, few);
-        steps = let s = fronts_within first.cells lane.cells 1 (omega (arith, one)) in omega (arith, s);
-        known = stays.known;
-        faults = stays.faults;
-        keys = keys;
-        lane_is = stays.lane;
-        kept = stays.kept;
+        steps = omega arith;
+        known = refl;
+        faults = refl;
+        keys = refl;
+        lane_is = mine;
+        kept = λ number kept. kept;
       }
 
   module _ (left place : ℕ) (less : place < 32) (lane : StoreLane V) (numbers : List ℕ) (h : BlockSoFar store context block marks left place first lane old numbers) where
@@ -425,3 +429,22 @@ module _ {V : Type 0} (store : StoreView) (context block marks : ℕ) (below : b
       subst (λ n. SealedSoFar store context n before lane.cells numbers) end
       (all_unused store context before lane.cells numbers (32 - place) (block * 32 + place)
       (λ key past under. h.unused key (none_left block marks left place none h.bits key past (omega (arith, under, end)))) (h.so_far before so_far))
+
+-- ---- all keys
+
+module _ (store : StoreView) (context keys : ℕ) (before after : Lane) (numbers : List ℕ) (all : keys ≡ length store.id.keys) (so_far : SealedSoFar store context keys before after numbers) where
+  pub all_ended : SealingEnds store context before after None
+  all_ended = record { stops = tt; sealed = subst (λ n. AreSealed store context n after) all so_far.sealed; made = so_far.made }
+
+  pub all_left : numbers ≡ numbers_left store context after
+  all_left = subst (λ n. numbers ≡ remaining (slots_seen store context after) n) all so_far.numbers_are
+
+-- ---- of a result
+
+pub if_ok : {A E : Type 0} {P Q : A → Type 0} (r : Result A E) → ((a : A) → P a → Q a) → IfOk r P → IfOk r Q
+if_ok (Ok a) so is = so a is
+if_ok (Err e) so is = tt
+
+pub if_err : {A E : Type 0} {P Q : E → Type 0} (r : Result A E) → ((e : E) → P e → Q e) → IfErr r P → IfErr r Q
+if_err (Ok a) so is = tt
+if_err (Err e) so is = so e is

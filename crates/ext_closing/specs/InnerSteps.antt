@@ -1,13 +1,17 @@
 -- The parts of a close. No public contract cites it.
-use Rattle.std.specs.Prelude.{ℕ, ◌≡◌, ◌≤◌, List, Contains, Option, None, Some, Result, Ok, Err}
+use Rattle.std.specs.Prelude.{ℕ, ◌≡◌, ◌≤◌, ◌+◌, ◌*◌, ◌/◌, List, [], length, Contains, Option, None, Result, Ok, Err}
+use Rattle.std.specs.List.{AllZip}
 use Rattle.ext_model.specs.Closing.{remaining}
 use Rattle.ext_cells.specs.Lanes.{Lane}
 use Rattle.ext_cells.specs.CellCalls.{IsUnmarked}
-use Rattle.ext_store.specs.Stores.{StoreView}
+use Rattle.ext_store.specs.Stores.{StoreView, StoreLane, StillKeeps}
 use Rattle.ext_store.specs.ContextCalls.{SealsCell, IsBusyThere}
 use Rattle.ext_closing.specs.declared.fault.CloseFault.{CloseFault}
 use Rattle.ext_closing.specs.declared.fault.CloseFault.TheVariants.{Busy, Contended, Unjoined}
-use Rattle.ext_closing.specs.Sealing.{slots_seen, AreSealed, IsUnused, SealOvertaken, MakesSeals, StopsBy, keys_sealed}
+use Rattle.ext_closing.specs.declared.seals.Marked.{Marked}
+use Rattle.ext_closing.specs.Lanes.{OnlyFirstSteps, first_lane}
+use Rattle.ext_closing.specs.Sealing.{numbers_left, slots_seen, AreSealed, IsUnused, SealOvertaken}
+use Rattle.ext_closing.specs.Sealing.{MakesSeals, StopsBy, keys_sealed}
 
 -- What the seal of one key answers, with the key if it is refused.
 abbrev pub SealsNext : StoreView → ℕ → ℕ → Lane → Lane → Result (Option ℕ) CloseFault → Type 0
@@ -47,3 +51,29 @@ abbrev pub IsOfKey : CloseFault → Type 0
 IsOfKey (Busy key) = Unit {0}
 IsOfKey (Contended key) = Unit {0}
 IsOfKey (Unjoined number) = ⊥
+
+-- ---- the first block that has a mark
+
+-- The block is one of the context's, and all its keys that are not marked are sealed, and nobody used them.
+pub record IsMarked (store : StoreView) (context : ℕ) (lane : Lane) (marked : Marked) : Type 0 where
+  pub within : marked.block * 32 + 32 ≤ length store.id.keys
+  pub unused : AreUnused store context marked.block marked.marks lane
+
+-- The blocks before this one had no mark, and so all their keys are sealed. Each block took one step.
+pub record BeginsAt (store : StoreView) (context : ℕ) (before after : Lane) (marked : Marked) : Type 0 where
+  pub is_marked : IsMarked store context after marked
+  pub so_far : SealedSoFar store context (marked.block * 32) before after []
+  pub steps : length after.view.fronts ≤ length before.view.fronts + (marked.block + 1)
+
+-- No block had a mark: all keys are sealed, and no number remains. Each block took one step.
+pub record EndsEmpty (store : StoreView) (context : ℕ) (before after : Lane) : Type 0 where
+  pub ends : SealingEnds store context before after None
+  pub none_left : numbers_left store context after ≡ []
+  pub steps : length after.view.fronts ≤ length before.view.fronts + length store.id.keys / 32
+
+-- The first of the lanes in hand has come to this block, and nothing else has happened.
+pub record Begun {V : Type 0} (store : StoreView) (context : ℕ) (before after : List (StoreLane V)) (marked : Marked)
+    : Type 0 where
+  pub so_far : SealedSoFar store context (marked.block * 32) (first_lane store before) (first_lane store after) []
+  pub lanes : OnlyFirstSteps before after
+  pub kept : AllZip StillKeeps before after

@@ -1,21 +1,19 @@
 //! The close of a context.
-ghost use Rattle.std.specs.Prelude.{ℕ, ◌≡◌, ◌≤◌, ◌<◌, ◌+◌, ◌*◌, ◌/◌, List, [], ◌∷◌, ◌++◌, length, slice_index_or, is_some, true, false, All, IfErr, IfNone, IfOk, IfSome, Some};
+ghost use Rattle.std.specs.Prelude.{ℕ, ◌≡◌, ◌≤◌, ◌<◌, ◌+◌, ◌-◌, ◌*◌, ◌/◌, List, [], ◌∷◌, ◌++◌, length, slice_index_or, is_some, true, false, All, IfErr, IfNone, IfSome};
 ghost use Rattle.std.specs.List.{AllZip};
-ghost use Rattle.ext_history.specs.Histories.{seen_by};
-ghost use Rattle.ext_model.specs.History.{IsLegal};
 ghost use Rattle.ext_model.specs.Closing.{IsFalling};
 ghost use Rattle.ext_values.specs.Known.{known_at};
 ghost use Rattle.ext_store.specs.Stores.{IsCloserOf, IsLaneOf, StillKeeps};
 ghost use Rattle.ext_store.specs.LaneCalls.{steps_of};
 ghost use Rattle.ext_closing.specs.Lanes.{first_lane, IsGreatestUnjoined, IsJoined, IsKnown, IsUnknown};
-ghost use Rattle.ext_closing.specs.Sealing.{fault_of, numbers_left};
 ghost use Rattle.ext_closing.specs.Closing.{ClosesNumbers, fault_in};
 ghost use Rattle.ext_closing.specs.Closes.{Closes};
-ghost use Rattle.ext_closing.specs.InnerSteps.{IsOfKey, SealedSoFar, SealingEnds, SealsNext, SealsOn};
+ghost use Rattle.ext_closing.specs.InnerSteps.{Begun, IsMarked};
 
+use crate::seals::{Marked, first_marked, seal_from};
 use crate::{CloseAction, CloseFault};
-use ext_model::{Closed, FallingNumbers, Fault, KeyNo};
-use ext_store::{Closer, Lane, Refusal, Store, StoreValue};
+use ext_model::{Closed, FallingNumbers, Fault};
+use ext_store::{Closer, Lane, Store, StoreValue};
 
 /// Closes the closer's context: seals its keys, and then closes its remaining closeable values, the
 /// latest first.
@@ -64,35 +62,43 @@ pub fn close<V: StoreValue + Drop, A: CloseAction<V>>(
     ensures own_lanes { All (IsLaneOf store.now.id) lanes.new }
     ensures kept { AllZip StillKeeps lanes.old lanes.new }
 {
+    // The lane that seals.
+    let first = 0;
+    let Some(marked) = first_marked(store, &closer, &mut lanes[first]) else {
+        return Ok(Closed::new());
+    };
     if store.key_count() <= 64 {
-        close_within::<V, A, 64>(store, closer, lanes, action)
+        close_from::<V, A, 64>(store, closer, lanes, action, marked)
     } else {
-        close_within::<V, A, 1024>(store, closer, lanes, action)
+        close_from::<V, A, 1024>(store, closer, lanes, action, marked)
     }
 }
 
-// The same, with room for so many numbers: a new list costs the more the more it has room for.
-fn close_within<V: StoreValue + Drop, A: CloseAction<V>, const ROOM: usize>(
+// Closes from the first block on that has a mark, with room for so many numbers: a new list costs
+// the more the more it has room for, so the close of a context that nobody used makes none.
+#[inline(never)]
+fn close_from<V: StoreValue + Drop, A: CloseAction<V>, const ROOM: usize>(
     store: &Store<V>,
     closer: Closer,
     lanes: &mut [Lane<V>],
     action: &mut A,
+    marked: Marked,
 ) -> Result<Closed, (Closer, CloseFault)>
     requires room { length store.now.id.keys ≤ ROOM }
     requires few { ROOM ≤ 1024 }
     requires lanes { 1 ≤ length lanes.old }
     requires own_lanes { All (IsLaneOf store.now.id) lanes.old }
     requires closer { IsCloserOf store.now closer }
-    ensures happened { Closes V.is_closeable A.close_gives store.now closer lanes.old action.old result lanes.new action.new }
-    ensures steps { steps_of (first_lane store.now lanes.old) (first_lane store.now lanes.new) ≤ length store.now.id.keys * (store.now.tries + 1) + length store.now.id.keys / 32 }
+    requires marked { IsMarked store.now closer.context (first_lane store.now lanes.old) marked }
+    ensures happened { (before : _) → Begun store.now closer.context before lanes.old marked → Closes V.is_closeable A.close_gives store.now closer before action.old result lanes.new action.new }
+    ensures steps { steps_of (first_lane store.now lanes.old) (first_lane store.now lanes.new) ≤ length store.now.id.keys * (store.now.tries + 1) + (length store.now.id.keys / 32 - (marked.block + 1)) }
     ensures handed_back { IfErr result (λ e. e.0 ≡ closer) }
     ensures own_lanes { All (IsLaneOf store.now.id) lanes.new }
     ensures kept { AllZip StillKeeps lanes.old lanes.new }
 {
-    // The lane that seals.
-    let first = 0;
+    let sealing = 0;
     let mut numbers: FallingNumbers<ROOM> = FallingNumbers::new();
-    if let Err(why) = seal_all(store, &closer, &mut lanes[first], &mut numbers) {
+    if let Err(why) = seal_from(store, &closer, &mut lanes[sealing], marked, &mut numbers) {
         return Err((closer, why));
     }
     let remaining = numbers.as_slice();
@@ -100,116 +106,6 @@ fn close_within<V: StoreValue + Drop, A: CloseAction<V>, const ROOM: usize>(
         return Err((closer, CloseFault::Unjoined(number)));
     }
     Ok(close_all(store, lanes, remaining, action))
-}
-
-// Seals all places for keys in the context, and puts the numbers that remain into the list, the
-// greatest first.
-fn seal_all<V, const ROOM: usize>(
-    store: &Store<V>,
-    closer: &Closer,
-    lane: &mut Lane<V>,
-    numbers: &mut FallingNumbers<ROOM>,
-) -> Result<(), CloseFault>
-    requires lane { IsLaneOf store.now.id lane.old }
-    requires closer { IsCloserOf store.now closer.now }
-    requires room { length store.now.id.keys ≤ ROOM }
-    requires none { numbers.old ≡ [] }
-    ensures ends { SealingEnds store.now closer.now.context lane.old.cells lane.new.cells (fault_of result) }
-    ensures numbers { IfOk result (λ _. numbers.new ≡ numbers_left store.now closer.now.context lane.new.cells) }
-    ensures refusal { IfErr result IsOfKey }
-    ensures steps { length lane.new.cells.view.fronts ≤ length lane.old.cells.view.fronts + (length store.now.id.keys * (store.now.tries + 1) + length store.now.id.keys / 32) }
-    ensures known { lane.new.known ≡ lane.old.known }
-    ensures faults { lane.new.faults ≡ lane.old.faults }
-    ensures keys { lane.new.keys ≡ lane.old.keys }
-    ensures lane { IsLaneOf store.now.id lane.new }
-    ensures kept { StillKeeps lane.old lane.new }
-{
-    let keys = store.key_count();
-    for block in 0..keys / 32 {
-        if let Err(why) = seal_block(store, closer, lane, block, numbers) {
-            return Err(why);
-        }
-    }
-    Ok(())
-}
-
-// Seals a block of 32 places, and adds the numbers that their seals keep.
-fn seal_block<V, const ROOM: usize>(
-    store: &Store<V>,
-    closer: &Closer,
-    lane: &mut Lane<V>,
-    block: usize,
-    numbers: &mut FallingNumbers<ROOM>,
-) -> Result<(), CloseFault>
-    requires lane { IsLaneOf store.now.id lane.old }
-    requires closer { IsCloserOf store.now closer.now }
-    requires block { block * 32 + 32 ≤ length store.now.id.keys }
-    requires room { length store.now.id.keys ≤ ROOM }
-    requires few { length numbers.old ≤ block * 32 }
-    ensures sealed { IfOk result (λ _. SealsOn store.now closer.now.context (block * 32) (block * 32 + 32) lane.old.cells lane.new.cells numbers.old numbers.new) }
-    ensures stops { IfErr result (λ why. (before : _) → SealedSoFar store.now closer.now.context (block * 32) before lane.old.cells numbers.old → SealingEnds store.now closer.now.context before lane.new.cells (Some why)) }
-    ensures few { IfOk result (λ _. length numbers.new ≤ block * 32 + 32) }
-    ensures refusal { IfErr result IsOfKey }
-    ensures steps { length lane.new.cells.view.fronts ≤ length lane.old.cells.view.fronts + (32 * (store.now.tries + 1) + 1) }
-    ensures known { lane.new.known ≡ lane.old.known }
-    ensures faults { lane.new.faults ≡ lane.old.faults }
-    ensures keys { lane.new.keys ≡ lane.old.keys }
-    ensures lane { IsLaneOf store.now.id lane.new }
-    ensures kept { StillKeeps lane.old lane.new }
-{
-    let marks = store.seal_unused(lane, closer, block);
-    lane.recall();
-    let _keys = store.key_count();
-    // The marks that are left, the next key's in bit 0.
-    let mut left = marks;
-    for place in 0..32 {
-        if left == 0 {
-            return Ok(());
-        }
-        if left % 2 == 1 {
-            match seal_key(store, closer, lane, block * 32 + place) {
-                Ok(kept) => numbers.put_in_kept(kept),
-                Err(why) => return Err(why),
-            }
-        }
-        left /= 2;
-    }
-    Ok(())
-}
-
-// Seals one key of the closer's context.
-#[tactic(auto, using(crate::proofs::Counting::fronts_within))]
-fn seal_key<V>(
-    store: &Store<V>,
-    closer: &Closer,
-    lane: &mut Lane<V>,
-    key: KeyNo,
-) -> Result<Option<u32>, CloseFault>
-    requires lane { IsLaneOf store.now.id lane.old }
-    requires closer { IsCloserOf store.now closer.now }
-    requires key { key < length store.now.id.keys }
-    ensures answer { SealsNext store.now closer.now.context key lane.old.cells lane.new.cells result }
-    ensures legal { IsLegal lane.new.cells.cells.limits (seen_by lane.new.cells.view) }
-    ensures steps { length lane.new.cells.view.fronts ≤ length lane.old.cells.view.fronts + (store.now.tries + 1) }
-    ensures known { lane.new.known ≡ lane.old.known }
-    ensures faults { lane.new.faults ≡ lane.old.faults }
-    ensures keys { lane.new.keys ≡ lane.old.keys }
-    ensures lane { IsLaneOf store.now.id lane.new }
-    ensures kept { StillKeeps lane.old lane.new }
-{
-    let sealed = store.seal(lane, closer, key);
-    lane.recall();
-    match sealed {
-        Ok(kept) => Ok(kept),
-        Err(Refusal::Busy(_)) => Err(CloseFault::Busy(key)),
-        Err(Refusal::Contended) => Err(CloseFault::Contended(key)),
-        // A seal is refused for no other reason.
-        Err(Refusal::Closed(_)) => unreachable!(),
-        Err(Refusal::Exhausted) => unreachable!(),
-        Err(Refusal::DirectoryFull) => unreachable!(),
-        Err(Refusal::Unplaced) => unreachable!(),
-        Err(Refusal::Memory) => unreachable!(),
-    }
 }
 
 // The first of these falling numbers whose value no lane in hand knows.

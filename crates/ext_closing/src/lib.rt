@@ -12,6 +12,7 @@ mod action;
 mod closing;
 mod fault;
 mod laws;
+mod seals;
 
 pub use action::CloseAction;
 pub use closing::close;

@@ -6,6 +6,7 @@ pub mod Finds
 pub mod Grouped
 pub mod Lists
 pub mod Named
+pub mod Noted
 pub mod Paths
 pub mod Sides
 pub mod StepTouches

@@ -21,7 +21,7 @@ module _ (p : ℕ × ℕ → Bool) where
     | inr not_here ↦ let rest = turn_found (next ∷ above) (rw not_here at h) in (rest.0, rest.1, inr rest.2, rest.3)
   ]
 
-  turn_told : (path : List ℕ) (child container : ℕ) → PassesBy path child container → p (child, container) ≡ true → list_any p (turns path) ≡ true
+  pub turn_told : (path : List ℕ) (child container : ℕ) → PassesBy path child container → p (child, container) ≡ true → list_any p (turns path) ≡ true
   turn_told [] child container by h = absurd by
   turn_told (first ∷ []) child container by h = absurd by
   turn_told (first ∷ next ∷ above) child container (inl (one, two)) h = rw (ap (λ a. p (a, next)) one ∙ ap (λ b. p (child, b)) two ∙ h) refl

@@ -1,6 +1,6 @@
 -- What is told of groups: each race of two touches of a group once, and no other, up to so many.
 use Rattle.std.proofs.Common.{◌≡◌, ◌≢◌, ℕ, ◌<◌, ◌≤◌, Bool, true, false, List, [], ◌∷◌, ◌++◌, length, Contains, AllPairs, All, refl, sym, ap, subst, ◌∙◌, arith, inl, inr, append-nil, append_assoc, length-append}
-use Rattle.std.specs.Prelude.{fold, not, nat_lt, ◌&&◌, if◌then◌else◌}
+use Rattle.std.specs.Prelude.{fold, map, not, nat_lt, ◌&&◌, ◌||◌, if◌then◌else◌}
 use Rattle.std.specs.List.{list_any}
 use Rattle.std.proofs.lemmas.Bool.{cases_Bool, true≢false}
 use Rattle.std.proofs.lemmas.List.Folds.{fold_stays}
@@ -10,10 +10,11 @@ use Rattle.ext_tree.proofs.Numbers.{different_with}
 use Rattle.ext_races.specs.declared.race.Race.{Race}
 use Rattle.ext_races.specs.InnerTold.{group_told, groups_told, pair_told, race, race_eq, touch_told, with_race}
 use Rattle.ext_races.specs.Races.{race_of}
-use Rattle.ext_races.specs.Touches.{TouchText}
+use Rattle.ext_races.specs.declared.touch.Touch.{Touch}
+use Rattle.ext_races.specs.Touches.{TouchText, touch_view}
 use Rattle.ext_races.proofs.Equalities.{both, race_is, race_same}
 use Rattle.ext_races.proofs.Grouped.{any_contains}
-use Rattle.ext_races.proofs.Lists.{contains_first, contains_later, contains_cases, contains_nothing}
+use Rattle.ext_races.proofs.Lists.{contains_first, contains_later, contains_cases, contains_nothing, contains-map_back}
 
 -- ---- what is told stays told
 
@@ -165,3 +166,33 @@ all_are_told plan most group told t full = fold_stays (pair_told plan most t) to
     by : (b : Bool) (u : TouchText) → (if b then with_race most told (race_of t u) else told) ≡ told
     by true u = rw no_room refl
     by false u = refl
+
+-- ---- a group in which nothing may be told
+
+fold_stays_in : {A : Type 0} (f : List Race → A → List Race) (told : List Race) (xs : List A) → ((x : A) → Contains xs x → f told x ≡ told) → fold f told xs ≡ told
+fold_stays_in f told xs stays = fold_keeps f (λ r. r ≡ told) xs (λ r x h same. ap (λ q. f q x) same ∙ stays x h) told refl
+
+none_in : {A : Type 0} (p : A → Bool) (xs : List A) → list_any p xs ≡ false → (x : A) → Contains xs x → p x ≡ false
+none_in p [] none x h = contains_nothing x h
+none_in p (y ∷ xs) none x h = elim (cases_Bool (p y)) [
+  | inl is ↦ absurd (true≢false (sym (ap (λ b. b || list_any p xs) is) ∙ none))
+  | inr is_not ↦ elim (contains_cases y x xs h) [
+    | inl here ↦ ap p (sym here) ∙ is_not
+    | inr later ↦ none_in p xs (rw is_not at none) x later
+  ]
+]
+
+pub group_full : (plan : PlanText) (most : ℕ) (group : List TouchText) (told : List Race) → most ≤ length told → group_told plan most told group ≡ told
+group_full plan most group told full = fold_stays (touch_told plan most group) told (λ t. all_are_told plan most group told t full) group
+
+pub group_looks : (plan : PlanText) (most : ℕ) (group : List Touch) (told : List Race) → list_any (λ t. t.changes) group ≡ false → group_told plan most told (map touch_view group) ≡ told
+group_looks plan most group told none =
+    fold_stays_in (touch_told plan most (map touch_view group)) told (map touch_view group) (λ t h.
+    let from = contains-map_back touch_view group t h in
+    looks_only plan most (map touch_view group) told t (ap (λ u. u.changes) (sym from.2) ∙ none_in (λ t. t.changes) group none from.0 from.1))
+
+pub touch_alone : (plan : PlanText) (most : ℕ) (group : List TouchText) (told : List Race) (t : TouchText) → ((u : TouchText) → Contains group u → race plan t u ≡ true → ⊥) → touch_told plan most group told t ≡ told
+touch_alone plan most group told t alone = fold_stays_in (pair_told plan most t) told group (λ u h. elim (cases_Bool (race plan t u)) [
+  | inl is ↦ absurd (alone u h is)
+  | inr none ↦ ap (λ b. if b then with_race most told (race_of t u) else told) none
+])

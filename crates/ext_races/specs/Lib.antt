@@ -3,6 +3,7 @@ pub mod Beside
 pub mod Clashes
 pub mod InnerGroups
 pub mod InnerNaming
+pub mod InnerPassing
 pub mod InnerTold
 pub mod MadeSteps
 pub mod RaceLines

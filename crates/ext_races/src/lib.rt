@@ -15,6 +15,7 @@ mod found;
 mod groups;
 mod made;
 mod naming;
+mod passing;
 mod race;
 mod reach;
 mod telling;

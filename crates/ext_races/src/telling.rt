@@ -1,5 +1,5 @@
 //! Races of touches.
-ghost use Rattle.std.specs.Prelude.{◌≡◌, ◌<◌, IfOk, OnOk, map};
+ghost use Rattle.std.specs.Prelude.{◌≡◌, ◌<◌, IfOk, OnOk, length, map};
 ghost use Rattle.std.specs.List.{list_any};
 ghost use Rattle.ext_plan.specs.Plans.{plan_view};
 ghost use Rattle.ext_plan.specs.ReadPlans.{ids_of_nodes};
@@ -9,44 +9,65 @@ ghost use Rattle.ext_races.specs.Touches.{touch_view};
 
 use crate::Race;
 use crate::beside::nodes_beside;
+use crate::passing::{Passed, may_race, none_passed, note_group};
 use crate::touch::Touch;
 use ext_plan::Plan;
 use ext_tree::Tree;
 use std::alloc::{AllocError, Global};
 
 /// Lists at most `most` races in these groups, without repetition. Takes memory for the list.
-pub(crate) fn races_told(
+pub(crate) fn races_told<'p>(
     alloc: Global,
     plan: &Plan,
     tree: &Tree,
-    groups: &[Vec<Touch<'_>>],
+    groups: &[Vec<Touch<'p>>],
     most: usize,
 ) -> Result<Vec<Race>, AllocError>
     requires { tree.now ≡ ids_of_nodes (plan_view plan.now).nodes }
     ensures { IfOk result (λ told. told.items ≡ groups_told (plan_view plan.now) most (groups_view groups.now)) }
 {
     let mut told = Vec::new(alloc);
+    let mut passed = none_passed(alloc, tree.len())?;
     for group in groups {
-        tell_group(plan, tree, group.as_slice(), most, &mut told)?;
+        let passed = passed.as_mut_slice();
+        tell_group(plan, tree, group.as_slice(), passed, most, &mut told)?;
     }
     Ok(told)
 }
 
-/// Adds the races in a group.
-fn tell_group(
+/// Adds the races in a group. What is noted in `passed` before does not matter.
+fn tell_group<'p>(
     plan: &Plan,
     tree: &Tree,
-    group: &[Touch<'_>],
+    group: &[Touch<'p>],
+    passed: &mut [Option<Passed<'p>>],
     most: usize,
     told: &mut Vec<Race>,
 ) -> Result<(), AllocError>
-    requires { tree.now ≡ ids_of_nodes (plan_view plan.now).nodes }
+    requires tree { tree.now ≡ ids_of_nodes (plan_view plan.now).nodes }
+    requires count { length passed.old ≡ length tree.now }
     ensures { OnOk result (told.new.items ≡ group_told (plan_view plan.now) most told.old.items (map touch_view group.now)) }
 {
+    if told.len() >= most {
+        return Ok(());
+    }
+    if !changes_any(group) {
+        return Ok(());
+    }
+    note_group(plan, tree, group, passed);
     for touch in group {
-        tell_touch(plan, tree, touch, group, most, told)?;
+        if may_race(plan, tree, passed, touch.node) {
+            tell_touch(plan, tree, touch, group, most, told)?;
+        }
     }
     Ok(())
+}
+
+/// Tests whether a touch of the group may change its place.
+fn changes_any(group: &[Touch<'_>]) -> bool
+    ensures { result ≡ list_any (λ t. t.changes) group.now }
+{
+    group.iter().any(|touch| touch.changes)
 }
 
 /// Adds the races of a touch with others of its group.
@@ -61,8 +82,6 @@ fn tell_touch(
     requires { tree.now ≡ ids_of_nodes (plan_view plan.now).nodes }
     ensures { OnOk result (told.new.items ≡ touch_told (plan_view plan.now) most (map touch_view group.now) told.old.items (touch_view touch.now)) }
 {
-    // A touch that changes nothing is not compared, so that a place where all look up costs no more
-    // than its touches.
     if !touch.changes {
         return Ok(());
     }

@@ -46,6 +46,7 @@ pub(crate) fn touch_of<'p>(
 
 impl Touch<'_> {
     ghost use Rattle.ext_races.specs.Clashes.{agree, clashes, closes_differ, may_fail};
+    ghost use Rattle.ext_races.specs.InnerPassing.{alike};
     ghost use Rattle.ext_races.specs.InnerTold.{touch_eq};
     ghost use Rattle.ext_races.specs.Races.{race_of, side_of};
 
@@ -80,6 +81,17 @@ impl Touch<'_> {
         ensures { result ≡ agree (touch_view self.now) (touch_view other.now) }
     {
         other.changes && self.word.computes() && self.word == other.word && self.text == other.text
+    }
+
+    /// Tests whether neither may change anything, or both compute with the same result.
+    pub(crate) fn is_like(&self, other: &Self) -> bool
+        ensures { result ≡ alike (touch_view self.now) (touch_view other.now) }
+    {
+        if self.changes {
+            self.agrees(other)
+        } else {
+            !other.changes
+        }
     }
 
     /// Tests whether the fault of either close may be reported first.

@@ -4,3 +4,4 @@ pub mod RunReports
 mod CheckCounts
 mod KeyLines
 mod Drawn
+mod FaultGroups

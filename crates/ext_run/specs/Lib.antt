@@ -4,4 +4,5 @@ pub mod Drawings
 pub mod Failures
 pub mod IdText
 pub mod Requests
+pub mod InnerFailures
 pub mod InnerOutputs

@@ -4,7 +4,9 @@ ghost use Rattle.ext_lifecycle.specs.FaultTexts.{fault_text};
 ghost use Rattle.ext_plan_reading.specs.Plans.{plan_view};
 ghost use Rattle.ext_plan_reading.specs.ReadPlans.{IsRunnablePlan};
 ghost use Rattle.ext_run.specs.Reports.{plan_of_bytes};
-ghost use Rattle.ext_run.specs.Failures.{IsAdded, NotesFault, failure_at, failure_line, failures_at, failures_in, failures_of, lost_line, told_in};
+ghost use Rattle.ext_report.specs.Groups.{shown};
+ghost use Rattle.ext_run.specs.Failures.{IsAdded, NotesFault, failure_line, failures_in, failures_of, lost_line, told_in};
+ghost use Rattle.ext_run.specs.InnerFailures.{lines_of, nodes_of};
 ghost use Rattle.ext_run.specs.Drawings.{TextAs};
 
 use crate::fault::RunFault;
@@ -12,6 +14,7 @@ use ext_ids::UniqueId;
 use ext_lifecycle::RunListener;
 use ext_model::{ContextNo, Fault, Size};
 use ext_plan_reading::{Plan, PlanFault, read_plan_within};
+use ext_report::grouped;
 use ext_tree::Tree;
 use std::alloc::{AllocError, Global};
 use std::sync::{Mutex, Wait};
@@ -184,39 +187,32 @@ fn failures_of_plan(alloc: Global, plan: &Plan, faults: &[NodeFault]) -> Result<
 fn failures_of_tree(alloc: Global, tree: &Tree, faults: &[NodeFault]) -> Result<String, AllocError>
     ensures { IfOk result (λ text. string_bytes text ≡ failures_of tree.now faults.now) }
 {
+    let nodes = nodes_of(alloc, faults)?;
+    let groups = grouped(alloc, faults, nodes.as_slice(), tree.len())?;
     let mut text = String::new(alloc);
     for node in 0..tree.len() {
-        write_failures(&mut text, tree.id(node), node, faults)?;
+        write_failures(&mut text, tree.id(node), groups[node].as_slice())?;
     }
     Ok(text)
 }
 
-/// Writes the faults of a node at the end of a text.
-fn write_failures(
-    text: &mut String,
-    id: &UniqueId,
-    node: ContextNo,
-    faults: &[NodeFault],
-) -> Result<(), AllocError>
-    ensures { OnOk result (string_bytes text.new ≡ string_bytes text.old ++ failures_at id.now node faults.now) }
+/// The node of each fault. Takes memory for the list.
+fn nodes_of(alloc: Global, faults: &[NodeFault]) -> Result<Vec<ContextNo>, AllocError>
+    ensures { IfOk result (λ nodes. nodes.items ≡ nodes_of faults.now) }
 {
+    let mut nodes = Vec::new(alloc);
     for fault in faults {
-        write_if_of(text, id, node, fault)?;
+        nodes.push(fault.node)?;
     }
-    Ok(())
+    Ok(nodes)
 }
 
-/// Writes a fault at the end of a text, if it is of this node.
-fn write_if_of(
-    text: &mut String,
-    id: &UniqueId,
-    node: ContextNo,
-    fault: &NodeFault,
-) -> Result<(), AllocError>
-    ensures { OnOk result (string_bytes text.new ≡ string_bytes text.old ++ failure_at id.now node fault.now) }
+/// Writes the faults of a node at the end of a text.
+fn write_failures(text: &mut String, id: &UniqueId, faults: &[&NodeFault]) -> Result<(), AllocError>
+    ensures { OnOk result (string_bytes text.new ≡ string_bytes text.old ++ lines_of id.now (shown faults.now)) }
 {
-    if fault.node == node {
-        return write_failure(text, id, fault);
+    for fault in faults {
+        write_failure(text, id, fault)?;
     }
     Ok(())
 }

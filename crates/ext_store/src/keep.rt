@@ -25,6 +25,7 @@ impl<V: StoreValue + Drop> Store<V> {
     /// number's place: the lane knows that one then, and the number is lost. JUnit numbers values
     /// as they are stored.
     #[tactic(auto, unfolding(crate::specs::LaneCalls::KeepFails, crate::specs::LaneCalls::Frame))]
+    #[inline(always)]
     pub fn keep(&self, lane: &mut Lane<V>, value: V) -> Result<Kept, (V, KeepFault)>
         requires lane { IsLaneOf self.now.id lane.old }
         ensures answer { MatchResult result (KeepsAs value lane.old lane.new) (λ e. KeepsNothing self.now value lane.old lane.new e.0 e.1) }

@@ -74,3 +74,17 @@ fn no_wake_is_missed(rt: HostRuntime) {
     assert!(rt; all);
     assert_eq!(rt; answered.load(Ordering::SeqCst), ROUNDS);
 }
+
+/// Tests `Waiting::announce`, `Waiting::is_announced`, `Waiting::sleep` and `Waiting::pause`.
+#[test]
+fn pause_announces_and_then_sleeps(rt: HostRuntime) {
+    let waiters = Waiters::new();
+    let mut waiting = waiters.begin();
+    assert!(rt; !waiting.is_announced());
+    waiting.pause(&rt);
+    assert!(rt; waiting.is_announced());
+    waiters.wake_all();
+    // That sleep ends at once.
+    waiting.pause(&rt);
+    assert!(rt; !waiting.is_announced());
+}

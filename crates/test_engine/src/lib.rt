@@ -24,6 +24,8 @@ mod outside;
 #[cfg(test)]
 mod page;
 #[cfg(test)]
+mod recipes;
+#[cfg(test)]
 mod run_opening;
 #[cfg(test)]
 mod server;

@@ -1,5 +1,5 @@
 //! Openings of what a run goes over: those that are refused, and how large they may be.
-mod large;
+mod leaves;
 mod meeting;
 
 use crate::server::Server;
@@ -11,7 +11,7 @@ use ext_locks::LockFault;
 use ext_model::{Fault, Size};
 use ext_store::{Limits, StoreFault};
 use ext_tree::TreeFault;
-use large::{CountingSuite, flat};
+use leaves::{FailingLeaves, flat};
 use std::alloc::Global;
 use std::process::Abort;
 use std::sync::Wait;
@@ -149,11 +149,10 @@ fn leaves_refused<R: Threads + Wait + Sync>(
         Ok(ids) => ids,
         Err(why) => return Some(LeafFault::Open(why)),
     };
-    let suite = CountingSuite { calls: &[] };
     let run: Result<LeafRun<Server>, LeafFault> = run_leaves(
         rt,
         alloc,
-        &suite,
+        &FailingLeaves,
         &ids,
         Mode::Concurrent,
         limits,
@@ -189,10 +188,9 @@ fn refused_runs_of_leaves(rt: HostRuntime) {
 #[test]
 fn fault_of_a_leaf_is_that_of_its_test(rt: HostRuntime) -> Result<(), Fail> {
     let ids = read_ids(rt.alloc(), &["[engine:x]", "[engine:x]/[method:m()]"])?;
-    let suite = CountingSuite { calls: &[] };
-    let limits = Limits::new(1);
-    let alloc = rt.alloc();
-    let run: LeafRun<Server> = run_leaves(&rt, alloc, &suite, &ids, Mode::SameThread, limits)?;
+    let (alloc, limits) = (rt.alloc(), Limits::new(1));
+    let mode = Mode::SameThread;
+    let run: LeafRun<Server> = run_leaves(&rt, alloc, &FailingLeaves, &ids, mode, limits)?;
     let told = run
         .results
         .get(1)

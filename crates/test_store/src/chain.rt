@@ -392,7 +392,8 @@ fn compute_by_two(
     }
 }
 
-/// What a compute answers whose factory answers `made`; where the factory comes back unused, what it answers then.
+/// What a compute answers whose factory answers `made`, if it is given the key; where the factory
+/// comes back unused, what it answers then.
 fn compute(
     way: Way,
     store: &Store<Letter>,
@@ -408,7 +409,13 @@ fn compute(
     if way != Way::OneCall {
         return compute_by_two(way, store, lane, context, key, made);
     }
-    let factory = move |_key: &Key| -> Result<Letter, Fault> { made };
+    let factory = move |name: &Key| -> Result<Letter, Fault> {
+        if name == key {
+            made
+        } else {
+            Err(Fault::Memory)
+        }
+    };
     match store.compute(lane, context, key, factory) {
         Compute::Computed { number } => Compute::Computed { number },
         Compute::Found { at, number, unused } => Compute::Found {

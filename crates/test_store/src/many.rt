@@ -10,19 +10,38 @@ use std::alloc::Global;
 use std::process::Abort;
 use std::slice;
 
-/// Has the lane keep so many letters and put each in the method, under a key of its own.
-fn put_many<R: Abort>(
+/// Has the lane name so many keys.
+fn name_many<R: Abort>(
     rt: &R,
     alloc: Global,
     store: &Store<Letter>,
     lane: &mut Lane<Letter>,
     count: usize,
 )
+    requires { IsLaneOf store.now.id lane.old }
+    ensures { IsLaneOf store.now.id lane.new }
+{
+    for number in 0..count {
+        let key = number_key(rt, alloc, number);
+        assert!(rt; store.number(lane, &key) == Ok(number));
+    }
+}
+
+/// Has the lane keep so many letters and put each in the method, under a key of its own. The first
+/// keys get none.
+fn put_many<R: Abort>(
+    rt: &R,
+    alloc: Global,
+    store: &Store<Letter>,
+    lane: &mut Lane<Letter>,
+    unused: usize,
+    count: usize,
+)
     requires lane { IsLaneOf store.now.id lane.old }
     requires context { 2 < length store.now.tree }
     ensures { IsLaneOf store.now.id lane.new }
 {
-    for number in 0..count {
+    for number in unused..unused.saturating_add(count) {
         let key = number_key(rt, alloc, number);
         let Ok(kept) = store.keep(lane, closeable('x')) else {
             panic!(rt; "no number");
@@ -72,11 +91,13 @@ fn closes_latest_first<R: Abort>(
     }
 }
 
-/// Puts so many letters in the method of a store for as many keys, the last of which there can be, and closes it.
-fn put_and_close<R: Abort>(rt: &R, alloc: Global, count: usize, places: usize) {
+/// Puts so many letters in the method of a store for as many keys and some before them, the last of
+/// which there can be, and closes it.
+fn put_and_close<R: Abort>(rt: &R, alloc: Global, unused: usize, count: usize, places: usize) {
+    let keys = unused.saturating_add(count);
     let limits = Limits {
         tries: 8,
-        keys: count,
+        keys,
         numbers: 1_024,
         ..Limits::new(2)
     };
@@ -90,9 +111,10 @@ fn put_and_close<R: Abort>(rt: &R, alloc: Global, count: usize, places: usize) {
         mut closers,
     } = opened;
     assert!(rt; store.key_count() == places);
-    put_many(rt, alloc, &store, &mut first, count);
-    if count == places {
-        no_more_keys(rt, alloc, &store, &mut first, count);
+    name_many(rt, alloc, &store, &mut first, unused);
+    put_many(rt, alloc, &store, &mut first, unused, count);
+    if keys == places {
+        no_more_keys(rt, alloc, &store, &mut first, keys);
     }
     let Some(closer) = closers.pop() else {
         panic!(rt; "no closer");
@@ -104,14 +126,17 @@ fn put_and_close<R: Abort>(rt: &R, alloc: Global, count: usize, places: usize) {
 /// `FallingNumbers::put_in` and `close`.
 #[test]
 fn many_values_are_closed_latest_first(rt: HostRuntime) {
-    for (count, places) in [
-        (1, 32),
-        (32, 32),
-        (33, 64),
-        (64, 64),
-        (65, 96),
-        (1_024, 1_024),
+    for (unused, count, places) in [
+        (0, 1, 32),
+        (0, 32, 32),
+        (0, 33, 64),
+        (0, 64, 64),
+        (0, 65, 96),
+        (0, 1_024, 1_024),
+        (32, 1, 64),
+        (40, 57, 128),
+        (1_023, 1, 1_024),
     ] {
-        put_and_close(&rt, rt.alloc(), count, places);
+        put_and_close(&rt, rt.alloc(), unused, count, places);
     }
 }

@@ -72,7 +72,8 @@ fn open(alloc: Global, lanes: usize, keep_faults: bool) -> Result<Opened, Fail>
     ensures contexts { IfOk result (λ o. 2 < length o.store.tree) }
 {
     let limits = Limits {
-        tries: 8,
+        // Many lanes are to be in each other's way.
+        tries: if lanes == 16 { 1 } else { 8 },
         keep_faults,
         ..Limits::new(lanes)
     };

@@ -1,4 +1,5 @@
 //! What can be measured.
+use crate::suite::BUSY;
 
 /// A case: what an operation is, and in which contexts.
 #[derive(Clone, Copy)]
@@ -13,6 +14,9 @@ pub(crate) enum Case {
     GetRoot3Numbered,
     /// The same, and the value that is found is shown.
     GetRoot3Shown,
+    /// A look-up of a value at the root by the key's number, from each context in turn of an engine
+    /// with so many classes, in all of which a value stands under another key.
+    GetRootNumbered(u32),
     /// A look-up that finds nothing in three contexts.
     GetAbsent3,
     /// A value kept and put over one that stands.
@@ -21,23 +25,19 @@ pub(crate) enum Case {
     PutRemove,
     /// A value computed where none is, and closed with its context: 16 keys a context.
     ComputeFreshAndClose,
-    /// A store of 256 contexts opened, with 16 lanes.
-    Open256x16,
+    /// A store of an engine with so many classes opened, with 16 lanes.
+    Open(u32),
     /// A key named that no lane has named: 64 keys a store.
     NameNew,
     /// A context closed in which nothing stands: 256 contexts a store.
     Close256,
-    /// A run of an engine with one test that does nothing.
-    Tree1,
-    /// A run of an engine with 16 such tests, which may run beside one another.
-    Tree16,
-    /// A run of an engine with 255 of them.
-    Tree255,
-    /// A run of an engine with 255 tests that work for some 100 microseconds each.
-    Tree255Busy,
-    /// What a run of an engine with 255 tests goes over, opened.
-    OpenTree255,
-    /// A look-up of a value at the root from the third context, while one more thread puts values under another key there.
+    /// A run of an engine with so many tests, which work for so many steps each and may run beside
+    /// one another.
+    Tree(u32, u32),
+    /// What a run of an engine with so many tests goes over, opened.
+    OpenTree(u32),
+    /// A look-up of a value at the root from the third context, while one more thread puts values
+    /// under another key there.
     GetBesideOther,
     /// The same while it puts values under the same key.
     GetBesideSame,
@@ -45,72 +45,41 @@ pub(crate) enum Case {
     ComputeHot,
 }
 
+/// All cases under their words of the command line, in the order of the table.
+pub(crate) const CASES: [(&str, Case); 25] = [
+    ("get-own-3", Case::GetOwn3),
+    ("get-root-3", Case::GetRoot3),
+    ("get-root-16", Case::GetRoot16),
+    ("get-root-3-numbered", Case::GetRoot3Numbered),
+    ("get-root-3-shown", Case::GetRoot3Shown),
+    ("get-root-numbered-256", Case::GetRootNumbered(255)),
+    ("get-root-numbered-65536", Case::GetRootNumbered(65_535)),
+    ("get-absent-3", Case::GetAbsent3),
+    ("put-over", Case::PutOver),
+    ("put-remove", Case::PutRemove),
+    ("compute-fresh-and-close", Case::ComputeFreshAndClose),
+    ("open-256x16", Case::Open(255)),
+    ("open-65536x16", Case::Open(65_535)),
+    ("name-new", Case::NameNew),
+    ("close-256", Case::Close256),
+    ("tree-1", Case::Tree(1, 0)),
+    ("tree-16", Case::Tree(16, 0)),
+    ("tree-255", Case::Tree(255, 0)),
+    ("tree-4095", Case::Tree(4_095, 0)),
+    ("tree-65535", Case::Tree(65_535, 0)),
+    ("tree-255-busy", Case::Tree(255, BUSY)),
+    ("open-tree-255", Case::OpenTree(255)),
+    ("get-root-3-beside-other", Case::GetBesideOther),
+    ("get-root-3-beside-same", Case::GetBesideSame),
+    ("compute-hot", Case::ComputeHot),
+];
+
 impl Case {
-    /// All cases, in the order of the table.
-    pub(crate) const ALL: [Case; 20] = [
-        Case::GetOwn3,
-        Case::GetRoot3,
-        Case::GetRoot16,
-        Case::GetRoot3Numbered,
-        Case::GetRoot3Shown,
-        Case::GetAbsent3,
-        Case::PutOver,
-        Case::PutRemove,
-        Case::ComputeFreshAndClose,
-        Case::Open256x16,
-        Case::NameNew,
-        Case::Close256,
-        Case::Tree1,
-        Case::Tree16,
-        Case::Tree255,
-        Case::Tree255Busy,
-        Case::OpenTree255,
-        Case::GetBesideOther,
-        Case::GetBesideSame,
-        Case::ComputeHot,
-    ];
-
-    /// The word of the command line.
-    pub(crate) fn name(self) -> &'static str {
-        match self {
-            Case::GetOwn3 => "get-own-3",
-            Case::GetRoot3 => "get-root-3",
-            Case::GetRoot16 => "get-root-16",
-            Case::GetRoot3Numbered => "get-root-3-numbered",
-            Case::GetRoot3Shown => "get-root-3-shown",
-            Case::GetAbsent3 => "get-absent-3",
-            Case::PutOver => "put-over",
-            Case::PutRemove => "put-remove",
-            Case::ComputeFreshAndClose => "compute-fresh-and-close",
-            Case::Open256x16 => "open-256x16",
-            Case::NameNew => "name-new",
-            Case::Close256 => "close-256",
-            Case::Tree1 => "tree-1",
-            Case::Tree16 => "tree-16",
-            Case::Tree255 => "tree-255",
-            Case::Tree255Busy => "tree-255-busy",
-            Case::OpenTree255 => "open-tree-255",
-            Case::GetBesideOther => "get-root-3-beside-other",
-            Case::GetBesideSame => "get-root-3-beside-same",
-            Case::ComputeHot => "compute-hot",
-        }
-    }
-
-    /// The case of this word.
-    pub(crate) fn named(name: &str) -> Option<Case> {
-        for case in &Case::ALL {
-            if case.name() == name {
-                return Some(*case);
-            }
-        }
-        None
-    }
-
     /// On how many threads the table has it.
     pub(crate) fn quick_threads(self) -> usize {
         match self {
             Case::GetBesideOther | Case::GetBesideSame | Case::ComputeHot => 4,
-            Case::Tree255Busy => 4,
+            Case::Tree(_, BUSY) => 4,
             _ => 1,
         }
     }
@@ -118,9 +87,8 @@ impl Case {
     /// On how many threads it can run: a run of a tree has a lane for each.
     pub(crate) fn most_threads(self) -> usize {
         match self {
-            Case::ComputeFreshAndClose | Case::Open256x16 | Case::NameNew | Case::Close256 => 1,
-            Case::Tree1 | Case::Tree16 | Case::Tree255 | Case::Tree255Busy | Case::OpenTree255 =>
-                16,
+            Case::ComputeFreshAndClose | Case::Open(_) | Case::NameNew | Case::Close256 => 1,
+            Case::Tree(..) | Case::OpenTree(_) => 16,
             _ => 14,
         }
     }
@@ -129,4 +97,14 @@ impl Case {
     pub(crate) fn has_writer(self) -> bool {
         matches!(self, Case::GetBesideOther | Case::GetBesideSame)
     }
+}
+
+/// The case of this word, and the word.
+pub(crate) fn named(name: &str) -> Option<(&'static str, Case)> {
+    for row in &CASES {
+        if row.0 == name {
+            return Some(*row);
+        }
+    }
+    None
 }

@@ -4,6 +4,7 @@ ghost use Rattle.ext_store.specs.Stores.{IsCloserOf, IsLaneOf};
 
 use crate::fault::BenchFault;
 use ext_ids::UniqueId;
+use ext_model::Size;
 use ext_store::{Closer, Lane, Limits, Store, StoreValue};
 use ext_tree::{Key, Namespace, Tree};
 use std::alloc::Global;
@@ -31,9 +32,6 @@ pub(crate) fn resource(number: u32) -> Payload {
     }
 }
 
-/// So many numbers a store has: the most there can be.
-pub(crate) const NUMBERS: u32 = 65_535;
-
 /// A store, its lanes and its closers.
 pub(crate) type Opened = (Store<Payload>, Vec<Lane<Payload>>, Vec<Closer>);
 
@@ -59,10 +57,10 @@ fn add_chain(alloc: Global, ids: &mut Vec<UniqueId>, below: usize) -> Option<()>
     Some(())
 }
 
-/// An engine with 255 classes.
-pub(crate) fn wide(alloc: Global) -> Option<Tree> {
-    let ids = wide_ids(alloc, 255)?;
-    Tree::build(alloc, ids.as_slice()).ok()
+/// An engine with so many classes.
+pub(crate) fn wide(alloc: Global, classes: u32) -> Option<Tree> {
+    let ids = wide_ids(alloc, classes)?;
+    Tree::build_within(alloc, ids.as_slice(), 65_536).ok()
 }
 
 /// The ids of an engine and of so many classes.
@@ -103,17 +101,28 @@ fn add_names(alloc: Global, names: &mut Vec<Key>, count: u32) -> Option<()> {
     Some(())
 }
 
-/// A store of these contexts, with so many lanes.
+/// The size of a store of so many contexts.
+pub(crate) fn size_for(contexts: usize) -> Size {
+    if contexts > 256 {
+        Size::Large
+    } else {
+        Size::Usual
+    }
+}
+
+/// A store of these contexts, with so many lanes and all numbers that one of its size can have.
 pub(crate) fn open(alloc: Global, tree: Option<Tree>, lanes: usize) -> Result<Opened, BenchFault>
     ensures lanes { IfOk result (λ r. All (IsLaneOf r.0.id) r.1.items) }
     ensures closers { IfOk result (λ r. All (IsCloserOf r.0) r.2.items) }
 {
-    let limits = Limits {
-        numbers: NUMBERS,
-        ..Limits::new(lanes)
-    };
     let Some(tree) = tree else {
         return Err(BenchFault::Opening);
+    };
+    let size = size_for(tree.len());
+    let limits = Limits {
+        size,
+        numbers: size.numbers(),
+        ..Limits::new(lanes)
     };
     match Store::open(alloc, tree, limits) {
         Ok(opened) => Ok(opened),

@@ -96,7 +96,8 @@ impl Spent {
         }
     }
 
-    /// The same and what threads spent side by side: the wall's time is from the first start to the last end.
+    /// The same and what threads spent side by side: the wall's time is from the first start to the
+    /// last end.
     pub(crate) fn and(self, spans: &[Span]) -> Spent {
         let Some(first) = spans.first() else {
             return self;

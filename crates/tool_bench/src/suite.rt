@@ -1,6 +1,6 @@
 //! Tests that do nothing, or work for a while, and their suite.
+use crate::alone::Counting;
 use crate::opening::Payload;
-use crate::round::Counting;
 use ext_engine::{Call, Callbacks, Kind, Mode, Outcome, Suite, Verdict, is_leaf};
 use ext_locks::{Held, LockRequest};
 use ext_model::{ContextNo, Fault};
@@ -19,7 +19,8 @@ pub(crate) struct PlainSuite<'a> {
     pub(crate) steps: u32,
 }
 
-/// So many steps of a generator of numbers, each of which needs the one before. The number is never 0.
+/// So many steps of a generator of numbers, each of which needs the one before. The number is never
+/// 0.
 fn worked(steps: u32) -> u64 {
     let mut number = 0x9E37_79B9_7F4A_7C15u64;
     for _ in 0..steps {

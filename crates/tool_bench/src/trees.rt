@@ -3,9 +3,9 @@ ghost use Rattle.std.specs.Prelude.{◌≡◌, IfOk, length};
 ghost use Rattle.ext_engine.specs.TreeRun.{IsUsable};
 ghost use Rattle.ext_store.specs.Stores.{closers_below};
 
+use crate::alone::ended;
 use crate::fault::BenchFault;
-use crate::opening::{Payload, wide_ids};
-use crate::round::ended;
+use crate::opening::{Payload, size_for, wide_ids};
 use crate::spent::{Span, Started};
 use crate::suite::PlainSuite;
 use ext_engine::{NodeResult, OpenGate, Opened, Status, leaf_laws, open_run, run_tree};
@@ -17,7 +17,8 @@ use std::sync::Wait;
 use std::thread::Threads;
 use std::time::{Clock, CpuClock};
 
-/// A run of an engine with so many tests, which work so many steps each, on so many lanes. An operation is a test. Opening it is not counted.
+/// A run of an engine with so many tests, which work so many steps each, on so many lanes. An
+/// operation is a test. Opening it is not counted.
 pub(crate) fn running<R: Threads + Wait + Sync + Clock + CpuClock + AllocGlobal>(
     rt: &R,
     tests: u32,
@@ -47,6 +48,7 @@ fn open_ids(alloc: Global, ids: &[UniqueId], lanes: usize) -> Result<Opened<Payl
     ensures closers { IfOk result (λ o. o.closers.items ≡ closers_below o.store.id.cells (length o.store.tree)) }
 {
     let limits = Limits {
+        size: size_for(ids.len()),
         numbers: 1_000,
         ..Limits::new(lanes)
     };

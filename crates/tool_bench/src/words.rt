@@ -1,5 +1,5 @@
 //! The words of the command line.
-use crate::case::Case;
+use crate::case::{Case, named};
 use crate::fault::BenchFault;
 use std::rt::Env;
 
@@ -14,14 +14,15 @@ rounds, of MILLIS (1 to 600000) milliseconds each, on THREADS (1 to 14) threads:
 
     ext_store CASE THREADS NANOSECONDS-OF-WALL-AN-OP NANOSECONDS-OF-PROCESSOR-AN-OP OPERATIONS
 
-compute-fresh-and-close, open-256x16, name-new and close-256 run on one thread: with them THREADS
-other than 1 is refused. In tree-1, tree-16, tree-255 and tree-255-busy an engine with so many tests
-is run on THREADS (1 to 16) lanes, and an operation is a test; in open-tree-255 what such a run goes
-over is opened, which is the operation. Of these the processor time is that of all threads.
+compute-fresh-and-close, open-256x16, open-65536x16, name-new and close-256 run on one thread: with
+them THREADS other than 1 is refused. In tree-1 to tree-255-busy an engine with so many tests is run
+on THREADS (1 to 16) lanes, and an operation is a test; in open-tree-255 what such a run goes over
+is opened, which is the operation. Of these the processor time is that of all threads.
 
-Cases: get-own-3 get-root-3 get-root-16 get-root-3-numbered get-root-3-shown get-absent-3 put-over
-put-remove compute-fresh-and-close open-256x16 name-new close-256 tree-1 tree-16 tree-255
-tree-255-busy open-tree-255 get-root-3-beside-other get-root-3-beside-same compute-hot
+Cases: get-own-3 get-root-3 get-root-16 get-root-3-numbered get-root-3-shown get-root-numbered-256
+get-root-numbered-65536 get-absent-3 put-over put-remove compute-fresh-and-close open-256x16
+open-65536x16 name-new close-256 tree-1 tree-16 tree-255 tree-4095 tree-65535 tree-255-busy
+open-tree-255 get-root-3-beside-other get-root-3-beside-same compute-hot
 ";
 
 /// What the words ask for.
@@ -31,9 +32,10 @@ pub(crate) enum Request {
     Usage,
     /// The usage and the table of all cases.
     Table,
-    /// So many rounds of a case, of so many milliseconds, on so many threads: as many as the case can run on.
+    /// So many rounds of a case, of so many milliseconds, on so many threads: as many as the case
+    /// can run on.
     Rounds {
-        case: Case,
+        row: (&'static str, Case),
         threads: usize,
         rounds: u32,
         millis: u32,
@@ -66,18 +68,18 @@ fn request_in(words: &[String]) -> Request {
 }
 
 fn rounds_in(case: &str, threads: &str, rounds: &str, millis: &str) -> Request {
-    let (Some(case), Some(threads)) = (Case::named(case), number_in(threads, 16)) else {
+    let (Some(row), Some(threads)) = (named(case), number_in(threads, 16)) else {
         return Request::Refused(BenchFault::Words);
     };
     let (Some(rounds), Some(millis)) = (number_in(rounds, 1_000), number_in(millis, 600_000)) else {
         return Request::Refused(BenchFault::Words);
     };
     let threads = threads as usize;
-    if threads > case.most_threads() {
+    if threads > row.1.most_threads() {
         return Request::Refused(BenchFault::Threads);
     }
     Request::Rounds {
-        case,
+        row,
         threads,
         rounds,
         millis,

@@ -8,13 +8,15 @@ use ext_model::{ContextNo, Fault, KeyNo, Look};
 use ext_store::{Compute, Lane, Refusal, Store};
 use ext_tree::Key;
 
-/// Looks the key up so often, whose number is asked for once. Each answer is that a value is there.
+/// Looks the key up so often, whose number is asked for once, and has each value that is found
+/// shown where `shown`. Each answer is that a value is there.
 pub(crate) fn look_up_numbered(
     store: &Store<Payload>,
     lane: &mut Lane<Payload>,
     context: ContextNo,
     key: &Key,
     times: u32,
+    shown: bool,
 ) -> Result<u64, BenchFault>
     requires lane { IsLaneOf store.now.id lane.old }
     requires context { context < length store.now.tree }
@@ -25,57 +27,51 @@ pub(crate) fn look_up_numbered(
     };
     let mut right = true;
     for _ in 0..times {
-        let found = finds(store, lane, context, number);
+        let found = finds(store, lane, context, number, shown);
         right = right && found;
     }
     counted(right, times)
 }
 
-/// Whether the look-up finds a value, or other lanes were in its way.
-fn finds(store: &Store<Payload>, lane: &mut Lane<Payload>, context: ContextNo, key: KeyNo) -> bool
-    requires lane { IsLaneOf store.now.id lane.old }
-    requires context { context < length store.now.tree }
-    requires key { key < length store.now.id.keys }
-    ensures { IsLaneOf store.now.id lane.new }
-{
-    match store.get_numbered(lane, context, key) {
-        Ok(look) => matches!(look, Look::Found { .. }),
-        Err(refusal) => refusal == Refusal::Contended,
-    }
-}
-
-/// Looks the key up so often, whose number is asked for once, and has each value that is found shown. Each answer is that value.
-pub(crate) fn look_up_shown(
+/// Looks the key up by its number so often, from each context in turn. Each answer is that a value
+/// is there.
+pub(crate) fn look_up_in_turn(
     store: &Store<Payload>,
     lane: &mut Lane<Payload>,
-    context: ContextNo,
     key: &Key,
     times: u32,
 ) -> Result<u64, BenchFault>
     requires lane { IsLaneOf store.now.id lane.old }
-    requires context { context < length store.now.tree }
     ensures { IsLaneOf store.now.id lane.new }
 {
     let Ok(number) = store.number(lane, key) else {
         return Err(BenchFault::Answer);
     };
-    let mut right = true;
+    let last = store.tree().len() - 1;
+    let (mut right, mut context) = (true, last);
     for _ in 0..times {
-        let shown = shows(store, lane, context, number);
-        right = right && shown;
+        let found = finds(store, lane, context, number, false);
+        right = right && found;
+        context = if context == 0 { last } else { context - 1 };
     }
     counted(right, times)
 }
 
-/// Whether the look-up finds a number whose value is shown, or other lanes were in its way.
-fn shows(store: &Store<Payload>, lane: &mut Lane<Payload>, context: ContextNo, key: KeyNo) -> bool
+/// Whether the look-up finds a value, which is shown where `shown`, or other lanes were in its way.
+fn finds(
+    store: &Store<Payload>,
+    lane: &mut Lane<Payload>,
+    context: ContextNo,
+    key: KeyNo,
+    shown: bool,
+) -> bool
     requires lane { IsLaneOf store.now.id lane.old }
     requires context { context < length store.now.tree }
     requires key { key < length store.now.id.keys }
     ensures { IsLaneOf store.now.id lane.new }
 {
     match store.get_numbered(lane, context, key) {
-        Ok(Look::Found { number, .. }) => is_shown(store, lane, number),
+        Ok(Look::Found { number, .. }) => !shown || is_shown(store, lane, number),
         Ok(_) => false,
         Err(refusal) => refusal == Refusal::Contended,
     }
@@ -144,6 +140,19 @@ pub(crate) fn put_one(
     }
 }
 
+/// Puts a value under the key in each context. Says whether all were put.
+pub(crate) fn put_in_each(store: &Store<Payload>, lane: &mut Lane<Payload>, key: &Key) -> bool
+    requires { IsLaneOf store.now.id lane.old }
+    ensures { IsLaneOf store.now.id lane.new }
+{
+    let mut right = true;
+    for context in 0..store.tree().len() {
+        let stored = put_one(store, lane, context, key, 1);
+        right = right && stored;
+    }
+    right
+}
+
 /// Puts so many values, one over the other.
 pub(crate) fn put_over(
     store: &Store<Payload>,
@@ -205,7 +214,8 @@ pub(crate) fn compute_often(
     counted(right, times)
 }
 
-/// Computes the key in the context. Says whether a value was made or found, or another lane was at it.
+/// Computes the key in the context. Says whether a value was made or found, or another lane was at
+/// it.
 fn compute_one(
     store: &Store<Payload>,
     lane: &mut Lane<Payload>,

@@ -1,5 +1,5 @@
 //! Leaves that run at once.
-use super::large::{CloseNothing, flat};
+use super::leaves::{CloseNothing, flat};
 use crate::gates::reaches;
 use crate::server::Server;
 use ext_engine::{LeafRun, LeafSuite, Mode, Outcome, Status, Verdict, run_leaves};

@@ -1,8 +1,11 @@
-use Rattle.std.proofs.Common.{◌≡◌, take, [], fold}
+use Rattle.std.proofs.Common.{◌≡◌, length, take, vec_len, [], fold}
 use Rattle.ext_plan.specs.Plans.{plan_view}
 use Rattle.ext_races.specs.InnerGroups.{groups_view}
 use Rattle.ext_races.specs.InnerTold.{group_told}
 use Rattle.ext_races.proofs.telling.races_told.Given as goal
 
 abbrev pub invariant-loop-group : goal.invariant-loop-group
-invariant-loop-group l = l.told.items ≡ fold (group_told (plan_view l.plan) l.most) [] (groups_view (take l.group-index l.groups))
+invariant-loop-group l = record {
+  told : l.told.items ≡ fold (group_told (plan_view l.plan) l.most) [] (groups_view (take l.group-index l.groups));
+  count : vec_len l.passed ≡ length l.tree;
+}

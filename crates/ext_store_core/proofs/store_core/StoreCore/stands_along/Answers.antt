@@ -8,8 +8,8 @@ use Rattle.ext_store_core.proofs.store_core.StoreCore.stands_along.Goals as goal
 
 pub returns-clause-stands : goal.returns-clause-stands
 returns-clause-stands c =
-    subst (Stands c.args.self.now c.args.path.now c.args.key c.args.lane.now c.look_along.new.lane) (sym c.of-unused.ensures)
-    (stands_by c.args.self.now c.args.path.now c.args.key c.args.lane.now c.look_along.new.lane c.look_along.result c.look_along.ensures.look)
+    subst (Stands c.args.self.now c.args.path.now c.args.key c.args.lane.now c.look_along-looked.new.lane) (sym c.of.ensures)
+    (stands_by c.args.self.now c.args.path.now c.args.key c.args.lane.now c.look_along-looked.new.lane c.look_along-looked.result c.look_along-looked.ensures.look)
 
 pub returns-clause-legal : goal.returns-clause-legal
-returns-clause-legal c = subst (λ (z : CellsId). IsLegal z.limits (seen_by c.look_along.new.lane.view)) c.look_along.ensures.lane c.recall.ensures.legal
+returns-clause-legal c = subst (λ (z : CellsId). IsLegal z.limits (seen_by c.look_along-looked.new.lane.view)) c.look_along-looked.ensures.lane c.recall.ensures.legal

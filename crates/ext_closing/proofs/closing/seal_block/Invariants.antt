@@ -1,5 +1,0 @@
-use Rattle.ext_closing.proofs.Sealing.{BlockSoFar}
-use Rattle.ext_closing.proofs.closing.seal_block.Given as goal
-
-abbrev pub invariant-loop-place : goal.invariant-loop-place
-invariant-loop-place g l = BlockSoFar l.store l.closer.context l.block l.marks l.left l.place l.fn.lane l.lane l.fn.numbers l.numbers

@@ -1,0 +1,207 @@
+-- A touch that races passes a container at which touches may race.
+use Rattle.std.proofs.Common.{◌≡◌, ℕ, zero, suc, ◌+◌, ◌<◌, ◌≤◌, true, false, List, [], ◌∷◌, ◌++◌, length, map, get_or, take, set, fold, Contains, ◌-◌, get_or-set_other, get_or-set_same, Option, Some, None, refl, sym, ap, subst, ◌∙◌, arith, inl, inr}
+use Rattle.std.specs.Prelude.{◌==◌, ◌&&◌, not, if◌then◌else◌}
+use Rattle.std.proofs.lemmas.Bool.{cases_Bool, cases_eq, true≢false}
+use Rattle.std.proofs.lemmas.List.{length-map}
+use Rattle.std.proofs.lemmas.List.Elements.{Contains-append_cases}
+use Rattle.std.specs.Cmp.Lexicographic.{bytes_decides}
+use Rattle.ext_plan.specs.Plans.{PlanText}
+use Rattle.ext_plan.specs.PlanCalls.{concurrent_of}
+use Rattle.ext_plan.specs.ReadPlans.{ids_of_nodes}
+use Rattle.ext_plan.specs.StepWords.{computes, word_eq}
+use Rattle.ext_tree.specs.Trees.{Id}
+use Rattle.ext_races.specs.declared.race.Race.{Race}
+use Rattle.ext_races.specs.declared.passing.Passed.{Passed}
+use Rattle.ext_races.specs.declared.touch.Touch.{Touch}
+use Rattle.ext_races.specs.Beside.{PassesBy, nodes_beside}
+use Rattle.ext_races.specs.Clashes.{agree, clashes, closes_differ}
+use Rattle.ext_races.specs.InnerPassing.{AreNoted, HasNoted, HasNotedIf, IsNoted, Keeps, KeepsIf, alike, may_race, meets, passed_at}
+use Rattle.ext_races.specs.InnerTold.{race, touch_told}
+use Rattle.ext_races.specs.MadeSteps.{path_of, plan_path}
+use Rattle.ext_races.specs.Touches.{TouchText, touch_view}
+use Rattle.ext_races.proofs.Equalities.{both, both_true, word_is}
+use Rattle.ext_races.proofs.Lists.{contains_cases, contains_nothing, contains-map, contains_at, map-take_at}
+use Rattle.ext_races.proofs.Sides.{nodes_found, turn_told}
+use Rattle.ext_races.proofs.Told.{touch_alone}
+
+-- ---- touches that are all alike to one don't clash
+
+-- two that compute as a third does
+both_agree : (f t u : TouchText) → agree f t ≡ true → agree f u ≡ true → (agree t u ≡ true) × (t.text ≡ u.text)
+both_agree f t u one two =
+    let p = both _ _ one in
+    let p2 = both _ _ p.0 in
+    let p3 = both _ _ p2.0 in
+    let q = both _ _ two in
+    let q2 = both _ _ q.0 in
+    let q3 = both _ _ q2.0 in
+    let word_t = word_is f.word t.word p2.1 in
+    let word_u = word_is f.word u.word q2.1 in
+    let text_t = (bytes_decides f.text t.text).0 p.1 in
+    let text_u = (bytes_decides f.text u.text).0 q.1 in
+    let text : t.text ≡ u.text = sym text_t ∙ text_u in
+    let computes_t : computes t.word ≡ true = ap computes (sym word_t) ∙ p3.1 in
+    let word : word_eq t.word u.word ≡ true = ap (λ w. word_eq w u.word) (sym word_t) ∙ q2.1 in
+    (both_true _ _ (both_true _ _ (both_true _ _ q3.0 computes_t) word) ((bytes_decides t.text u.text).1 text), text)
+
+no_clash : (f t u : TouchText) → alike f t ≡ true → alike f u ≡ true → clashes t u ≡ true → ⊥
+no_clash f t u one two clash = elim (cases_Bool f.changes) [
+  | inl changes ↦
+      let are = both_agree f t u (rw changes at one) (rw changes at two) in
+      let parts = both (t.changes && (t.context == u.context)) (if t.key == u.key then not (agree t u) else closes_differ t u) clash in
+      elim (cases_Bool (t.key == u.key)) [
+        | inl one_key ↦ let no : not (agree t u) ≡ true = rw one_key at parts.1 in absurd (true≢false (sym no ∙ ap not are.0))
+        | inr two_keys ↦
+            let differ : closes_differ t u ≡ true = rw two_keys at parts.1 in
+            absurd (true≢false (sym (both _ _ differ).1 ∙ ap not ((bytes_decides t.text u.text).1 are.1)))
+      ]
+  | inr looks ↦
+      let still : not t.changes ≡ true = rw looks at one in
+      let parts = both t.changes (t.context == u.context) (both (t.changes && (t.context == u.context)) _ clash).0 in
+      absurd (true≢false (sym still ∙ ap not parts.0))
+]
+
+-- ---- at a container
+
+pub apart : (p : Passed) (a b : ℕ) (t u : TouchText) → HasNoted p a t → HasNoted p b u → (a ≡ b → ⊥) → clashes t u ≡ true → (p.several && p.differ) ≡ true
+apart p a b t u one two other clash = both_true _ _ several differ
+  where
+    several : p.several ≡ true
+    several = elim one.by [ inl is ↦ is | inr at_a ↦ elim two.by [ inl is ↦ is | inr at_b ↦ absurd (other (sym at_a ∙ at_b)) ] ]
+
+    differ : p.differ ≡ true
+    differ = elim one.like [ inl is ↦ is | inr like_t ↦ elim two.like [ inl is ↦ is | inr like_u ↦ absurd (no_clash (touch_view p.touch) t u like_t like_u clash) ] ]
+
+apart_if : (p : Option Passed) (a b : ℕ) (t u : TouchText) → HasNotedIf p a t → HasNotedIf p b u → (a ≡ b → ⊥) → clashes t u ≡ true → meets p ≡ true
+apart_if None a b t u one two other clash = absurd one
+apart_if (Some p) a b t u one two other clash = apart p a b t u one two other clash
+
+-- ---- in a group
+
+module _ (plan : PlanText) (passed : List (Option Passed)) (group : List TouchText) (noted : AreNoted plan passed group) where
+  races_where : (t u : TouchText) → Contains group t → Contains group u → race plan t u ≡ true → may_race plan passed t.node ≡ true
+  races_where t u t_in u_in h =
+      let parts = both (clashes t u) (nodes_beside plan t.node u.node) h in
+      let within = both _ _ (both _ _ parts.1).0 in
+      let t_less : t.node < length plan.nodes = (let e = within.0 in grind (arith, e)) in
+      let u_less : u.node < length plan.nodes = (let e = within.1 in grind (arith, e)) in
+      let are = nodes_found plan t.node u.node parts.1 in
+      let one = (noted.each t t_in t_less).each are.child are.container are.below are.concurrent in
+      let two = (noted.each u u_in u_less).each are.other are.container are.other_below are.other_concurrent in
+      let here = apart_if (passed_at passed are.container) are.child are.other t u one two are.differ parts.0 in
+      both_true _ _ within.0 (turn_told (λ turn. concurrent_of plan turn.0 && meets (passed_at passed turn.1)) (plan_path plan t.node) are.child are.container are.below (both_true _ _ are.concurrent here))
+
+  -- a touch that may not race is not compared
+  pub passed_over : (most : ℕ) (told : List Race) (t : TouchText) → Contains group t → may_race plan passed t.node ≡ false → touch_told plan most group told t ≡ told
+  passed_over most told t t_in none = touch_alone plan most group told t (λ u u_in is. true≢false (sym (races_where t u t_in u_in is) ∙ none))
+
+fold_push : {A B : Type 0} (f : B → A → B) (start : B) (xs : List A) (x : A) → fold f start (xs ++ x ∷ []) ≡ f (fold f start xs) x
+fold_push f start [] x = refl
+fold_push f start (y ∷ xs) x = fold_push f (f start y) xs x
+
+-- one touch more is told
+pub told_next : (plan : PlanText) (most : ℕ) (group : List Touch) (start told after : List Race) (i : ℕ) (d : Touch) → i < length group → told ≡ fold (touch_told plan most (map touch_view group)) start (map touch_view (take i group))
+    → after ≡ touch_told plan most (map touch_view group) told (touch_view (get_or group i d)) → after ≡ fold (touch_told plan most (map touch_view group)) start (map touch_view (take (i + 1) group))
+told_next plan most group start told after i d less so_far is =
+    let f = touch_told plan most (map touch_view group) in
+    let touch = touch_view (get_or group i d) in
+    is ∙ ap (λ r. f r touch) so_far ∙ sym (fold_push f start (map touch_view (take i group)) touch) ∙ ap (fold f start) (sym (map-take_at touch_view group i d less))
+
+-- one that may not race is passed over
+pub told_over : (plan : PlanText) (passed : List (Option Passed)) (most : ℕ) (group : List Touch) (start told after : List Race) (i : ℕ) (d : Touch) → AreNoted plan passed (map touch_view group) → i < length group
+    → may_race plan passed (get_or group i d).node ≡ false → told ≡ fold (touch_told plan most (map touch_view group)) start (map touch_view (take i group)) → after ≡ told
+    → after ≡ fold (touch_told plan most (map touch_view group)) start (map touch_view (take (i + 1) group))
+told_over plan passed most group start told after i d noted less none so_far same =
+    let touch = get_or group i d in
+    let t_in = contains-map touch_view group touch (contains_at group i d less) in
+    told_next plan most group start told after i d less so_far (same ∙ sym (passed_over plan passed (map touch_view group) noted most told (touch_view touch) t_in none))
+
+-- ---- one note
+
+pub kept_all : (passed : List (Option Passed)) → Keeps passed passed
+kept_all passed = record { each = λ k b t h. h }
+
+pub keeps_more : (a b c : List (Option Passed)) → Keeps a b → Keeps b c → Keeps a c
+keeps_more a b c p q = record { each = λ k d t h. q.each k d t (p.each k d t h) }
+
+pub any_read : {A : Type 0} (xs : List A) (i : ℕ) (d e : A) → i < length xs → get_or xs i d ≡ get_or xs i e
+any_read [] i d e less = absurd (omega (arith, less))
+any_read (x ∷ xs) zero d e less = refl
+any_read (x ∷ xs) (suc i) d e less = any_read xs i d e (omega (arith, less))
+
+kept_one : (old : Option Passed) (new : Passed) → KeepsIf old new → (b : ℕ) (t : TouchText) → HasNotedIf old b t → HasNotedIf (Some new) b t
+kept_one None new keeps b t h = absurd h
+kept_one (Some p) new keeps b t h = keeps.each b t h
+
+pub set_keeps : (passed : List (Option Passed)) (at : ℕ) (d : Option Passed) (new : Passed) → at < length passed → KeepsIf (get_or passed at d) new → Keeps passed (set passed at (Some new))
+set_keeps passed at d new less keeps = record {
+  each = λ k b t h. elim (cases_eq k at) [
+    | inl same ↦
+        let read : passed_at passed k ≡ get_or passed at d = ap (passed_at passed) same ∙ any_read passed at None d less in
+        subst (λ p. HasNotedIf p b t) (sym (ap (λ j. get_or (set passed at (Some new)) j None) same ∙ get_or-set_same passed at (Some new) None less))
+        (kept_one (get_or passed at d) new keeps b t (subst (λ p. HasNotedIf p b t) read h))
+    | inr other ↦ subst (λ p. HasNotedIf p b t) (sym (get_or-set_other passed at k (Some new) None other)) h
+  ];
+}
+
+pub set_noted : (passed : List (Option Passed)) (at : ℕ) (new : Passed) (child : ℕ) (t : TouchText) → at < length passed → HasNoted new child t → HasNotedIf (passed_at (set passed at (Some new)) at) child t
+set_noted passed at new child t less h = subst (λ p. HasNotedIf p child t) (sym (get_or-set_same passed at (Some new) None less)) h
+
+-- ---- along a path
+
+pub record NotedBelow (plan : PlanText) (passed : List (Option Passed)) (path : List ℕ) (t : TouchText) (n : ℕ) : Type 0 where
+  pub each : (j : ℕ) → suc j < n → concurrent_of plan (get_or path j 0) ≡ true → HasNotedIf (passed_at passed (get_or path (suc j) 0)) (get_or path j 0) t
+
+pub below_none : (plan : PlanText) (passed : List (Option Passed)) (path : List ℕ) (t : TouchText) → NotedBelow plan passed path t 1
+below_none plan passed path t = record { each = λ j less. absurd (omega (arith, less)) }
+
+pub below_more : (plan : PlanText) (before after : List (Option Passed)) (path : List ℕ) (t : TouchText) (n : ℕ) → 0 < n → Keeps before after
+    → (concurrent_of plan (get_or path (n - 1) 0) ≡ true → HasNotedIf (passed_at after (get_or path n 0)) (get_or path (n - 1) 0) t)
+    → NotedBelow plan before path t n → NotedBelow plan after path t (n + 1)
+below_more plan before after path t n some keeps last so_far = record {
+  each = λ j less. elim (cases_eq (suc j) n) [
+    | inl is ↦
+        let lower : n - 1 ≡ j = omega (arith, is, some) in
+        subst (λ m. concurrent_of plan (get_or path j 0) ≡ true → HasNotedIf (passed_at after (get_or path m 0)) (get_or path j 0) t) (sym is)
+        (subst (λ k. concurrent_of plan (get_or path k 0) ≡ true → HasNotedIf (passed_at after (get_or path n 0)) (get_or path k 0) t) lower last)
+    | inr other ↦ λ runs. keeps.each (get_or path (suc j) 0) (get_or path j 0) t (so_far.each j (omega (arith, less, other)) runs)
+  ];
+}
+
+turn_at : (path : List ℕ) (child container : ℕ) → PassesBy path child container → (j : ℕ) × (suc j < length path) × (get_or path j 0 ≡ child) × (get_or path (suc j) 0 ≡ container)
+turn_at [] child container by = absurd by
+turn_at (first ∷ []) child container by = absurd by
+turn_at (first ∷ next ∷ above) child container (inl (one, two)) = (0, omega arith, one, two)
+turn_at (first ∷ next ∷ above) child container (inr later) = let rest = turn_at (next ∷ above) child container later in (suc rest.0, (let less = rest.1 in omega (arith, less)), rest.2, rest.3)
+
+pub noted_all : (plan : PlanText) (passed : List (Option Passed)) (ids : List Id) (path : List ℕ) (t : TouchText) (n : ℕ) → ids ≡ ids_of_nodes plan.nodes → (t.node < length ids → path ≡ path_of ids t.node) → length path ≤ n
+    → NotedBelow plan passed path t n → t.node < length plan.nodes → IsNoted plan passed t
+noted_all plan passed ids path t n nodes is past below less = record {
+  each = λ child container by runs.
+      let long = ap length nodes ∙ length-map plan.nodes (λ node. node.id) in
+      let same : path ≡ plan_path plan t.node = is (omega (arith, less, long)) ∙ ap (λ i. path_of i t.node) nodes in
+      let turn = turn_at path child container (subst (λ p. PassesBy p child container) (sym same) by) in
+      let within = turn.1 in
+      subst (λ k. HasNotedIf (passed_at passed k) child t) turn.3
+      (subst (λ c. HasNotedIf (passed_at passed (get_or path (suc turn.0) 0)) c t) turn.2 (below.each turn.0 (omega (arith, within, past)) (ap (concurrent_of plan) turn.2 ∙ runs)));
+}
+
+-- ---- one touch after another
+
+pub touches_none : (plan : PlanText) (passed : List (Option Passed)) → AreNoted plan passed []
+touches_none plan passed = record { each = λ t h. contains_nothing t h }
+
+pub touches_more : (plan : PlanText) (before after : List (Option Passed)) (group : List Touch) (i : ℕ) (d : Touch) → i < length group → Keeps before after
+    → ((get_or group i d).node < length plan.nodes → IsNoted plan after (touch_view (get_or group i d))) → AreNoted plan before (map touch_view (take i group)) → AreNoted plan after (map touch_view (take (i + 1) group))
+touches_more plan before after group i d less keeps last so_far = subst (AreNoted plan after) (sym (map-take_at touch_view group i d less)) (record {
+  each = λ t h within. elim (Contains-append_cases (map touch_view (take i group)) (touch ∷ []) t h) [
+    | inl old ↦ (let was = so_far.each t old within in record { each = λ child container by runs. keeps.each container child t (was.each child container by runs) })
+    | inr new ↦ elim (contains_cases touch t [] new) [
+      | inl is_last ↦ subst (λ u. u.node < length plan.nodes → IsNoted plan after u) is_last last within
+      | inr no_more ↦ contains_nothing t no_more
+    ]
+  ];
+})
+  where
+    touch : TouchText
+    touch = touch_view (get_or group i d)

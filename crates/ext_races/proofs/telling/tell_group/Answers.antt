@@ -1,0 +1,29 @@
+use Rattle.std.proofs.Common.{◌∙◌, ◌≤◌, ap, arith, length, map, sym, Vec, Global}
+use Rattle.ext_plan.specs.Plans.{plan_view}
+use Rattle.ext_races.specs.Touches.{touch_view}
+use Rattle.ext_races.proofs.Noted.{told_next, told_over}
+use Rattle.ext_races.proofs.Told.{group_full, group_looks}
+use Rattle.ext_races.specs.declared.race.Race.{Race}
+use Rattle.ext_races.proofs.telling.tell_group.Goals as goal
+use Rattle.ext_races.proofs.telling.tell_group.Goals.{then-may_race+in_ok-tell_touch, else-may_race}
+
+pub returns-then-len-most : goal.returns-then-len-most
+returns-then-len-most c =
+    let ok = c.args.told.now.ok in
+    let full : c.args.most ≤ length c.args.told.now.items = omega (arith, ok) in
+    sym (group_full (plan_view c.args.plan.now) c.args.most (map touch_view c.args.group.now) c.args.told.now.items full)
+
+pub returns-then-not-changes_any : goal.returns-then-not-changes_any
+returns-then-not-changes_any c = sym (group_looks (plan_view c.args.plan.now) c.args.most c.args.group.now c.args.told.now.items (sym c.changes_any.ensures ∙ c.if-not-changes_any.true))
+
+pub loop-touch-preserved : goal.loop-touch-preserved
+loop-touch-preserved c =
+    let plan = plan_view c.args.plan.now in
+    let group = c.args.group.now in
+    let start = c.args.told.now.items in
+    elim c.if-may_race.branch [
+      | then-may_race+in_ok-tell_touch w ↦ told_next plan c.args.most group start c.loop-touch.told.items _ c.loop-touch.touch-index _ (omega arith) c.loop-touch.invariant (ap (λ (v : Vec Race Global). v.items) w.told-is ∙ w.in_ok-tell_touch.ensures)
+      | else-may_race w ↦
+          told_over plan c.note_group.new.passed c.args.most group start c.loop-touch.told.items _ c.loop-touch.touch-index _ c.note_group.ensures (omega arith) (sym c.may_race.ensures ∙ w.if-may_race.false) c.loop-touch.invariant
+          (ap (λ (v : Vec Race Global). v.items) w.told-is)
+    ]
