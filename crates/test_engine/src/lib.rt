@@ -1,14 +1,9 @@
-//! Tests of the engine: the code of the guide, refused openings, what is made of a compute's
-//! answers, and suites of their own over its public calls: children that run at once, locks that
-//! are held until a context is closed, values of a lane that a run has not in hand.
+//! Tests of the engine: the code of the guide and the recipes, what is made of a compute's answers,
+//! openings, and the threads that a run leaves.
 #![tactic(auto)]
 
 #[cfg(test)]
 mod ending;
-#[cfg(test)]
-mod gates;
-#[cfg(test)]
-mod held;
 #[cfg(test)]
 mod hour;
 #[cfg(test)]
@@ -18,10 +13,6 @@ mod made;
 #[cfg(test)]
 mod noting;
 #[cfg(test)]
-mod opening;
-#[cfg(test)]
-mod outside;
-#[cfg(test)]
 mod page;
 #[cfg(test)]
 mod recipes;
@@ -29,7 +20,5 @@ mod recipes;
 mod run_opening;
 #[cfg(test)]
 mod server;
-#[cfg(test)]
-mod texts;
 #[cfg(test)]
 mod threads;

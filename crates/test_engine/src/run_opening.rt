@@ -1,6 +1,5 @@
 //! Openings of what a run goes over: those that are refused, and how large they may be.
 mod leaves;
-mod meeting;
 
 use crate::server::Server;
 use ext_engine::{

@@ -5,8 +5,7 @@ ghost use Rattle.ext_store.specs.Stores.{closers_below};
 ghost use Rattle.ext_engine.specs.TreeRun.{IsIdle, IsUsable};
 
 use crate::gates::reaches;
-use crate::opening::{OpenedApart, open_apart, same};
-use crate::server::server_key;
+use crate::opening::{OpenedApart, a_key, open_apart, same};
 use ext_closing::CloseAction;
 use ext_engine::{
     Call, Callbacks, Kind, Mode, OpenGate, Opened, Outcome, Suite, Verdict, is_leaf, leaf_laws,
@@ -93,7 +92,7 @@ impl Callbacks for TableSuite<'_> {
 impl<'a> Suite<Table> for TableSuite<'a> {
     ghost use Rattle.std.specs.Prelude.{◌≡◌, [], ◌∷◌};
     ghost use Rattle.ext_engine.specs.Leaves.{writes};
-    ghost use Rattle.test_engine.specs.Leaves.{leaves_with};
+    ghost use Rattle.test_runs.specs.Leaves.{leaves_with};
 
     type Action = LetTry<'a>;
 
@@ -287,7 +286,7 @@ fn lock_is_held<R: Threads + Wait + Sync + Abort>(rt: &R, alloc: Global, key: &K
 /// Tests `run_tree`.
 #[test]
 fn test_locks_are_held_until_its_context_is_closed(rt: HostRuntime) {
-    let key = server_key(rt.alloc()).expect(&rt, "a key");
+    let key = a_key(rt.alloc()).expect(&rt, "a key");
     let signs = Signs::new();
     lock_is_held(&rt, rt.alloc(), &key, &signs);
 }

@@ -7,6 +7,7 @@ ghost use Rattle.ext_engine.specs.TreeRun.{IsIdle, IsUsable};
 use ext_engine::{Opened, open_run, read_ids};
 use ext_locks::LockLane;
 use ext_store::{Lane, Limits, StoreValue};
+use ext_tree::{Key, Namespace};
 use std::alloc::Global;
 use std::fmt::Debug;
 use std::process::Abort;
@@ -48,6 +49,11 @@ pub(crate) fn open_apart<V: StoreValue + Drop>(
         lane,
         lock_lane,
     })
+}
+
+/// A key; `None` where there is no memory.
+pub(crate) fn a_key(alloc: Global) -> Option<Key> {
+    Key::new(alloc, Namespace::global(), "page").ok()
 }
 
 /// Asserts that this was answered. Tests assert by it, since a call is cheaper to prove than what `assert_eq!` writes.
