@@ -418,8 +418,8 @@ impl Cells {
         }
     }
 
-    /// Makes a fill, a fail or an abandon of the cell, which the lane has claimed. Each caller's act
-    /// is a constant, so the compiler removes the tests of it.
+    /// Makes a fill, a fail or an abandon of the cell, which the lane has claimed. Each caller's
+    /// act is a constant, so the compiler removes the tests of it.
     #[inline(always)]
     fn end_claim(&self, lane: &mut CellLane, cell: CellNo, act: Act<CellNo>)
         requires lane { lane.old.cells ≡ self.now.id }

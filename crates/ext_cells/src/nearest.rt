@@ -78,7 +78,8 @@ impl Reading {
     }
 }
 
-// What the first pass of a look-up reads: empty cells, in order, up to the first where anything stands.
+// What the first pass of a look-up reads: empty cells, in order, up to the first where anything
+// stands.
 #[derive(Clone, Copy, Drop)]
 pub(crate) struct EmptyCells {
     // How many cells these are.

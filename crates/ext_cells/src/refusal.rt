@@ -16,7 +16,8 @@ pub enum CellRefusal {
     Busy,
     /// The cell is sealed.
     Closed,
-    /// The cell has had too many events: its version is above 2^40 - 3, or for a claim above 2^40 - 4.
+    /// The cell has had too many events: its version is above 2^40 - 3, or above 2^40 - 4 for a
+    /// claim.
     Exhausted,
     /// All numbers were drawn.
     NumbersFull,

@@ -116,9 +116,10 @@ pub fn read_ids(alloc: Global, texts: &[&str]) -> Result<Vec<UniqueId>, OpenFaul
 /// and keys.
 ///
 /// Refused, in this order, as `Tree` for the first fault of the ids, of which there may be
-/// `limits.size.contexts()`, as `Store(BadLimit)` unless there are 1 to `limits.size.lanes()` lanes,
-/// 1 to 64 tries, 1 to 1,024 keys and 1 to `limits.size.numbers()` numbers, as `Store(Memory)`, and as `Locks` for
-/// more than 63 names, for the first that stands twice, and for want of memory.
+/// `limits.size.contexts()`, as `Store(BadLimit)` unless there are 1 to `limits.size.lanes()`
+/// lanes, 1 to 64 tries, 1 to 1,024 keys and 1 to `limits.size.numbers()` numbers, as
+/// `Store(Memory)`, and as `Locks` for more than 63 names, for the first that stands twice, and for
+/// want of memory.
 pub fn open_run<V: StoreValue + Drop>(
     alloc: Global,
     ids: &[UniqueId],

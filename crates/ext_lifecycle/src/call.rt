@@ -2,7 +2,8 @@
 use ext_model::ContextNo;
 
 /// What is called: a callback of one of four kinds, or the test. Source: the extension interfaces
-/// `BeforeAllCallback`, `BeforeEachCallback`, `AfterEachCallback` and `AfterAllCallback` of JUnit 5.
+/// `BeforeAllCallback`, `BeforeEachCallback`, `AfterEachCallback` and `AfterAllCallback` of
+/// JUnit 5.
 #[derive(Clone, Copy, Debug, PartialEq, Eq)]
 pub enum Kind {
     /// Before all children of a container.

@@ -2,7 +2,8 @@
 
 /// How a node ended.
 ///
-/// Source: Javadoc type `TestExecutionResult.Status` for the first three; `Skipped` beside them is an own rule.
+/// Source: Javadoc type `TestExecutionResult.Status` for the first three; `Skipped` beside them is
+/// an own rule.
 #[derive(Clone, Copy, Debug, PartialEq, Eq)]
 pub enum Status {
     /// No call of the node failed or aborted, and no close failed. Printed as `successful`.

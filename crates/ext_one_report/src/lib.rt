@@ -9,8 +9,8 @@
 //! - and no call and no close wants memory, a number, a key or a value (`specs/FullRuns`). The
 //!   results of a run tell that this is so (`told_lack_laws`).
 //!
-//! Under it stand two laws of any suite, with no plan: who makes the events that a lane sees while a
-//! node runs (`alone_laws`, `specs/Alone`), and which of them are on the node's own cells
+//! Under it stand two laws of any suite, with no plan: who makes the events that a lane sees while
+//! a node runs (`alone_laws`, `specs/Alone`), and which of them are on the node's own cells
 //! (`apart_laws`, `specs/Changing`).
 //!
 //! `specs/OneReport` has the two sentences, and `specs/WorkedPlans` small plans for which they hold

@@ -3,12 +3,14 @@ ghost use Rattle.ext_one_report.specs.Apart.{FreeKeepsApart};
 ghost use Rattle.ext_one_report.specs.OneReport.{NearReport, OneReport};
 ghost use Rattle.ext_one_report.specs.Shares.{RaceFreeSharesValues};
 
-/// Proves that a run on several lanes that lacks nothing reports of each node what the plain run does, if nodes keep apart.
+/// Proves that a run on several lanes that lacks nothing reports of each node what the plain run
+/// does, if nodes keep apart.
 ///
-/// That is: nodes that may run beside one another touch no place that one of them may change, and closes tell no order
-/// (`one_report`). Where such nodes may also compute the same value in one place, all is the same but who computed it
-/// and who found it, and of a node that shares no value exactly the same (`near`). The nodes of a plan without races keep
-/// apart or share values, but for those that compute one fault (`apart`, `shares`).
+/// That is: nodes that may run beside one another touch no place that one of them may change, and
+/// closes tell no order (`one_report`). Where such nodes may also compute the same value in one
+/// place, all is the same but who computed it and who found it, and of a node that shares no value
+/// exactly the same (`near`). The nodes of a plan without races keep apart or share values, but for
+/// those that compute one fault (`apart`, `shares`).
 pub fn report_laws()
     ensures one_report { OneReport }
     ensures near { NearReport }

@@ -1,7 +1,8 @@
 //! The results of a run on several lanes tell what it lacked.
 ghost use Rattle.ext_one_report.specs.ToldLacks.{OneReportTold, TellsLacks};
 
-/// Proves that a run on several lanes lacks nothing if its results tell of no lack (`ext_parallel::may_have_lacked`).
+/// Proves that a run on several lanes lacks nothing if its results tell of no lack
+/// (`ext_parallel::may_have_lacked`).
 ///
 /// So where its plan has one report, such a run reports of each node what the plain run does.
 pub fn told_lack_laws()

@@ -1,8 +1,8 @@
 //! Worked plans.
 ghost use Rattle.ext_one_report.specs.WorkedPlans.{ComputesAreNoRace, ComputesDoNot, LookAndPutDoNot, LooksKeepApart, OneByOneKeepsApart, OneTextTellsOne, OwnPutsKeepApart, PutsAboveDoNot, ReplacedDoesNotTellOne, TestsAreBeside, TestsAreRead, TwoContextsTellOne, TwoFaultsDoNotTellOne, TwoKeysKeepApart, WorkedHasKeys, WorkedHasNumbers, WorkedIsRead, WorkedKeepsApart, WorkedTellsOne, ClassSharesNone, ComputesShareValues, FirstShares, SecondShares};
 
-/// Proves which of some small plans keep apart and whose closes tell one text, and that one plan has all that `report_laws` asks. It does
-/// nothing when it runs.
+/// Proves which of some small plans keep apart and whose closes tell one text, and that one plan
+/// has all that `report_laws` asks. It does nothing when it runs.
 pub fn worked_plans()
     ensures own_puts_keep_apart { OwnPutsKeepApart }
     ensures looks_keep_apart { LooksKeepApart }

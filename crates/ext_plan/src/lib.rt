@@ -3,9 +3,9 @@
 //!
 //! A `Plan` has `PlanKey`s and `PlanNode`s; callbacks and tests are lists of `Step`s, each of which
 //! names its key by a `StepKey`. `Step::parts` takes a step apart, and its `Word` tells which call
-//! of the store it makes. `Plan::store_keys` makes the keys of the labels, and `keys_are_few` counts
-//! them. Contracts see a plan by `plan_view` (`specs/Plans.antt`); `specs/ReadPlans.antt` says what
-//! holds of each plan that was read.
+//! of the store it makes. `Plan::store_keys` makes the keys of the labels, and `keys_are_few`
+//! counts them. Contracts see a plan by `plan_view` (`specs/Plans.antt`); `specs/ReadPlans.antt`
+//! says what holds of each plan that was read.
 //!
 //! A step's call of the store is a `StepCall`, which `StepKeys` makes with the key that the step
 //! names. What a look-up shows a step is `Seen`, and why a call was refused is a `Reason`.

@@ -11,9 +11,10 @@ use ext_tree::Tree;
 /// As many segments as an id may have, and further than a step goes up.
 const NO_DEPTH: usize = 16;
 
-/// The least number of segments that the id of a test at or below this node has, or 16 where there is no such test: round
-/// each of these tests the node's callbacks run on the test's context. Only the nodes below are gone over, and none below a
-/// test: so for all nodes of a tree each is looked at once for itself and once for each of its ancestors, at most 16 times.
+/// The least number of segments that the id of a test at or below this node has, or 16 where there
+/// is no such test: round each of these tests the node's callbacks run on the test's context. Only
+/// the nodes below are gone over, and none below a test: so for all nodes of a tree each is looked
+/// at once for itself and once for each of its ancestors, at most 16 times.
 pub(crate) fn least_test_depth(tree: &Tree, sketches: &[NodeSketch<'_>], node: usize) -> usize
     requires tree { tree.now ≡ ids_of (map sketch_view sketches.now) }
     requires within { node < length sketches.now }

@@ -18,12 +18,13 @@ const HEIGHTS: [&str; 15] = [
     "1", "2", "3", "4", "5", "6", "7", "8", "9", "10", "11", "12", "13", "14", "15",
 ];
 
-/// The greatest number of steps of a test or a callback, so that what they compute and find is counted in 32 bits. A text
-/// with more has over 12 GB.
+/// The greatest number of steps of a test or a callback, so that what they compute and find is
+/// counted in 32 bits. A text with more has over 12 GB.
 const STEP_LIMIT: usize = 4_294_967_295;
 
-/// The steps that the texts of a test or a callback are, in order, if they are not too many. `node` is the place of its
-/// node in the plan, and `depth` how many segments the id of a test or container in which it runs has at least.
+/// The steps that the texts of a test or a callback are, in order, if they are not too many. `node`
+/// is the place of its node in the plan, and `depth` how many segments the id of a test or
+/// container in which it runs has at least.
 #[tactic(auto, unfolding(crate::specs::StepReading::steps_at))]
 pub(crate) fn steps_of(
     alloc: Global,
@@ -94,8 +95,8 @@ pub(crate) fn step_of(
     step_of_words(alloc, labels, words.as_slice())
 }
 
-/// The words of a text, with one space between two, but no more than the first six: what has so many is no step, and no
-/// lock.
+/// The words of a text, with one space between two, but no more than the first six: what has so
+/// many is no step, and no lock.
 pub(crate) fn words_of<'a>(text: &'a str) -> ArrayVec<&'a str, 6>
     ensures { map (λ w. w.now) result.items ≡ take 6 (slice_split (λ b. b == 32) text.now) }
 {

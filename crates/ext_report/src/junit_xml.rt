@@ -20,8 +20,8 @@ use std::alloc::{AllocError, Global};
 ///
 /// Each context whose children have tests is a suite, and each of these tests a case of it. A
 /// container that failed or aborted itself is a case of its own suite. The fault of a failed node
-/// is the message of a `failure`, and that of an aborted one the message of a `skipped`. No case has
-/// a time.
+/// is the message of a `failure`, and that of an aborted one the message of a `skipped`. No case
+/// has a time.
 ///
 /// Takes memory for the text and for a list of each suite's cases, and fails with `AllocError` only
 /// if that is refused.

@@ -26,8 +26,8 @@ impl<V: StoreValue + Drop> Store<V> {
     /// lane knows it from then on. Otherwise the fault by which a test may fail:
     ///
     /// - the factory's fault for `Failed` and `FaultUnkept`, as it came
-    /// - the kept fault for `FaultKept` and `FaultStands`, copied, as `show_fault` gives it, and the
-    ///   lane knows it from then on
+    /// - the kept fault for `FaultKept` and `FaultStands`, copied, as `show_fault` gives it, and
+    ///   the lane knows it from then on
     /// - the text of the cause for `Unkept`, and of the refusal for `Refused`
     /// - "the value is not shown", or "the kept fault is not shown", where this thread finds none
     ///   under the number; never for a compute that this lane has just made

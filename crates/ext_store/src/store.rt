@@ -106,8 +106,8 @@ impl<V: StoreValue + Drop> Store<V> {
     /// them. Nobody but these lanes makes an event: where none of them has made one, the history is
     /// empty (`no_lane` of `history_laws` in ext_model).
     ///
-    /// Refused, in this order, as `BadLimit` unless there are 1 to `limits.size.lanes()` lanes, 1 to
-    /// 64 tries, 1 to 1,024 keys and 1 to `limits.size.numbers()` numbers, and as `Memory`. A
+    /// Refused, in this order, as `BadLimit` unless there are 1 to `limits.size.lanes()` lanes, 1
+    /// to 64 tries, 1 to 1,024 keys and 1 to `limits.size.numbers()` numbers, and as `Memory`. A
     /// refused call drops the tree.
     pub fn open(
         alloc: Global,

@@ -210,7 +210,8 @@ impl StoreCore {
         self.waiters.wake_all();
     }
 
-    // What stands along the path, if anything, or why that can't be told. What the lane has seen then is legal.
+    // What stands along the path, if anything, or why that can't be told. What the lane has seen
+    // then is legal.
     fn stands_along(&self, lane: &mut CellLane, path: &[ContextNo], key: KeyNo) -> Option<Unused>
         requires lane { lane.old.cells ≡ self.now.cells }
         requires path { IsTrail self.now path.now }

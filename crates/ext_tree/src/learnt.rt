@@ -2,7 +2,8 @@
 ghost use Rattle.std.specs.Prelude.{true, ◌≡◌};
 ghost use Rattle.ext_tree.specs.InnerLearning.{knows_key, put_key};
 
-/// What a lane has learnt of a place: nothing, which key it holds, or that the lane itself put the key there.
+/// What a lane has learnt of a place: nothing, which key it holds, or that the lane itself put the
+/// key there.
 #[derive(Clone, Copy)]
 pub enum Learnt {
     /// It does not know of a key there.

@@ -16,8 +16,8 @@ use std::marker::Model;
 
 /// A namespace: the global one or a created one, and the parts that were given to it, in order.
 ///
-/// JUnit 5 User Guide, section "Keeping State in Extensions", and Javadoc type `ExtensionContext.Namespace`.
-/// Parts are texts (own rule).
+/// JUnit 5 User Guide, section "Keeping State in Extensions", and Javadoc type
+/// `ExtensionContext.Namespace`. Parts are texts (own rule).
 #[derive(Debug, Drop)]
 pub struct Namespace {
     created: bool,

@@ -5,7 +5,8 @@ use crossbeam_utils::sync::{EventCount, Key};
 use std::marker::Model;
 use std::sync::Wait;
 
-/// The lanes that wait for something, shared by reference between those that wait and those that end it.
+/// The lanes that wait for something, shared by reference between those that wait and those that
+/// end it.
 #[derive(Drop)]
 pub struct Waiters {
     ended: EventCount,

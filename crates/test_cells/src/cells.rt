@@ -1,7 +1,8 @@
 //! Cells whose answers were worked out by hand.
 //!
-//! `zero_words_at_open` and `claim_beside` show the calls of `ext_cells`: three cells are opened and read at one moment, and a claim
-//! keeps other lanes out until its lane fills, fails or abandons it.
+//! `zero_words_at_open` and `claim_beside` show the calls of `ext_cells`: three cells are opened
+//! and read at one moment, and a claim keeps other lanes out until its lane fills, fails or
+//! abandons it.
 ghost use Rattle.std.specs.Prelude.{◌≡◌, ◌<◌, ◌≤◌, IsTrue};
 ghost use Rattle.ext_model.specs.CallActs.{IsHeld};
 
@@ -105,8 +106,8 @@ fn all_are_busy(rt: &impl Abort, cells: &Cells, lane: &mut CellLane)
     go(rt, cells, lane, 0, Call::Puts(1, busy));
 }
 
-/// Asserts that the second lane is refused the cell that the first one has claimed, and meets then the fault with which that one
-/// failed it.
+/// Asserts that the second lane is refused the cell that the first one has claimed, and meets then
+/// the fault with which that one failed it.
 fn fail_beside(rt: &impl Abort, cells: &Cells, first: &mut CellLane, second: &mut CellLane)
     requires first { first.old.cells ≡ cells.now.id }
     requires second { second.old.cells ≡ cells.now.id }
@@ -144,7 +145,8 @@ fn cells_keep_faults_as_they_are_opened(rt: HostRuntime) {
     }
 }
 
-/// Asserts that the second lane is refused the cell that the first one has claimed, and finds then what that one filled it with.
+/// Asserts that the second lane is refused the cell that the first one has claimed, and finds then
+/// what that one filled it with.
 fn claim_beside(rt: &impl Abort, cells: &Cells, first: &mut CellLane, second: &mut CellLane)
     requires first { first.old.cells ≡ cells.now.id }
     requires second { second.old.cells ≡ cells.now.id }
@@ -227,8 +229,9 @@ fn place_and_standing(
     }
 }
 
-/// Asserts what is nearest along some rows. In column 3 a value's number stands in the rows 4 and 2, a fault's in the last but one,
-/// and a seal in the one of 5; the last has a value's number in the column before it.
+/// Asserts what is nearest along some rows. In column 3 a value's number stands in the rows 4 and
+/// 2, a fault's in the last but one, and a seal in the one of 5; the last has a value's number in
+/// the column before it.
 fn ask_for_nearest(rt: &impl Abort, cells: &Cells, lane: &mut CellLane)
     requires lane { lane.old.cells ≡ cells.now.id }
     requires cells { 576 ≤ cells.now.id.limits.cells }

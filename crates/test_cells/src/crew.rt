@@ -1,8 +1,9 @@
 //! The worked examples of the crew, and what no clause says: that workers run side by side.
 //!
-//! `squares` shows a call of `ext_crew::run_children`: a job for each item, on two workers. A job may call `run_children` again, with
-//! its own share: that is how a tree is run. `all_stay_small` shows a proof about the shares: what each job keeps of its share holds
-//! of the slices in the end (`run-keeps` of `proofs/Runs.antt` of `ext_crew`).
+//! `squares` shows a call of `ext_crew::run_children`: a job for each item, on two workers. A job
+//! may call `run_children` again, with its own share: that is how a tree is run. `all_stay_small`
+//! shows a proof about the shares: what each job keeps of its share holds of the slices in the end
+//! (`run-keeps` of `proofs/Runs.antt` of `ext_crew`).
 ghost use Rattle.std.specs.Prelude.{◌≡◌, ◌<◌, ◌≤◌, length, All};
 
 use crate::gates::{LastGate, MeetingGate, OrderGate};
@@ -57,7 +58,8 @@ fn jobs_0_and_1_meet(rt: HostRuntime) -> Result<(), Fail> {
     Ok(())
 }
 
-// Two workers, one of which is held in job 0: the other one draws all that are left. With a fixed cut job 2 would wait for job 0.
+// Two workers, one of which is held in job 0: the other one draws all that are left. With a fixed
+// cut job 2 would wait for job 0.
 /// Tests `run_children`.
 #[test]
 fn job_0_waits_for_all_others(rt: HostRuntime) -> Result<(), Fail> {
@@ -111,8 +113,8 @@ fn jobs_0_and_1_meet_among_65536(rt: HostRuntime) -> Result<(), Fail> {
     Ok(())
 }
 
-// Five lanes for three workers, each of which has to run one job: a job gives the length of its share and leaves its index there.
-// Which worker runs which job isn't known.
+// Five lanes for three workers, each of which has to run one job: a job gives the length of its
+// share and leaves its index there. Which worker runs which job isn't known.
 /// Tests `run_children`.
 #[test]
 fn longer_shares_first(rt: HostRuntime) -> Result<(), Fail> {
@@ -139,7 +141,8 @@ fn longer_shares_first(rt: HostRuntime) -> Result<(), Fail> {
     Ok(())
 }
 
-/// Whether the jobs 0, 1 and 2 left their indices in a share of two, one of two and one of one, and told these lengths.
+/// Whether the jobs 0, 1 and 2 left their indices in a share of two, one of two and one of one, and
+/// told these lengths.
 fn are_shares(left: [u8; 5], lengths: &[usize]) -> bool {
     let [a, also_a, b, also_b, c] = left;
     let told = |job: u8| lengths.get(usize::from(job)).copied();
@@ -168,7 +171,8 @@ fn gate_is_told_round_each_job(rt: HostRuntime) -> Result<(), Fail> {
     Ok(())
 }
 
-/// Runs a job for each item, which needs elements up to 100 in its share and leaves such elements there: so all are up to 100 at the end.
+/// Runs a job for each item, which needs elements up to 100 in its share and leaves such elements
+/// there: so all are up to 100 at the end.
 fn all_stay_small<R: Threads + Wait + Sync>(
     rt: &R,
     alloc: Global,

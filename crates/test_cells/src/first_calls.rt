@@ -1,4 +1,5 @@
-//! The first call of a lane, of each kind, after another lane's put: no clause says that it looks at the cells as they are then.
+//! The first call of a lane, of each kind, after another lane's put: no clause says that it looks
+//! at the cells as they are then.
 ghost use Rattle.std.specs.Prelude.{◌≡◌, ◌≤◌};
 
 use crate::hand::{Call, go, open};
@@ -7,7 +8,8 @@ use ext_cells::{CellLane, Cells};
 use std::alloc::Global;
 use std::process::Abort;
 
-/// Two rows of cells, whose first lane has put number 1 into cell 0, and their other lane, which has made no call.
+/// Two rows of cells, whose first lane has put number 1 into cell 0, and their other lane, which
+/// has made no call.
 fn opened_and_put<R: Abort>(rt: &R, alloc: Global) -> (Cells, CellLane)
     ensures lane { result.1.cells ≡ result.0.id }
     ensures cells { result.0.id.limits.cells ≡ 128 }

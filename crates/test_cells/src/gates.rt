@@ -15,7 +15,8 @@ fn wait_for(counter: &AtomicU64, least: u64, given_up: &AtomicU64) {
     given_up.fetch_add(1, Ordering::SeqCst);
 }
 
-/// Holds each of the first jobs, so many, at its start until all of these have started, or until the turns are used up.
+/// Holds each of the first jobs, so many, at its start until all of these have started, or until
+/// the turns are used up.
 #[derive(Drop)]
 pub(crate) struct MeetingGate {
     first: u64,
@@ -90,7 +91,8 @@ impl Gate for LastGate {
     }
 }
 
-/// Notes how far each of four jobs is: 1 once it has started, 2 once it has run, 3 once it has ended.
+/// Notes how far each of four jobs is: 1 once it has started, 2 once it has run, 3 once it has
+/// ended.
 #[derive(Drop)]
 pub(crate) struct OrderGate {
     steps: [AtomicU64; 4],

@@ -134,7 +134,8 @@ pub(crate) fn end_claim(
     }
 }
 
-/// Draws a number and fails the claim with it, as that of a fault; where there is none, the claim is given up.
+/// Draws a number and fails the claim with it, as that of a fault; where there is none, the claim
+/// is given up.
 pub(crate) fn fail_claim(
     cells: &Cells,
     lane: &mut CellLane,
@@ -159,7 +160,8 @@ pub(crate) fn fail_claim(
     }
 }
 
-/// Claims the cell and fails it. Says with which number; `None` where anything stands there, or where no faults are kept.
+/// Claims the cell and fails it. Says with which number; `None` where anything stands there, or
+/// where no faults are kept.
 fn fail_once(cells: &Cells, lane: &mut CellLane, cell: CellNo) -> Result<Option<u32>, CellRefusal>
     requires lane { lane.old.cells ≡ cells.now.id }
     requires cell { cell < cells.now.id.limits.cells }
@@ -188,7 +190,8 @@ pub(crate) fn put(
     Ok((number, cells.put(lane, cell, number)))
 }
 
-/// What a lane is answered that wins the claim, where this is nothing, or that finds the value of this number.
+/// What a lane is answered that wins the claim, where this is nothing, or that finds the value of
+/// this number.
 fn won_or_found(answer: Result<Option<u32>, CellRefusal>) -> Result<Asked, CellRefusal> {
     match answer {
         Ok(None) => Ok(Asked::Won),

@@ -46,7 +46,8 @@ fn has_first_numbers(
     Ok(())
 }
 
-/// The first lane numbers 64 keys, and is refused a further one; the second one finds the last of them.
+/// The first lane numbers 64 keys, and is refused a further one; the second one finds the last of
+/// them.
 fn number_64(
     rt: &impl Abort,
     alloc: Global,
@@ -151,8 +152,8 @@ fn lanes_give_one_number(rt: HostRuntime) -> Result<(), Fail> {
     Ok(())
 }
 
-/// The key of this name, in the namespace that is created of the first parts, the global one where there are none, with the further
-/// ones appended.
+/// The key of this name, in the namespace that is created of the first parts, the global one where
+/// there are none, with the further ones appended.
 fn key_in(alloc: Global, parts: &[&str], more: &[&str], name: &str) -> Result<Key, TreeFault> {
     let namespace = if parts.is_empty() {
         Namespace::global().append(alloc, more)?
@@ -200,8 +201,8 @@ fn namespaces_are_told_apart(rt: HostRuntime) -> Result<(), Fail> {
     Ok(())
 }
 
-/// A key that differs from all others of these in the first part of its namespace alone: hints look at its name and its last part, so
-/// they stand in each other's way.
+/// A key that differs from all others of these in the first part of its namespace alone: hints look
+/// at its name and its last part, so they stand in each other's way.
 fn key_of_one_hash(alloc: Global, number: usize) -> Result<Key, TreeFault> {
     let first = format!(in alloc; "{number}")?;
     key_in(alloc, &[first.as_str(), "same"], &[], "name")
@@ -225,7 +226,8 @@ fn number_keys_of_one_hash(
     Ok(())
 }
 
-/// Asserts that a further key of that hash is refused, and that each of the 64 has its number, from the last to the first.
+/// Asserts that a further key of that hash is refused, and that each of the 64 has its number, from
+/// the last to the first.
 fn ask_keys_of_one_hash(
     rt: &impl Abort,
     alloc: Global,

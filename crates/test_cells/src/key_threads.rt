@@ -77,8 +77,9 @@ fn are_first(numbers: &Numbers) -> bool {
     true
 }
 
-/// Asserts that so many threads give each key one number in each round, and that the numbers are those from 0 on. Every other thread
-/// begins with the last key. None of them waits for another: one that comes later only has to look, and so catches up.
+/// Asserts that so many threads give each key one number in each round, and that the numbers are
+/// those from 0 on. Every other thread begins with the last key. None of them waits for another:
+/// one that comes later only has to look, and so catches up.
 fn number_beside<R: Abort + Threads + Sync>(
     rt: &R,
     alloc: Global,

@@ -1,5 +1,5 @@
-//! Two lanes of cells in threads of their own. Neither makes as many events as the calls of the other have tries, so no call is
-//! contended, but where a test waits for that.
+//! Two lanes of cells in threads of their own. Neither makes as many events as the calls of the
+//! other have tries, so no call is contended, but where a test waits for that.
 ghost use Rattle.std.specs.Prelude.{◌≡◌, ◌<◌};
 
 use crate::hand::{Asked, ask, end_claim, peek, put};
@@ -31,8 +31,8 @@ fn open<R: Abort>(
     (cells, first, second, third)
 }
 
-/// What one lane was answered: how often each number from 0 to 50 was drawn, and how often a put answered it; 0 stands for
-/// nothing.
+/// What one lane was answered: how often each number from 0 to 50 was drawn, and how often a put
+/// answered it; 0 stands for nothing.
 #[derive(Drop)]
 struct Replies {
     drawn: [u8; 51],
@@ -84,7 +84,8 @@ fn in_two_threads<R: Threads + Wait + Sync>(
     )
 }
 
-/// Whether all numbers from 1 to 50 were drawn once, and each but the last that was put was replaced once, as nothing was.
+/// Whether all numbers from 1 to 50 were drawn once, and each but the last that was put was
+/// replaced once, as nothing was.
 fn each_came_once(one: &Replies, other: &Replies, last: usize) -> bool {
     for number in 0..51 {
         let drawn = one.drawn[number].wrapping_add(other.drawn[number]);
@@ -199,8 +200,8 @@ fn two_threads_fill_and_put(rt: HostRuntime) {
     same(&rt, (state, version), (CellState::Present, 15), "the other");
 }
 
-/// Waits until another lane has sealed cell 2, and then claims cell 0 and gives it up without pause until one has sealed cell 3.
-/// Says how often it did.
+/// Waits until another lane has sealed cell 2, and then claims cell 0 and gives it up without pause
+/// until one has sealed cell 3. Says how often it did.
 fn claim_without_pause(cells: &Cells, mut lane: CellLane) -> u64
     requires lane { lane.cells ≡ cells.now.id }
     requires cells { 3 < cells.now.id.limits.cells }
@@ -274,7 +275,8 @@ fn collect_while_another_claims<R: Threads + Wait + Sync>(
     )
 }
 
-// Lane 1 is mid-way in a collect nearly always, so an event of lane 0 between its two passes comes soon.
+// Lane 1 is mid-way in a collect nearly always, so an event of lane 0 between its two passes comes
+// soon.
 /// Tests `Cells::next_number`, `Cells::put`, `Cells::remove`, `Cells::seal`, `Cells::claim`,
 /// `Cells::collect` and `Cells::nearest`.
 #[test]

@@ -1,7 +1,8 @@
 //! The worked examples of places and notes, and callers that go by the clauses alone.
 //!
-//! `placed_and_found` and `notes_know_what_was_placed_or_shown` show the calls of `ext_values`: a value that was placed is found by
-//! other lanes too, and a taken place hands the box back and shows which value stands there.
+//! `placed_and_found` and `notes_know_what_was_placed_or_shown` show the calls of `ext_values`: a
+//! value that was placed is found by other lanes too, and a taken place hands the box back and
+//! shows which value stands there.
 ghost use Rattle.std.specs.Prelude.{◌≡◌, ◌<◌, IfErr, IfOk, IfSome};
 ghost use Rattle.ext_values.specs.Places.{IsCapacity, IsNoteOf, IsNumber};
 ghost use Rattle.ext_values.specs.Known.{AreNotesOf};
@@ -218,7 +219,8 @@ fn notes_know_what_was_placed_or_shown(rt: HostRuntime) -> Result<(), Fail> {
     Ok(())
 }
 
-/// Places the value for a lane whose notes nobody asks, which then finds it; what is handed back where the place is taken.
+/// Places the value for a lane whose notes nobody asks, which then finds it; what is handed back
+/// where the place is taken.
 fn placed_silently(
     values: &Values<u8>,
     notes: &mut SilentNotes<u8>,
@@ -279,7 +281,8 @@ fn silent_notes_find_what_was_placed(rt: HostRuntime) -> Result<(), Fail> {
     Ok(())
 }
 
-/// The capacity for so many numbers, and whether the last of them is known once it was placed, and the one behind it.
+/// The capacity for so many numbers, and whether the last of them is known once it was placed, and
+/// the one behind it.
 fn last_number(alloc: Global, capacity: u32) -> Result<(u32, bool, bool), Fail>
     requires capacity { IsCapacity capacity }
     requires some { 0 < capacity }

@@ -65,7 +65,8 @@ fn versions_run_out(rt: HostRuntime) {
     next(&rt, after(last, Act::Put(0, 6)), closed);
 }
 
-// The versions stand in the upper 40 bits of these words, a number in the 20 below them, and the state in the lowest four.
+// The versions stand in the upper 40 bits of these words, a number in the 20 below them, and the
+// state in the lowest four.
 /// Tests `word`, `parts` and `after`.
 #[test]
 fn versions_at_their_limits(rt: HostRuntime) {

@@ -70,7 +70,8 @@ fn refused_openings_of_runs(rt: HostRuntime) {
     refused(&rt, alloc, &class, &same, limits(1, 8), locks);
 }
 
-/// How many lanes of the store and of the locks were opened, of so many and this size, or why none were.
+/// How many lanes of the store and of the locks were opened, of so many and this size, or why none
+/// were.
 fn lanes_of(alloc: Global, size: Size, lanes: usize) -> Result<(usize, usize), OpenFault> {
     let ids = read_ids(alloc, &["[engine:x]"])?;
     let limits = Limits {

@@ -5,7 +5,8 @@ use ext_plan_reading::{PlanNode, Step, read_plan};
 use std::alloc::{AllocError, Global};
 use std::test::Fail;
 
-/// An engine, a class with callbacks of each kind, of which one has no step, and a test that is concurrent and has two.
+/// An engine, a class with callbacks of each kind, of which one has no step, and a test that is
+/// concurrent and has two.
 const PLAN: &str = "[[key]]
 label = \"a\"
 [[node]]

@@ -26,7 +26,8 @@ impl Read for SlowReader<'_> {
     }
 }
 
-/// Takes one byte per write, and fails, or takes nothing, once it has taken `good` of them, if it does at all.
+/// Takes one byte per write, and fails, or takes nothing, once it has taken `good` of them, if it
+/// does at all.
 #[derive(Drop)]
 pub struct SlowWriter {
     pub written: Vec<u8>,

@@ -33,7 +33,8 @@ fn faults_are_told_once_more_by_node(rt: HostRuntime) -> Result<(), Fail> {
     Ok(())
 }
 
-/// Counts what it is told, by the place of the node and the kind: 1 for a start, 100 for a fault, 10,000 for an end.
+/// Counts what it is told, by the place of the node and the kind: 1 for a start, 100 for a fault,
+/// 10,000 for an end.
 #[derive(Drop)]
 struct Sum(AtomicU64);
 

@@ -1,4 +1,5 @@
-//! The lines of faults that no plan tells: scripts/examples has the plans that are refused, each with its line.
+//! The lines of faults that no plan tells: scripts/examples has the plans that are refused, each
+//! with its line.
 use crate::same::prints;
 use ext_plan_reading::{Place, PlanFault};
 use std::test::Fail;

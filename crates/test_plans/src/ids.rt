@@ -5,7 +5,8 @@ use std::alloc::{AllocError, Global};
 use std::process::Abort;
 use std::test::Fail;
 
-/// Writes how many segments the id has, each segment's type and value, and the id as it is written behind that.
+/// Writes how many segments the id has, each segment's type and value, and the id as it is written
+/// behind that.
 fn write_id(id: &UniqueId, told: &mut String) -> Result<(), AllocError> {
     write!(told, "{}", id.len())?;
     for i in 0..id.len() {
@@ -170,13 +171,15 @@ fn segments_are_appended(rt: HostRuntime) -> Result<(), Fail> {
     appends(&rt, alloc, LONGEST, ("", ""), "id: more than 16 parts")
 }
 
-/// Whether the first id is the parent of the second, whether they are equal, and whether a copy of the first is the first.
+/// Whether the first id is the parent of the second, whether they are equal, and whether a copy of
+/// the first is the first.
 fn compared(alloc: Global, first: &str, second: &str) -> Result<(bool, bool, bool), Fail> {
     let first = UniqueId::parse(alloc, first)?;
     compared_with(alloc, &first, second)
 }
 
-/// Whether the id is the parent of the one that the text spells, whether they are equal, and whether a copy of it is the id.
+/// Whether the id is the parent of the one that the text spells, whether they are equal, and
+/// whether a copy of it is the id.
 fn compared_with(alloc: Global, id: &UniqueId, text: &str) -> Result<(bool, bool, bool), Fail> {
     let is_same = is_copied(id)?;
     let other = UniqueId::parse(alloc, text)?;

@@ -7,7 +7,8 @@ use std::alloc::Global;
 use std::process::Abort;
 use std::test::Fail;
 
-/// The namespace that is created of the first parts, the global one where there are none, with the further ones appended.
+/// The namespace that is created of the first parts, the global one where there are none, with the
+/// further ones appended.
 fn namespace(alloc: Global, parts: &[&str], more: &[&str]) -> Result<Namespace, TreeFault> {
     if parts.is_empty() {
         return Namespace::global().append(alloc, more);
@@ -15,7 +16,8 @@ fn namespace(alloc: Global, parts: &[&str], more: &[&str]) -> Result<Namespace, 
     Namespace::create(alloc, parts)?.append(alloc, more)
 }
 
-/// Whether the namespace is the one that is created of the first parts with the further ones appended.
+/// Whether the namespace is the one that is created of the first parts with the further ones
+/// appended.
 fn is_namespace(
     alloc: Global,
     namespace_of_two: &Namespace,
@@ -55,7 +57,8 @@ fn declared(
     Ok(directory.declare(key, most))
 }
 
-/// Asserts that declaring the global keys of these names, in order, answers this in a directory of so many.
+/// Asserts that declaring the global keys of these names, in order, answers this in a directory of
+/// so many.
 fn declares(
     rt: &impl Abort,
     alloc: Global,

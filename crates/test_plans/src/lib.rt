@@ -1,6 +1,7 @@
-//! Tests of plans, and of what they stand on, by public calls: ids, trees and keys, the one-thread store, plans and their
-//! races, plain runs, reports, and runs from the bytes of a plan to those of its report. Also hostile devices, the calls
-//! of a node, the listener, and failures told once more.
+//! Tests of plans, and of what they stand on, by public calls: ids, trees and keys, the one-thread
+//! store, plans and their races, plain runs, reports, and runs from the bytes of a plan to those of
+//! its report. Also hostile devices, the calls of a node, the listener, and failures told once
+//! more.
 #![tactic(auto)]
 
 #[cfg(test)]

@@ -95,7 +95,8 @@ fn before_fault_skips_the_test(rt: HostRuntime) -> Result<(), Fail> {
     let afters = afters_of(alloc, &Thrice {}, true, 1, &PATH[1..])?;
     let mut script = Script::new(false);
     let tally = run_calls(befores.as_slice(), TEST, afters.as_slice(), &mut script);
-    // The root's callbacks come first: its second one fails, and all six after-callbacks follow, the last one first.
+    // The root's callbacks come first: its second one fails, and all six after-callbacks follow,
+    // the last one first.
     same(&rt, script.count, 8, "the calls");
     let before = script.made(0, Kind::BeforeEach, 0, 0) && script.made(1, Kind::BeforeEach, 0, 1);
     let of_class = script.made(2, Kind::AfterEach, 1, 2) && script.made(4, Kind::AfterEach, 1, 0);

@@ -13,7 +13,8 @@ use std::test::Fail;
 use std::thread::{Threads, sleep};
 use std::time::{Clock, Duration};
 
-/// A container that is aborted before its children, with a test that is skipped, and beside it a test that fails.
+/// A container that is aborted before its children, with a test that is skipped, and beside it a
+/// test that fails.
 const PLAN: &str =
     "[[node]]\nid = \"[engine:x]\"\n\n[[node]]\nid = \"[engine:x]/[class:A]\"\nbefore_all = [[\"abort no\"]]\n\n[[node]]\nid = \"[engine:x]/[class:A]/[method:m()]\"\ntest = []\n\n[[node]]\nid = \"[engine:x]/[method:n()]\"\ntest = [\"fail f\"]\n";
 
@@ -62,7 +63,8 @@ impl Counts {
         ])
     }
 
-    /// Counts one more, and gives how many there were. A node that the plans don't have is not counted.
+    /// Counts one more, and gives how many there were. A node that the plans don't have is not
+    /// counted.
     fn add(&self, node: usize) -> Option<u64> {
         let count = self.0.get(node)?;
         Some(count.fetch_add(1, Ordering::SeqCst))
@@ -167,8 +169,8 @@ fn failing_report<R: Threads + Wait + Sync + Abort, L: RunListener + Sync>(
     Ok(String::from_str(alloc, text)?)
 }
 
-/// Asserts that of each node that was run so it is told once that it started and once that it ended, with its fault between, and nothing of the
-/// skipped one.
+/// Asserts that of each node that was run so it is told once that it started and once that it
+/// ended, with its fault between, and nothing of the skipped one.
 fn hears_each_node<R: Threads + Wait + Sync + Abort>(
     rt: &R,
     alloc: Global,
@@ -195,7 +197,8 @@ fn listener_is_told_once_of_each_node_that_ran(rt: HostRuntime) -> Result<(), Fa
     hears_each_node(&rt, rt.alloc(), FOUR_LANES)
 }
 
-/// Asserts that the three faults of a test that was run so are told, in order: the first is that of its result, which counts the others.
+/// Asserts that the three faults of a test that was run so are told, in order: the first is that of
+/// its result, which counts the others.
 fn hears_three_faults<R: Threads + Wait + Sync + Abort>(
     rt: &R,
     alloc: Global,
@@ -220,8 +223,9 @@ fn listener_is_told_all_faults_of_a_test(rt: HostRuntime) -> Result<(), Fail> {
     hears_three_faults(&rt, rt.alloc(), FOUR_LANES)
 }
 
-/// Holds the first of two tests up, while it has its locks, until the other one has started and for a while more, and counts the starts on
-/// either lane. It counts what is missed: the start of the other one, or that no more than one is held up at a time.
+/// Holds the first of two tests up, while it has its locks, until the other one has started and for
+/// a while more, and counts the starts on either lane. It counts what is missed: the start of the
+/// other one, or that no more than one is held up at a time.
 #[derive(Drop)]
 struct HoldsUp<'a, C> {
     clock: &'a C,

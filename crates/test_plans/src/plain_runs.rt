@@ -16,8 +16,9 @@ fn report_of(alloc: Global, text: &str) -> Result<String, Fail> {
     Ok(report)
 }
 
-/// Plans, each with the report of its plain run: a key that is no label; three words of one key, two labels and its name; a closeable value
-/// under a key that is no label, which the end of its node closes.
+/// Plans, each with the report of its plain run: a key that is no label; three words of one key,
+/// two labels and its name; a closeable value under a key that is no label, which the end of its
+/// node closes.
 const REPORTS: [(&str, &str); 3] = [
     (
         "[[node]]\nid = \"[engine:x]\"\n[[node]]\nid = \"[engine:x]/[class:A]\"\n[[node]]\nid = \"[engine:x]/[class:A]/[method:m()]\"\ntest = [\"put q x\", \"want q x\"]",
@@ -79,7 +80,8 @@ fn write_puts(text: &mut String, count: u32) -> Result<(), AllocError> {
     Ok(())
 }
 
-/// A plan of two tests. The first names 64 keys, draws 65,534 numbers and puts under a further key; the second puts under the same one.
+/// A plan of two tests. The first names 64 keys, draws 65,534 numbers and puts under a further key;
+/// the second puts under the same one.
 fn plan_at_both_limits(alloc: Global) -> Result<String, AllocError> {
     let mut text = String::new(alloc);
     text.push_str("[[node]]\nid = \"[a:b]\"\n[[node]]\nid = \"[a:b]/[c:d]\"\ntest = [")?;

@@ -125,7 +125,8 @@ fn abandoned_place_is_empty(rt: HostRuntime) {
     answers(&rt, rt.alloc(), 8, &ABANDONED);
 }
 
-/// Calls of which some fail a claim: the fault's number stands until it is replaced or removed, and a seal keeps none of it.
+/// Calls of which some fail a claim: the fault's number stands until it is replaced or removed, and
+/// a seal keeps none of it.
 const FAILED: [Call; 33] = [
     Call::Claims(1, Ok(())),
     Call::Keeps(Ok(1)),
@@ -134,7 +135,8 @@ const FAILED: [Call; 33] = [
     Call::Gets(Look::Fault { at: 1, number: 1 }),
     Call::Claims(1, Err(PlainFault::FaultStands(1))),
     Call::Gets(Look::Fault { at: 1, number: 1 }),
-    // The fault of an ancestor is behind the value of the nearest, and the nearest fault before that of an ancestor.
+    // The fault of an ancestor is behind the value of the nearest, and the nearest fault before
+    // that of an ancestor.
     Call::Keeps(Ok(2)),
     Call::Puts(2, 2, Ok(None)),
     Call::Gets(Look::Found { at: 2, number: 2 }),

@@ -9,7 +9,8 @@ use std::test::Fail;
 const CHAIN: &str =
     "[[key]]\nlabel = \"a\"\n\n[[node]]\nid = \"[engine:x]\"\n\n[[node]]\nid = \"[engine:x]/[class:A]\"\n\n[[node]]\nid = \"[engine:x]/[class:A]/[method:m()]\"\ntest = [\"put a x\", \"want a x\"]\n";
 
-/// A plan with the labels `a` and `up`, whose third node, three contexts deep, is a test with these steps.
+/// A plan with the labels `a` and `up`, whose third node, three contexts deep, is a test with these
+/// steps.
 fn plan_with(alloc: Global, steps: &str) -> Result<String, AllocError> {
     format!(in alloc;
         "[[key]]\nlabel = \"a\"\n[[key]]\nlabel = \"up\"\n[[node]]\nid = \"[a:b]\"\n[[node]]\nid = \"[a:b]/[c:d]\"\n[[node]]\nid = \"[a:b]/[c:d]/[e:f]\"\ntest = [{steps}]"
@@ -63,7 +64,8 @@ fn reads_the_chain(rt: HostRuntime) -> Result<(), Fail> {
     Ok(())
 }
 
-/// The steps of a test three contexts deep that has these texts, in a plan with the labels `a` and `up`: one a line.
+/// The steps of a test three contexts deep that has these texts, in a plan with the labels `a` and
+/// `up`: one a line.
 fn steps_read(alloc: Global, texts: &str) -> Result<String, Fail> {
     let text = plan_with(alloc, texts)?;
     let lines = told(alloc, text.as_str())?;
@@ -71,7 +73,8 @@ fn steps_read(alloc: Global, texts: &str) -> Result<String, Fail> {
     Ok(String::from_str(alloc, steps)?)
 }
 
-/// Each step, each with `up`, words that could be taken for `up`, and each step with a key that is no label.
+/// Each step, each with `up`, words that could be taken for `up`, and each step with a key that is
+/// no label.
 const STEPS: [(&str, &str); 5] = [
     (
         "\"put up x\", \"put! a x\", \"want a x\", \"none up\", \"remove a\", \"compute a x\", \"compute! a x\", \"computefail a x\", \"fail x\", \"abort x\"",
@@ -167,7 +170,8 @@ fn reads_names_namespaces_and_trees(rt: HostRuntime) -> Result<(), Fail> {
     Ok(())
 }
 
-/// A plan with the labels `k0`, `k1` and so on, so many, with further keys, and with one node, a test with these steps.
+/// A plan with the labels `k0`, `k1` and so on, so many, with further keys, and with one node, a
+/// test with these steps.
 fn plan_of_keys(
     alloc: Global,
     count: usize,

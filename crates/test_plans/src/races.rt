@@ -160,7 +160,8 @@ const PLANS: [([&str; 6], &str); 20] = [
         ],
         "compute a of [e:x]/[c:A]/[t:m] and compute a of [e:x]/[c:A]/[t:n] in [e:x]/[c:A]\n",
     ),
-    // a compute whose factory fails hides no look-up: its place is empty, and the other's factory may run there
+    // a compute whose factory fails hides no look-up: its place is empty, and the other's factory
+    // may run there
     (
         [
             "",

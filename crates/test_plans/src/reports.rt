@@ -79,7 +79,8 @@ fn tree_of(alloc: Global, ids: &str) -> Result<Tree, Fail> {
     Ok(Tree::build(alloc, parsed.as_slice())?)
 }
 
-/// Asserts that the results of the contexts with these ids have this report, and whether a node failed.
+/// Asserts that the results of the contexts with these ids have this report, and whether a node
+/// failed.
 fn reports<R: Abort>(
     rt: &R,
     alloc: Global,

@@ -1,5 +1,6 @@
-//! A plan that is run, plans that are refused, and what other tests of whole runs need. Further worked rows are files: examples/rows has the plans with
-//! their reports, which the program is run on (scripts/examples).
+//! A plan that is run, plans that are refused, and what other tests of whole runs need. Further
+//! worked rows are files: examples/rows has the plans with their reports, which the program is run
+//! on (scripts/examples).
 ghost use Rattle.std.specs.Prelude.{◌≡◌, ◌≤◌, false};
 
 use crate::same::same;
@@ -90,7 +91,8 @@ fn reports_run<R: Threads + Wait + Sync + Abort>(
     Ok(())
 }
 
-/// Asserts that the plan has this report, in which a node failed or none did: as a plain run, and on one lane and four.
+/// Asserts that the plan has this report, in which a node failed or none did: as a plain run, and
+/// on one lane and four.
 fn reports<R: Threads + Wait + Sync + Abort>(
     rt: &R,
     alloc: Global,
@@ -169,7 +171,8 @@ fn container_may_have_lacked(rt: HostRuntime) -> Result<(), Fail> {
     Ok(())
 }
 
-/// Asserts that the plan has no report, but this line on standard error, and that nothing is written.
+/// Asserts that the plan has no report, but this line on standard error, and that nothing is
+/// written.
 fn refuses<R: Threads + Wait + Sync + Abort>(
     rt: &R,
     alloc: Global,

@@ -15,14 +15,16 @@ pub(crate) fn push_ids(alloc: Global, texts: &str, ids: &mut Vec<UniqueId>) -> R
     Ok(())
 }
 
-/// The tree of the ids, one a line: for each context its id, its path and its children; or the text of its fault.
+/// The tree of the ids, one a line: for each context its id, its path and its children; or the text
+/// of its fault.
 fn told(alloc: Global, texts: &str) -> Result<String, Fail> {
     let mut ids = Vec::new(alloc);
     push_ids(alloc, texts, &mut ids)?;
     Ok(tree_told(alloc, ids.as_slice())?)
 }
 
-/// The tree of these ids: for each context its id, its path and its children; or the text of its fault.
+/// The tree of these ids: for each context its id, its path and its children; or the text of its
+/// fault.
 fn tree_told(alloc: Global, ids: &[UniqueId]) -> Result<String, AllocError> {
     match Tree::build(alloc, ids) {
         Ok(tree) => contexts_told(alloc, &tree),
@@ -86,7 +88,8 @@ fn trees_and_their_faults(rt: HostRuntime) -> Result<(), Fail> {
     Ok(())
 }
 
-/// A root and so many children of it, as the tree's number of contexts and of the root's children; or the text of the fault.
+/// A root and so many children of it, as the tree's number of contexts and of the root's children;
+/// or the text of the fault.
 fn flat(alloc: Global, children: u32) -> Result<String, Fail> {
     let mut texts = String::new(alloc);
     write_flat(children, &mut texts)?;
@@ -104,7 +107,8 @@ fn write_flat(children: u32, texts: &mut String) -> Result<(), AllocError> {
     Ok(())
 }
 
-/// The number of contexts of the tree of these ids, and of its root's children; or the text of the fault.
+/// The number of contexts of the tree of these ids, and of its root's children; or the text of the
+/// fault.
 fn counts_told(alloc: Global, ids: &[UniqueId]) -> Result<String, AllocError> {
     match Tree::build(alloc, ids) {
         Ok(tree) => format!(in alloc; "{} {}", tree.len(), tree.children(0).len()),
@@ -124,7 +128,8 @@ fn contexts_are_256_at_most(rt: HostRuntime) -> Result<(), Fail> {
     Ok(())
 }
 
-/// The id of a context: of the root, of one of its 255 classes, or of one of the 256 methods of each.
+/// The id of a context: of the root, of one of its 255 classes, or of one of the 256 methods of
+/// each.
 fn large_id(alloc: Global, context: u32) -> Result<UniqueId, Fail> {
     let parent = context / 256;
     let text = match (context, parent) {
@@ -144,8 +149,8 @@ fn large_ids(alloc: Global) -> Result<Vec<UniqueId>, Fail> {
     Ok(ids)
 }
 
-/// The tree of at most so many of these ids: how many contexts it has, the last one's path, and how many children that
-/// one's parent has; or the text of the fault.
+/// The tree of at most so many of these ids: how many contexts it has, the last one's path, and how
+/// many children that one's parent has; or the text of the fault.
 fn last_told(alloc: Global, ids: &[UniqueId], most: usize) -> Result<String, AllocError>
     requires { most ≤ 65536 }
 {
@@ -155,7 +160,8 @@ fn last_told(alloc: Global, ids: &[UniqueId], most: usize) -> Result<String, All
     }
 }
 
-/// How many contexts the tree has, the last one's path, and how many children that one's parent has.
+/// How many contexts the tree has, the last one's path, and how many children that one's parent
+/// has.
 fn last_context_told(alloc: Global, tree: &Tree) -> Result<String, AllocError> {
     let path = tree.path(tree.len() - 1);
     let path = path.as_slice();

@@ -52,7 +52,8 @@ impl Signs {
     }
 }
 
-/// What closes the value: it lets the other lane try, and fails where that one has not tried in time.
+/// What closes the value: it lets the other lane try, and fails where that one has not tried in
+/// time.
 #[derive(Drop)]
 struct LetTry<'a> {
     signs: &'a Signs,
@@ -203,7 +204,8 @@ fn refusal_of(locks: &Locks, lane: &mut LockLane, set: &LockSet) -> Option<LockR
     }
 }
 
-/// Once the test's context is being closed, tries to read by the lock. Answers why it can't, or `None`.
+/// Once the test's context is being closed, tries to read by the lock. Answers why it can't, or
+/// `None`.
 fn try_read(locks: &Locks, lane: &mut LockLane, signs: &Signs) -> Option<LockRefusal>
     requires { IsIdle locks.now lane.old }
 {

@@ -1,5 +1,6 @@
-//! Runs of suites of their own over the engine's public calls: children that run at once, locks that
-//! are held until a context is closed, values of a lane that a run has not in hand, faults in words.
+//! Runs of suites of their own over the engine's public calls: children that run at once, locks
+//! that are held until a context is closed, values of a lane that a run has not in hand, faults in
+//! words.
 #![tactic(auto)]
 
 #[cfg(test)]

@@ -8,7 +8,8 @@ use std::sync::Wait;
 use std::sync::atomic::{AtomicU64, Ordering};
 use std::test::Fail;
 
-/// Two tests, each of which waits until both have started, and fails where the turns are used up before.
+/// Two tests, each of which waits until both have started, and fails where the turns are used up
+/// before.
 #[derive(Drop)]
 struct MeetingLeaves {
     started: AtomicU64,

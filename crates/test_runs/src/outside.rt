@@ -44,7 +44,8 @@ impl CloseAction<Page> for LetGo {
     }
 }
 
-/// Nodes whose calls do nothing. Those with nothing below them are tests, which may run beside one another.
+/// Nodes whose calls do nothing. Those with nothing below them are tests, which may run beside one
+/// another.
 #[derive(Drop)]
 pub(crate) struct QuietSuite<'a> {
     pub(crate) tree: &'a Tree,
@@ -176,7 +177,8 @@ fn refused<R: Threads + Wait + Sync + Abort>(
     }
 }
 
-/// Asserts that a run on two lanes is refused where a third one has put a value into this context, and that the refusal names it.
+/// Asserts that a run on two lanes is refused where a third one has put a value into this context,
+/// and that the refusal names it.
 fn value_is_unknown<R: Threads + Wait + Sync + Abort>(rt: &R, alloc: Global, context: ContextNo) {
     let key = a_key(alloc).expect(rt, "a key");
     let contexts = &[

@@ -20,8 +20,8 @@ pub(crate) fn key(rt: &impl Abort, alloc: Global, name: &str) -> Key {
     key
 }
 
-/// Does the work with what was made, and drops it then: nothing need be known of what it is made of. The test fails where nothing
-/// was made, as where there is no memory.
+/// Does the work with what was made, and drops it then: nothing need be known of what it is made
+/// of. The test fails where nothing was made, as where there is no memory.
 pub(crate) fn with_made<R: Abort, T: Drop, W: FnOnce(&mut T)>(rt: &R, made: Option<T>, work: W)
     requires { IfSome made (λ value. (lent : MutBor T) → lent.now ≡ value → W.pre work lent) }
 {
@@ -90,7 +90,8 @@ pub(crate) fn with_chain<R: Threads + Sync + Abort, S: Scenario>(
     );
 }
 
-/// Asserts that this was answered. Tests assert by it, since a call is cheaper to prove than what `assert_eq!` writes.
+/// Asserts that this was answered. Tests assert by it, since a call is cheaper to prove than what
+/// `assert_eq!` writes.
 pub(crate) fn same<T: Debug + Drop + PartialEq>(rt: &impl Abort, answer: T, wanted: T, what: &str) {
     assert_eq!(rt; answer, wanted, "{what}");
 }

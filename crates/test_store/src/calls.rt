@@ -63,7 +63,8 @@ fn answers(
     store.get(lane, context, a) == Ok(look)
 }
 
-/// Whether number 1, which has the letter x, is found in the context itself, is taken out, and is gone then.
+/// Whether number 1, which has the letter x, is found in the context itself, is taken out, and is
+/// gone then.
 fn is_taken_out(store: &Store<Letter>, lane: &mut Lane<Letter>, context: ContextNo, a: &Key) -> bool
     requires lane { IsLaneOf store.now.id lane.old }
     requires context { context < length store.now.tree }
@@ -138,7 +139,8 @@ fn stores_x(store: &Store<Letter>, lane: &mut Lane<Letter>, a: &Key) -> bool
     matches!(put(store, lane, 0, a, kept), Ok(None))
 }
 
-/// Whether the method finds number 1 at the root, and the lane is shown x for it and nothing for number 2.
+/// Whether the method finds number 1 at the root, and the lane is shown x for it and nothing for
+/// number 2.
 fn finds_x(store: &Store<Letter>, lane: &mut Lane<Letter>, a: &Key) -> bool
     requires lane { IsLaneOf store.now.id lane.old }
     requires contexts { 2 < length store.now.tree }
@@ -243,7 +245,8 @@ fn numbers_run_out(rt: HostRuntime) {
     with_chain(&rt, rt.alloc(), 2, &TwoNumbers);
 }
 
-/// Whether a value is refused under the first key, which gets no number, and then put under the second, both in the class.
+/// Whether a value is refused under the first key, which gets no number, and then put under the
+/// second, both in the class.
 fn put_elsewhere(store: &Store<Letter>, lane: &mut Lane<Letter>, late: &Key, known: &Key) -> bool
     requires lane { IsLaneOf store.now.id lane.old }
     requires contexts { 2 < length store.now.tree }
@@ -289,7 +292,8 @@ fn refused_values_are_put_elsewhere(rt: HostRuntime) {
     with_chain(&rt, rt.alloc(), 8, &late);
 }
 
-/// Two kept values are stored in either order, whatever was done meanwhile: a caller that goes by the store's clauses.
+/// Two kept values are stored in either order, whatever was done meanwhile: a caller that goes by
+/// the store's clauses.
 fn stores_two<V: StoreValue + Drop>(
     store: &Store<V>,
     lane: &mut Lane<V>,
@@ -341,7 +345,8 @@ fn kept_values_are_stored_in_any_order(rt: HostRuntime) {
     with_chain(&rt, rt.alloc(), 8, &AnyOrder);
 }
 
-/// How many lanes and closers a store of the chain has with such limits, or why it is not opened; `None` where there is no memory.
+/// How many lanes and closers a store of the chain has with such limits, or why it is not opened;
+/// `None` where there is no memory.
 fn opened(
     alloc: Global,
     lanes: usize,

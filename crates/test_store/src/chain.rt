@@ -1,4 +1,5 @@
-//! A store of the chain with both of its lanes in one hand, so that a test names a lane by its number.
+//! A store of the chain with both of its lanes in one hand, so that a test names a lane by its
+//! number.
 ghost use Rattle.std.specs.Prelude.{◌<◌, All, IfOk, length};
 ghost use Rattle.ext_model.specs.CallActs.{IsHeld};
 ghost use Rattle.ext_store.specs.Stores.{IsCloserOf, IsLaneOf};
@@ -15,7 +16,8 @@ use std::alloc::Global;
 use std::marker::Model;
 use std::process::Abort;
 
-/// What a compute answers. Where its factory comes back unused, it was called afterwards and gave the letter that it was to give.
+/// What a compute answers. Where its factory comes back unused, it was called afterwards and gave
+/// the letter that it was to give.
 #[derive(Clone, Copy, Debug, PartialEq, Eq)]
 pub(crate) enum Told {
     Computed(u32),
@@ -38,8 +40,8 @@ pub(crate) enum Call {
     Removes(Result<Option<u32>, Refusal>),
     /// The value, its number, and what the put answers.
     Puts(Letter, u32, Result<Option<u32>, Refusal>),
-    /// The value, its number, why the put is refused, and the context in which the kept number, which comes back, is put then,
-    /// where nothing stands.
+    /// The value, its number, why the put is refused, and the context in which the kept number,
+    /// which comes back, is put then, where nothing stands.
     PutsInstead(Letter, u32, Refusal, ContextNo),
     /// The letter that the factory makes.
     Computes(char, Told),
@@ -51,10 +53,12 @@ pub(crate) enum Call {
     FailsAs(&'static str, Told),
     ShowsFault(u32, Option<&'static str>),
     Shows(u32, Option<Letter>),
-    /// By all lanes up to this one: how many values are closed, or why none is, and the numbers that the action was given.
+    /// By all lanes up to this one: how many values are closed, or why none is, and the numbers
+    /// that the action was given.
     Closes(Result<u32, CloseFault>, [u32; 4]),
-    /// By all lanes up to this one, by an action that always fails: how many values are closed, how many faults there are beside the
-    /// first and its text, and the numbers that the action was given.
+    /// By all lanes up to this one, by an action that always fails: how many values are closed, how
+    /// many faults there are beside the first and its text, and the numbers that the action was
+    /// given.
     FailsToClose(u32, u32, &'static str, [u32; 4]),
 }
 
@@ -72,7 +76,8 @@ pub(crate) enum Way {
 /// A row of a test: the lane that calls, 0 or 1, the context, 0 to 2, the key's name, and the call.
 pub(crate) type Row = (usize, ContextNo, &'static str, Call);
 
-/// The store and its two lanes. Calls are made by lane 0 or 1, in the contexts 0, 1 and 2, under keys by their names.
+/// The store and its two lanes. Calls are made by lane 0 or 1, in the contexts 0, 1 and 2, under
+/// keys by their names.
 #[derive(Drop)]
 pub(crate) struct Chain {
     alloc: Global,
@@ -99,8 +104,8 @@ impl Chain {
         (self.lanes[0].number(), self.lanes[1].number())
     }
 
-    /// What a close of the context answers that has the lanes up to this one in hand. Where it is refused, the context can be
-    /// closed again.
+    /// What a close of the context answers that has the lanes up to this one in hand. Where it is
+    /// refused, the context can be closed again.
     fn close<R: Abort>(
         &mut self,
         rt: &R,
@@ -246,7 +251,8 @@ fn put<R: Abort>(
     }
 }
 
-/// The number under which a value is kept, why its put is refused, and what its put in the other context answers then.
+/// The number under which a value is kept, why its put is refused, and what its put in the other
+/// context answers then.
 fn put_instead<R: Abort>(
     rt: &R,
     store: &Store<Letter>,
@@ -350,7 +356,8 @@ fn end_failed(
     }
 }
 
-/// What the two calls answer, where `made` is what came of the work between them, in the words of a compute.
+/// What the two calls answer, where `made` is what came of the work between them, in the words of a
+/// compute.
 fn compute_by_two(
     way: Way,
     store: &Store<Letter>,
@@ -538,8 +545,9 @@ fn ask<R: Abort>(
 }
 
 impl Chain {
-    // How many values a close has closed, or why it is refused, how many faults there are beside the first, and the numbers that its
-    // action was given. Where there is a text, the action always fails, and the first fault has it; otherwise there is none.
+    // How many values a close has closed, or why it is refused, how many faults there are beside
+    // the first, and the numbers that its action was given. Where there is a text, the action
+    // always fails, and the first fault has it; otherwise there is none.
     fn close_by<R: Abort>(
         &mut self,
         rt: &R,
@@ -629,8 +637,8 @@ fn in_one_hand(alloc: Global, way: Way, opened: Opened<Letter>) -> Chain
     }
 }
 
-/// Opens a store of the chain with so many numbers, which keeps faults or not, and whose rows compute this way; `None` where there is
-/// no memory.
+/// Opens a store of the chain with so many numbers, which keeps faults or not, and whose rows
+/// compute this way; `None` where there is no memory.
 fn open(alloc: Global, numbers: u32, keep_faults: bool, way: Way) -> Option<Chain> {
     let opened = open_chain_for(alloc, numbers, keep_faults)?;
     Some(in_one_hand(alloc, way, opened))
@@ -645,8 +653,8 @@ fn play<R: Abort>(rt: &R, chain: &mut Chain, rows: &[Row]) {
     }
 }
 
-/// For each way to compute, opens a store of the chain with so many numbers, and asserts that each row's call, in order, has its
-/// answer.
+/// For each way to compute, opens a store of the chain with so many numbers, and asserts that each
+/// row's call, in order, has its answer.
 pub(crate) fn rows<R: Abort>(rt: &R, alloc: Global, numbers: u32, rows: &[Row]) {
     for way in [Way::OneCall, Way::TwoCalls, Way::TwoQuietCalls] {
         with_made(rt, open(alloc, numbers, false, way), |chain| {

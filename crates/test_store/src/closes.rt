@@ -5,8 +5,8 @@ use ext_closing::{CloseAction, CloseFault};
 use ext_model::{Fault, Look};
 use std::alloc::Global;
 
-/// Writes down the numbers that it is given, at most four. Where it is to fail, each close does, with the text `f` and the
-/// number.
+/// Writes down the numbers that it is given, at most four. Where it is to fail, each close does,
+/// with the text `f` and the number.
 #[derive(Drop)]
 pub(crate) struct Recorder {
     alloc: Global,

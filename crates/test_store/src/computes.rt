@@ -1,4 +1,5 @@
-//! Computes that store a value, that fail, that find one, that are refused, and that call a caller's box.
+//! Computes that store a value, that fail, that find one, that are refused, and that call a
+//! caller's box.
 ghost use Rattle.std.specs.Prelude.{◌<◌, length};
 ghost use Rattle.ext_store.specs.Stores.{IsLaneOf};
 
@@ -127,7 +128,8 @@ fn computed_by(
     }
 }
 
-/// The number under which the value of a caller's box was stored, which makes w at its first call; `None` where there is no memory.
+/// The number under which the value of a caller's box was stored, which makes w at its first call;
+/// `None` where there is no memory.
 fn computed_by_a_box(
     store: &Store<Letter>,
     lane: &mut Lane<Letter>,

@@ -1,4 +1,5 @@
-//! Keys that come when all 64 numbers are given: every call by such a key is refused, and what was moved in comes back.
+//! Keys that come when all 64 numbers are given: every call by such a key is refused, and what was
+//! moved in comes back.
 ghost use Rattle.std.specs.Prelude.{◌≡◌};
 ghost use Rattle.ext_store.specs.Stores.{IsLaneOf};
 
@@ -19,7 +20,8 @@ pub(crate) fn number_key(rt: &impl Abort, alloc: Global, number: usize) -> Key {
     key(rt, alloc, name.as_str())
 }
 
-/// Has the lane name the keys from this number on up to `63`, each of which gets its own number: those before are given.
+/// Has the lane name the keys from this number on up to `63`, each of which gets its own number:
+/// those before are given.
 pub(crate) fn name_from<R: Abort, V: StoreValue + Drop>(
     rt: &R,
     alloc: Global,

@@ -68,8 +68,8 @@ fn closed_to_keys_named_later(rt: HostRuntime) {
     rows(&rt, rt.alloc(), 8, &all);
 }
 
-/// The letter is kept as number 1 and put in the class under the last number, which no key has: the context where it is found from the
-/// method then.
+/// The letter is kept as number 1 and put in the class under the last number, which no key has: the
+/// context where it is found from the method then.
 fn puts_at_a_number(store: &Store<Letter>, lane: &mut Lane<Letter>) -> Option<Look>
     requires lane { IsLaneOf store.now.id lane.old }
     requires contexts { 2 < length store.now.tree }
@@ -89,7 +89,8 @@ fn puts_at_a_number(store: &Store<Letter>, lane: &mut Lane<Letter>) -> Option<Lo
     store.get_numbered(lane, 2, last).ok()
 }
 
-/// Where the key is found from the method, and what is taken out of the class under the last number then.
+/// Where the key is found from the method, and what is taken out of the class under the last number
+/// then.
 fn finds_and_takes_out(
     store: &Store<Letter>,
     lane: &mut Lane<Letter>,
@@ -105,7 +106,8 @@ fn finds_and_takes_out(
     Some((found, taken))
 }
 
-/// A number that no key has yet: what stands there is found by the number, and by the key that gets it later.
+/// A number that no key has yet: what stands there is found by the number, and by the key that gets
+/// it later.
 #[derive(Drop)]
 struct NumberBeforeKey {
     alloc: Global,

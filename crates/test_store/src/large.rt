@@ -27,7 +27,8 @@ fn keep_many<R: Abort>(rt: &R, store: &Store<Letter>, lane: &mut Lane<Letter>, c
     }
 }
 
-/// Has the first lane put a letter in the method, after so many that it only keeps; the second finds it there.
+/// Has the first lane put a letter in the method, after so many that it only keeps; the second
+/// finds it there.
 fn put_and_find<R: Abort>(
     rt: &R,
     alloc: Global,
@@ -60,7 +61,8 @@ fn put_and_find<R: Abort>(
     same(rt, letter, Some(plain('y')), "the letter");
 }
 
-/// Tests `Store::open`, `Store::keep`, `Kept::number`, `Store::put`, `Store::get` and `Store::show`.
+/// Tests `Store::open`, `Store::keep`, `Kept::number`, `Store::put`, `Store::get` and
+/// `Store::show`.
 #[test]
 fn numbers_of_a_large_store_are_found(rt: HostRuntime) {
     let limits = Limits {
@@ -154,7 +156,8 @@ fn put_and_close<R: Abort>(
     assert!(rt; closed.closed == 1 && log.numbers.as_slice() == [1].as_slice());
 }
 
-/// Tests `Tree::build_within`, `Store::open`, `Closer::context`, `Store::put`, `Store::get` and `close`.
+/// Tests `Tree::build_within`, `Store::open`, `Closer::context`, `Store::put`, `Store::get` and
+/// `close`.
 #[test]
 fn last_of_300_contexts_is_closed(rt: HostRuntime) -> Result<(), Fail> {
     let ids = engine_ids(rt.alloc(), 299)?;

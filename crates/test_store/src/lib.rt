@@ -1,5 +1,6 @@
-//! Tests of the store that several lanes share: its calls, computes and closes. For the tests of other crates it has the chain's
-//! store (`open_chain`), and for its readers a caller of `close` that concludes what its action was given (`close_logged`).
+//! Tests of the store that several lanes share: its calls, computes and closes. For the tests of
+//! other crates it has the chain's store (`open_chain`), and for its readers a caller of `close`
+//! that concludes what its action was given (`close_logged`).
 #![tactic(auto)]
 
 #[cfg(test)]

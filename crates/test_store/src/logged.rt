@@ -10,7 +10,8 @@ use ext_closing::{CloseAction, CloseFault, Closed, close};
 use ext_model::Fault;
 use ext_store::{Closer, Lane, Store, StoreValue};
 
-/// A close action that writes down the numbers that it is given. Where there is no memory for a number, its close fails.
+/// A close action that writes down the numbers that it is given. Where there is no memory for a
+/// number, its close fails.
 #[derive(Drop)]
 pub struct Log {
     /// The numbers, in the order in which they were given.
@@ -30,8 +31,9 @@ impl<V> CloseAction<V> for Log {
     }
 }
 
-/// Closes the context. Where no close failed, the log has exactly the remaining numbers whose value is closeable, the
-/// greatest first, behind what it had; a close that is refused writes nothing down.
+/// Closes the context. Where no close failed, the log has exactly the remaining numbers whose value
+/// is closeable, the greatest first, behind what it had; a close that is refused writes nothing
+/// down.
 pub fn close_logged<V: StoreValue + Drop>(
     store: &Store<V>,
     closer: Closer,

@@ -85,7 +85,8 @@ fn chain(alloc: Global) -> Option<Tree> {
     Tree::build(alloc, ids.as_slice()).ok()
 }
 
-/// An engine with one class with one method: the contexts 0, 1 and 2; `None` where there is no memory.
+/// An engine with one class with one method: the contexts 0, 1 and 2; `None` where there is no
+/// memory.
 pub fn contexts(alloc: Global) -> Option<Tree>
     ensures { IfSome result (λ tree. 2 < length tree) }
 {
@@ -109,7 +110,8 @@ pub struct Opened<V> {
     pub closers: Vec<Closer>,
 }
 
-/// What was opened, with the last two of its lanes; `None` where it has fewer. What the parts are made of need not be known.
+/// What was opened, with the last two of its lanes; `None` where it has fewer. What the parts are
+/// made of need not be known.
 fn with_last_two<S: Drop, L: Drop, C: Drop>(
     store: S,
     lanes: Vec<L>,
@@ -124,7 +126,8 @@ fn with_last_two<S: Drop, L: Drop, C: Drop>(
     Some((store, first, second, closers))
 }
 
-/// The store of the chain, where the limits have two lanes; `None` where they have others, or where there is no memory.
+/// The store of the chain, where the limits have two lanes; `None` where they have others, or where
+/// there is no memory.
 pub fn open_store<V: StoreValue + Drop>(alloc: Global, limits: Limits) -> Option<Opened<V>>
     ensures first { IfSome result (λ o. IsLaneOf o.store.id o.first) }
     ensures second { IfSome result (λ o. IsLaneOf o.store.id o.second) }
@@ -144,7 +147,8 @@ pub fn open_store<V: StoreValue + Drop>(alloc: Global, limits: Limits) -> Option
     })
 }
 
-/// The store of the chain with eight tries and so many numbers, which keeps no faults; `None` where there is no memory.
+/// The store of the chain with eight tries and so many numbers, which keeps no faults; `None` where
+/// there is no memory.
 pub fn open_chain(alloc: Global, numbers: u32) -> Option<Opened<Letter>>
     ensures first { IfSome result (λ o. IsLaneOf o.store.id o.first) }
     ensures second { IfSome result (λ o. IsLaneOf o.store.id o.second) }

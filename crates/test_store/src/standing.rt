@@ -1,4 +1,5 @@
-//! Factories that look by another lane: while each runs the claim stands in its place, whatever the compute comes to then.
+//! Factories that look by another lane: while each runs the claim stands in its place, whatever the
+//! compute comes to then.
 ghost use Rattle.std.specs.Prelude.{◌<◌, length};
 ghost use Rattle.ext_store.specs.Stores.{IsLaneOf};
 
@@ -11,8 +12,8 @@ use std::alloc::Global;
 use std::process::Abort;
 use std::sync::Wait;
 
-/// A compute whose factory looks: whether it waits, whether its factory fails, whether all numbers were drawn before, and whether
-/// its store keeps faults.
+/// A compute whose factory looks: whether it waits, whether its factory fails, whether all numbers
+/// were drawn before, and whether its store keeps faults.
 #[derive(Clone, Copy)]
 struct Case {
     waits: bool,
@@ -32,7 +33,8 @@ enum End {
     Other,
 }
 
-/// What the answer says, where a number that is wanting is the only cause for which nothing is kept.
+/// What the answer says, where a number that is wanting is the only cause for which nothing is
+/// kept.
 fn end_of<F: Drop>(outcome: Compute<Letter, F>) -> End {
     match outcome {
         Compute::Computed { .. } => End::Computed,
@@ -50,8 +52,8 @@ fn end_of<F: Drop>(outcome: Compute<Letter, F>) -> End {
     }
 }
 
-/// What a compute in the method comes to, and what a look-up of the other lane from there answers while its factory runs; nothing
-/// where no factory ran.
+/// What a compute in the method comes to, and what a look-up of the other lane from there answers
+/// while its factory runs; nothing where no factory ran.
 fn compute_and_look<R: Wait>(
     rt: &R,
     store: &Store<Letter>,
@@ -123,8 +125,8 @@ fn claim_stands<R: Abort + Wait>(rt: &R, alloc: Global, case: Case, end: End) {
     );
 }
 
-/// The claim stands where the value is kept and where it can't be, and where the factory fails and its fault is not kept, is kept,
-/// and can't be.
+/// The claim stands where the value is kept and where it can't be, and where the factory fails and
+/// its fault is not kept, is kept, and can't be.
 fn claim_stands_in_all_cases<R: Abort + Wait>(rt: &R, alloc: Global, waits: bool) {
     let computed = Case {
         waits,

@@ -24,7 +24,8 @@ pub(crate) fn engine_ids(alloc: Global, classes: u32) -> Result<Vec<UniqueId>, F
     Ok(ids)
 }
 
-/// How many lanes and closers there are, or why a store is not opened, whatever the parts of a store are.
+/// How many lanes and closers there are, or why a store is not opened, whatever the parts of a
+/// store are.
 fn counts<S: Drop, L: Drop, C: Drop>(
     opened: Result<(S, Vec<L>, Vec<C>), StoreFault>,
 ) -> Result<(usize, usize), StoreFault> {

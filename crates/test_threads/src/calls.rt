@@ -13,8 +13,8 @@ use std::process::Abort;
 use std::time::Clock;
 use test_store::{Letter, Log, closeable};
 
-/// Computes a closeable value in the class, by a factory that is held, and that fails where it is held too long. Asserts the
-/// value's number.
+/// Computes a closeable value in the class, by a factory that is held, and that fails where it is
+/// held too long. Asserts the value's number.
 pub(crate) fn compute_held<R: Abort + Clock>(
     rt: &R,
     store: &Store<Letter>,
@@ -77,7 +77,8 @@ pub(crate) fn keep<R: Abort>(
     kept
 }
 
-/// Keeps a closeable value, whose number it asserts, and puts it in the context where nothing stands.
+/// Keeps a closeable value, whose number it asserts, and puts it in the context where nothing
+/// stands.
 pub(crate) fn put_first<R: Abort>(
     rt: &R,
     store: &Store<Letter>,
@@ -148,7 +149,8 @@ pub(crate) fn close_refused<R: Abort>(
     (closer, lane)
 }
 
-/// Asserts that a close had no fault, and that the values of exactly these numbers are closed, in this order.
+/// Asserts that a close had no fault, and that the values of exactly these numbers are closed, in
+/// this order.
 fn check_closed<R: Abort>(rt: &R, closed: &Closed, numbers: &[u32], wanted: &[u32]) {
     let counts = (closed.closed as usize, closed.more_faults);
     same(rt, counts, (wanted.len(), 0), "how many are closed");
@@ -156,7 +158,8 @@ fn check_closed<R: Abort>(rt: &R, closed: &Closed, numbers: &[u32], wanted: &[u3
     same(rt, numbers, wanted, "what is closed");
 }
 
-/// A close with both lanes in hand, which closes the values of exactly these numbers, in this order.
+/// A close with both lanes in hand, which closes the values of exactly these numbers, in this
+/// order.
 pub(crate) fn close_both<R: Abort>(
     rt: &R,
     alloc: Global,

@@ -1,4 +1,5 @@
-//! A key that is named while its context is closed: what is put under it stands and is closed, or comes back.
+//! A key that is named while its context is closed: what is put under it stands and is closed, or
+//! comes back.
 ghost use Rattle.std.specs.Prelude.{◌≡◌, ◌<◌, All, IfErr, IfSome, length};
 ghost use Rattle.ext_store.specs.Stores.{IsCloserOf, IsKeptBy, IsLaneOf};
 
@@ -19,8 +20,8 @@ use test_store::{Letter, Log, key, open_chain};
 // How often a put and a close race, in a store of their own each time.
 const RACES: u64 = 1_000;
 
-/// Which race it is: how many keys have numbers before, so how many places are closed before that of the new key, and how many turns
-/// the close waits.
+/// Which race it is: how many keys have numbers before, so how many places are closed before that
+/// of the new key, and how many turns the close waits.
 #[derive(Clone, Copy)]
 struct Race {
     known: u64,
@@ -54,7 +55,8 @@ fn close_alone(
     (lane, closed)
 }
 
-/// Puts a value, of the number 1, in the class under the key, which no lane has named. It comes back where the class is closed.
+/// Puts a value, of the number 1, in the class under the key, which no lane has named. It comes
+/// back where the class is closed.
 fn put_new<R: Abort>(
     rt: &R,
     store: &Store<Letter>,
@@ -130,7 +132,8 @@ fn close_and_put<R: Abort + Threads + Sync>(
     )
 }
 
-/// Asserts that the value that came back is put in the engine, and that the class is closed to its key.
+/// Asserts that the value that came back is put in the engine, and that the class is closed to its
+/// key.
 fn put_above<R: Abort>(rt: &R, store: &Store<Letter>, lane: Lane<Letter>, kept: Kept, key: &Key)
     requires lane { IsLaneOf store.now.id lane }
     requires kept { IsKeptBy lane kept }
@@ -143,8 +146,8 @@ fn put_above<R: Abort>(rt: &R, store: &Store<Letter>, lane: Lane<Letter>, kept: 
     look(rt, store, &mut lane, 0, key, above);
 }
 
-/// Asserts that the value is not lost: the context was closed without it, and it came back, or it stands, and is closed once its lane
-/// is in hand, too.
+/// Asserts that the value is not lost: the context was closed without it, and it came back, or it
+/// stands, and is closed once its lane is in hand, too.
 fn settle<R: Abort>(
     rt: &R,
     alloc: Global,

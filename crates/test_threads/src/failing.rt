@@ -1,4 +1,5 @@
-//! Two lanes that compute one value by factories that fail: one of the two runs, and its fault is kept for both.
+//! Two lanes that compute one value by factories that fail: one of the two runs, and its fault is
+//! kept for both.
 ghost use Rattle.std.specs.Prelude.{◌<◌, length};
 ghost use Rattle.ext_store.specs.Stores.{IsLaneOf};
 
@@ -48,7 +49,8 @@ fn fault_of(clock: &impl Clock, alloc: Global, signs: &Signs, text: &str) -> Fau
     }
 }
 
-/// Computes in the class by a factory that fails with this text, and asks again while another lane's factory runs there.
+/// Computes in the class by a factory that fails with this text, and asks again while another
+/// lane's factory runs there.
 fn fail_or_meet<R: Wait + Clock>(
     rt: &R,
     alloc: Global,
@@ -83,7 +85,8 @@ fn fail_or_meet<R: Wait + Clock>(
     Told::Otherwise
 }
 
-/// What both lanes are told, whose factories fail with texts of their own, each in a thread, and their lanes.
+/// What both lanes are told, whose factories fail with texts of their own, each in a thread, and
+/// their lanes.
 fn fail_in_two_threads<R: Threads + Wait + Clock + Sync>(
     rt: &R,
     alloc: Global,
@@ -122,7 +125,8 @@ fn fail_in_two_threads<R: Threads + Wait + Clock + Sync>(
     )
 }
 
-/// The text of the factory that ran, where one lane kept its fault under number 1 and the other met that.
+/// The text of the factory that ran, where one lane kept its fault under number 1 and the other met
+/// that.
 fn text_kept(first: Told, second: Told) -> Option<&'static str> {
     match (first, second) {
         (Told::Kept(1), Told::Stands(1)) => Some("zero"),

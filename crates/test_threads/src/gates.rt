@@ -3,10 +3,12 @@ use std::sync::atomic::{AtomicU64, Ordering};
 use std::thread::{sleep, yield_now};
 use std::time::{Clock, Duration};
 
-// How often a thread looks for another one, by one atomic load each, a thousandth of a second apart.
+// How often a thread looks for another one, by one atomic load each, a thousandth of a second
+// apart.
 const TURNS: u64 = 20_000;
 
-// How many turns a lane waits for others before it begins, in each of which it lets other threads run.
+// How many turns a lane waits for others before it begins, in each of which it lets other threads
+// run.
 const BRIEFLY: u64 = 200;
 
 /// Comes, and waits a little for so many lanes in all, so that they begin at once.
@@ -54,7 +56,8 @@ impl Gate {
         }
     }
 
-    /// Of the factory: tells that it runs, and is held until the gate opens. Says whether it opened in time.
+    /// Of the factory: tells that it runs, and is held until the gate opens. Says whether it opened
+    /// in time.
     pub(crate) fn hold(&self, clock: &impl Clock) -> bool {
         self.runs.store(1, Ordering::SeqCst);
         is_raised(clock, &self.may_end)

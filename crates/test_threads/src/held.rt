@@ -230,7 +230,8 @@ fn find_sealed<R: Abort>(
     look(rt, store, lane, 2, a, Look::Closed(1));
 }
 
-// Closes, puts and looks while the factory in the class runs under the key c. The keys before it are sealed then.
+// Closes, puts and looks while the factory in the class runs under the key c. The keys before it
+// are sealed then.
 fn close_beside<R: Abort + Clock>(
     rt: &R,
     alloc: Global,

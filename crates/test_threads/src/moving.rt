@@ -22,7 +22,8 @@ fn value(number: u32) -> Letter {
     plain(char::from(b'a' + (number % 26) as u8))
 }
 
-/// Keeps the value of the number that comes next and stores it in the context. Says whether nothing stood there.
+/// Keeps the value of the number that comes next and stores it in the context. Says whether nothing
+/// stood there.
 fn store_next(
     store: &Store<Letter>,
     lane: &mut Lane<Letter>,
@@ -42,8 +43,8 @@ fn store_next(
     is_next && stored
 }
 
-/// Moves the value from the root to the class and back, again and again, and stores before it removes. Says whether no call
-/// was refused.
+/// Moves the value from the root to the class and back, again and again, and stores before it
+/// removes. Says whether no call was refused.
 fn move_often(store: &Store<Letter>, lane: &mut Lane<Letter>, key: &Key) -> bool
     requires lane { IsLaneOf store.now.id lane.old }
     requires contexts { 2 < length store.now.tree }
@@ -60,7 +61,8 @@ fn move_often(store: &Store<Letter>, lane: &mut Lane<Letter>, key: &Key) -> bool
     moved
 }
 
-/// Looks the key up from the method, again and again. Says whether the value was found each time, or other lanes were in the way.
+/// Looks the key up from the method, again and again. Says whether the value was found each time,
+/// or other lanes were in the way.
 fn look_often(store: &Store<Letter>, lane: &mut Lane<Letter>, key: &Key) -> bool
     requires lane { IsLaneOf store.now.id lane.old }
     requires contexts { 2 < length store.now.tree }
@@ -90,7 +92,8 @@ fn all_are_shown(store: &Store<Letter>, lane: &mut Lane<Letter>) -> bool
     shown
 }
 
-/// What both threads say, of which one moves the value and the other looks it up, and the lane of the second.
+/// What both threads say, of which one moves the value and the other looks it up, and the lane of
+/// the second.
 fn move_and_look<R: Threads + Wait + Sync>(
     rt: &R,
     store: &Store<Letter>,

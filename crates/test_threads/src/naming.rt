@@ -1,4 +1,5 @@
-//! Keys that several lanes name at once, in opposite orders: each gets one number, the same in all lanes.
+//! Keys that several lanes name at once, in opposite orders: each gets one number, the same in all
+//! lanes.
 ghost use Rattle.std.specs.Prelude.{◌≡◌, ◌<◌, ◌≤◌, All, IfSome, length};
 ghost use Rattle.ext_store.specs.Stores.{IsLaneOf};
 
@@ -35,7 +36,8 @@ fn letter_of(key: usize) -> Letter {
     plain(char::from(b'a' + (key % 26) as u8))
 }
 
-/// The key that a lane names at this turn: lanes with even numbers begin with the first, the others with the last.
+/// The key that a lane names at this turn: lanes with even numbers begin with the first, the others
+/// with the last.
 fn named_at(lane: usize, turn: usize) -> usize
     requires { turn < 10 }
     ensures { result < 10 }
@@ -43,7 +45,8 @@ fn named_at(lane: usize, turn: usize) -> usize
     if lane % 2 == 0 { turn } else { KEYS - 1 - turn }
 }
 
-/// Keeps the key's letter and puts it in the class, where nothing stands under the key. Says whether that was so.
+/// Keeps the key's letter and puts it in the class, where nothing stands under the key. Says
+/// whether that was so.
 fn put_letter(store: &Store<Letter>, lane: &mut Lane<Letter>, key: &Key, letter: Letter) -> bool
     requires lane { IsLaneOf store.now.id lane.old }
     requires contexts { 2 < length store.now.tree }
@@ -55,7 +58,8 @@ fn put_letter(store: &Store<Letter>, lane: &mut Lane<Letter>, key: &Key, letter:
     matches!(store.put(lane, 1, key, kept), Ok(None))
 }
 
-/// Names the key, and puts its letter where that is this lane's to do. Says whether nothing was refused.
+/// Names the key, and puts its letter where that is this lane's to do. Says whether nothing was
+/// refused.
 fn name_or_put(
     store: &Store<Letter>,
     lane: &mut Lane<Letter>,
@@ -74,8 +78,8 @@ fn name_or_put(
     }
 }
 
-/// Names all keys once the other lanes have come, too, or some time later. Of so many lanes each puts the letters of other keys.
-/// Says whether nothing was refused.
+/// Names all keys once the other lanes have come, too, or some time later. Of so many lanes each
+/// puts the letters of other keys. Says whether nothing was refused.
 fn name_all(
     store: &Store<Letter>,
     lane: &mut Lane<Letter>,
@@ -101,7 +105,8 @@ fn name_all(
     named
 }
 
-/// Has all lanes name the keys at once, each in a thread of its own. Answers how many were refused nothing.
+/// Has all lanes name the keys at once, each in a thread of its own. Answers how many were refused
+/// nothing.
 fn name_at_once<R: Threads + Sync>(
     rt: &R,
     store: &Store<Letter>,
@@ -162,7 +167,8 @@ fn number_and_letter(
     Some((number, letter))
 }
 
-/// Notes the key's number in the first lane that is asked; says whether it is a number below 10, and the same in all lanes.
+/// Notes the key's number in the first lane that is asked; says whether it is a number below 10,
+/// and the same in all lanes.
 fn is_one_number(numbers: &mut [Option<KeyNo>; KEYS], key: usize, number: KeyNo) -> bool
     requires { key < 10 }
 {
@@ -170,8 +176,8 @@ fn is_one_number(numbers: &mut [Option<KeyNo>; KEYS], key: usize, number: KeyNo)
     number < KEYS && first == number
 }
 
-/// Asserts that the lane has for each key the number that is noted, and finds the key's own letter under it. Notes the numbers where
-/// none are.
+/// Asserts that the lane has for each key the number that is noted, and finds the key's own letter
+/// under it. Notes the numbers where none are.
 fn ask<R: Abort>(
     rt: &R,
     store: &Store<Letter>,
@@ -193,7 +199,8 @@ fn ask<R: Abort>(
     }
 }
 
-/// Asserts that each key has one number in all lanes, that no two keys have one, and that each lane finds each key's letter.
+/// Asserts that each key has one number in all lanes, that no two keys have one, and that each lane
+/// finds each key's letter.
 fn ask_all<R: Abort>(rt: &R, store: &Store<Letter>, lanes: &mut [Lane<Letter>], keys: &[Key])
     requires lanes { All (IsLaneOf store.now.id) lanes.old }
     requires contexts { 2 < length store.now.tree }

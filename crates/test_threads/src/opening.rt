@@ -7,8 +7,9 @@ use ext_store::{Closer, Lane, Store, StoreValue};
 use std::process::Abort;
 use test_store::Opened;
 
-/// Does the work with what was opened: with the keys, the store, its two lanes, and the closers of the contexts 0, 1 and 2. The test
-/// fails where nothing was. Nothing need be known of what the keys are made of.
+/// Does the work with what was opened: with the keys, the store, its two lanes, and the closers of
+/// the contexts 0, 1 and 2. The test fails where nothing was. Nothing need be known of what the
+/// keys are made of.
 pub(crate) fn with_opened<
     R: Abort,
     K: Drop,

@@ -27,7 +27,8 @@ struct Signs {
     has_put: AtomicU64,
 }
 
-/// Keeps the value of the number that comes next and puts it in the engine. Says whether it stands over the one before.
+/// Keeps the value of the number that comes next and puts it in the engine. Says whether it stands
+/// over the one before.
 fn put_next(store: &Store<Letter>, lane: &mut Lane<Letter>, key: &Key, next: u32) -> bool
     requires lane { IsLaneOf store.now.id lane.old }
     requires context { 0 < length store.now.tree }
@@ -75,7 +76,8 @@ fn follow(last: u32, seen: Result<Look, Refusal>) -> Option<u32> {
     }
 }
 
-/// Looks from the method until all numbers are put. Says whether none was less than one before, and all were put in time.
+/// Looks from the method until all numbers are put. Says whether none was less than one before, and
+/// all were put in time.
 fn look_on(store: &Store<Letter>, lane: &mut Lane<Letter>, key: &Key, signs: &Signs) -> bool
     requires lane { IsLaneOf store.now.id lane.old }
     requires contexts { 2 < length store.now.tree }

@@ -70,7 +70,8 @@ fn find_and_remove<R: Abort + Wait>(
     same(rt, removed, Ok(Some(1)), "the remove");
 }
 
-/// What stands where, and what was taken, of a letter that is put at the root, found from the method and taken out, by the key's number.
+/// What stands where, and what was taken, of a letter that is put at the root, found from the
+/// method and taken out, by the key's number.
 fn calls_by_number(
     store: &Store<Letter>,
     lane: &mut Lane<Letter>,
@@ -124,8 +125,8 @@ fn letter_of(given: &Key, wanted: &Key) -> Result<Letter, Fault> {
     }
 }
 
-/// The numbers under which letters are computed at the root by the key's number, the second by the form that waits, once the
-/// first was taken out.
+/// The numbers under which letters are computed at the root by the key's number, the second by the
+/// form that waits, once the first was taken out.
 fn computes_by_number<R: Wait>(
     rt: &R,
     store: &Store<Letter>,
@@ -225,8 +226,8 @@ fn waiting_forms_alone(rt: HostRuntime) -> Result<(), Fail> {
     with_pair(&rt, rt.alloc(), false, call_alone)
 }
 
-/// The number under which the fault of a factory that fails in the method is kept, and that of a fault that stands there, by the
-/// forms that wait, the second by the key's number.
+/// The number under which the fault of a factory that fails in the method is kept, and that of a
+/// fault that stands there, by the forms that wait, the second by the key's number.
 fn fails_and_meets<R: Wait>(
     rt: &R,
     store: &Store<Letter>,
@@ -253,8 +254,8 @@ fn fails_and_meets<R: Wait>(
     }
 }
 
-/// The numbers of two faults that are kept in the method by the key's number, the second by the form that waits, once the first
-/// was taken out.
+/// The numbers of two faults that are kept in the method by the key's number, the second by the
+/// form that waits, once the first was taken out.
 fn fails_by_number<R: Wait>(
     rt: &R,
     store: &Store<Letter>,
@@ -284,7 +285,8 @@ fn fails_by_number<R: Wait>(
     }
 }
 
-/// Asserts what is answered where a fault is kept in the method, is met there, is replaced and is kept anew.
+/// Asserts what is answered where a fault is kept in the method, is met there, is replaced and is
+/// kept anew.
 fn keep_faults_alone<R: Abort + Wait>(
     rt: &R,
     store: &Store<Letter>,

@@ -1,4 +1,5 @@
-//! Waiting forms beside a factory that is held: each is answered once it has ended, in a thread of its own.
+//! Waiting forms beside a factory that is held: each is answered once it has ended, in a thread of
+//! its own.
 ghost use Rattle.std.specs.Prelude.{◌<◌, length};
 ghost use Rattle.ext_store.specs.Stores.{IsLaneOf};
 
@@ -79,7 +80,8 @@ fn call_beside<R: Wait + Clock>(
     shown(store, lane, found)
 }
 
-/// What a compute in the class, by a factory that is held and then fails where it is to, and the call beside it answer.
+/// What a compute in the class, by a factory that is held and then fails where it is to, and the
+/// call beside it answer.
 fn answers<R: Abort + Clock + Threads + Wait + Sync>(
     rt: &R,
     store: &Store<Letter>,
@@ -108,7 +110,8 @@ fn answers<R: Abort + Clock + Threads + Wait + Sync>(
     )
 }
 
-/// Asserts what is answered in a store of its own, which keeps faults or not. The factory fails unless it is to compute a value.
+/// Asserts what is answered in a store of its own, which keeps faults or not. The factory fails
+/// unless it is to compute a value.
 fn beside<R: Abort + Clock + Threads + Wait + Sync>(
     rt: &R,
     alloc: Global,

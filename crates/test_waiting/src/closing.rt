@@ -16,7 +16,8 @@ use std::test::Fail;
 use std::thread::{Threads, join_mut};
 use std::time::Clock;
 
-// How often the put and the close race for the place, and by how many turns the close comes later each time.
+// How often the put and the close race for the place, and by how many turns the close comes later
+// each time.
 const RACES: u32 = 16;
 
 const LATER: u32 = 2_000;
@@ -33,7 +34,8 @@ impl CloseAction<Letter> for Close {
     }
 }
 
-/// What became of the first lane's close: how many values it closed, or its closer and why it closed none.
+/// What became of the first lane's close: how many values it closed, or its closer and why it
+/// closed none.
 pub(crate) type First = Result<u32, (Closer, CloseFault)>;
 
 /// Closes the class.
@@ -64,7 +66,8 @@ fn spin(turns: u32) {
     }
 }
 
-/// Computes the class's value by a factory that is held, and then closes the class some turns later.
+/// Computes the class's value by a factory that is held, and then closes the class some turns
+/// later.
 fn compute_and_close<R: Abort + Clock>(
     rt: &R,
     store: &Store<Letter>,
@@ -89,8 +92,8 @@ fn compute_and_close<R: Abort + Clock>(
     closed
 }
 
-/// What became of the second lane's put: it stored its number over another one, or its number came back and why; nothing where
-/// its value was not kept.
+/// What became of the second lane's put: it stored its number over another one, or its number came
+/// back and why; nothing where its value was not kept.
 type Second = Option<Result<Option<u32>, (u32, Refusal)>>;
 
 /// Keeps a value, whose number is 1, and puts it in the class while the factory runs.
@@ -117,8 +120,8 @@ fn put_beside<R: Wait + Clock>(
     Some(second)
 }
 
-/// Asserts that the second lane's value is not lost: it came back, or it was stored over the factory's, and is closed with its
-/// context once its lane is in hand too.
+/// Asserts that the second lane's value is not lost: it came back, or it was stored over the
+/// factory's, and is closed with its context once its lane is in hand too.
 fn settle<R: Abort>(
     rt: &R,
     store: &Store<Letter>,

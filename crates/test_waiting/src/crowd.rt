@@ -15,8 +15,8 @@ use std::test::Fail;
 use std::thread::{Threads, for_each_mut, join};
 use std::time::Clock;
 
-// How many rounds each of the sixteen lanes makes in a store, and how many stores there are. `scripts/soak waits` raises the
-// latter.
+// How many rounds each of the sixteen lanes makes in a store, and how many stores there are.
+// `scripts/soak waits` raises the latter.
 const ROUNDS: u64 = 1_000;
 
 const STORES: u32 = 1;
@@ -70,8 +70,8 @@ impl Counts {
     }
 }
 
-/// The numbers of values made and computed, of factories that failed and faults kept, of values put, of numbers replaced and removed,
-/// and of wrong answers.
+/// The numbers of values made and computed, of factories that failed and faults kept, of values
+/// put, of numbers replaced and removed, and of wrong answers.
 #[derive(Clone, Copy)]
 struct Totals {
     made: u64,
@@ -279,8 +279,9 @@ fn told<R: Abort + Clock + Threads + Wait + Sync>(
     counts.told()
 }
 
-/// Asserts that so many values were put, that no answer was wrong, that each fault of a factory is kept in a store that keeps them
-/// and none in another one, and that each number that stood is removed or replaced.
+/// Asserts that so many values were put, that no answer was wrong, that each fault of a factory is
+/// kept in a store that keeps them and none in another one, and that each number that stood is
+/// removed or replaced.
 fn settle<R: Abort>(rt: &R, told: Totals, work: Work, puts: u64) {
     same(rt, told.wrong, 0, "wrong answers");
     same(rt, told.computed, told.made, "values made");

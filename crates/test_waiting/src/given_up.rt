@@ -1,4 +1,5 @@
-//! Claims that are given up since an ancestor got a value meanwhile: a lane that sleeps for one goes on.
+//! Claims that are given up since an ancestor got a value meanwhile: a lane that sleeps for one
+//! goes on.
 ghost use Rattle.std.specs.Prelude.{◌<◌, All, length};
 ghost use Rattle.ext_store.specs.Stores.{IsLaneOf};
 
@@ -22,7 +23,8 @@ const PUTS: u64 = 60_000;
 struct Progress {
     /// Removes that were answered, of the lane that sleeps.
     removes: AtomicU64,
-    /// Computes that found a value or were in the way of a put: some of them have given their claim up.
+    /// Computes that found a value or were in the way of a put: some of them have given their claim
+    /// up.
     unused: AtomicU64,
     /// How many lanes have ended: first the one that puts, and then the one that computes.
     ended: AtomicU64,
@@ -118,8 +120,8 @@ fn compute_below(store: &Store<Letter>, lane: &mut Lane<Letter>, key: &Key) -> b
     matches!(store.compute(lane, 2, key, factory), Compute::Failed(_))
 }
 
-/// Computes until the lane that puts has ended. Where no factory ran the claim was given up, or there was none: the lane that
-/// removes goes on, or the test fails.
+/// Computes until the lane that puts has ended. Where no factory ran the claim was given up, or
+/// there was none: the lane that removes goes on, or the test fails.
 fn compute_beside<R: Abort + Clock>(
     rt: &R,
     store: &Store<Letter>,

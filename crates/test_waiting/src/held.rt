@@ -27,12 +27,14 @@ fn reaches(clock: &impl Clock, word: &AtomicU64, number: u64) -> bool {
     false
 }
 
-/// Looks until so many lanes have ended. Where they have not in time the test fails: it never hangs.
+/// Looks until so many lanes have ended. Where they have not in time the test fails: it never
+/// hangs.
 pub(crate) fn watch<R: Abort + Clock>(rt: &R, ended: &AtomicU64, lanes: u64) {
     assert!(rt; reaches(rt, ended, lanes), "a lane is left asleep");
 }
 
-// How often a thread looks for another one that is to come at once, before it looks every thousandth of a second.
+// How often a thread looks for another one that is to come at once, before it looks every
+// thousandth of a second.
 const QUICK_TURNS: u64 = 100_000;
 
 /// Whether the word came to be another number at once.
@@ -56,7 +58,8 @@ fn changes(clock: &impl Clock, word: &AtomicU64, number: u64) -> bool {
     false
 }
 
-/// Looks until another lane has made one call more. Where it has not in time the test fails: it never hangs.
+/// Looks until another lane has made one call more. Where it has not in time the test fails: it
+/// never hangs.
 pub(crate) fn watch_more<R: Abort + Clock>(rt: &R, calls: &AtomicU64) {
     let before = calls.load(Ordering::SeqCst);
     let made = changes_at_once(calls, before) || changes(rt, calls, before);
@@ -80,7 +83,8 @@ impl Gate {
         }
     }
 
-    /// Of the factory: tells that it runs, and ends some time after the other lane began to wait. Says whether that one did.
+    /// Of the factory: tells that it runs, and ends some time after the other lane began to wait.
+    /// Says whether that one did.
     fn pass(&self, clock: &impl Clock) -> bool {
         self.runs.store(1, Ordering::SeqCst);
         let begun = reaches(clock, &self.begun, 1);
@@ -88,7 +92,8 @@ impl Gate {
         begun
     }
 
-    /// Of the other lane: comes once the factory runs, and tells that it begins to wait. Says whether the factory runs.
+    /// Of the other lane: comes once the factory runs, and tells that it begins to wait. Says
+    /// whether the factory runs.
     pub(crate) fn come(&self, clock: &impl Clock) -> bool {
         let runs = reaches(clock, &self.runs, 1);
         self.begun.store(1, Ordering::SeqCst);
@@ -119,8 +124,8 @@ pub(crate) enum Ended {
     Otherwise,
 }
 
-/// Computes in the class, by a factory that is held and then fails where it is to; where it does not pass its gate it does the
-/// other of the two.
+/// Computes in the class, by a factory that is held and then fails where it is to; where it does
+/// not pass its gate it does the other of the two.
 pub(crate) fn compute_held<C: Clock>(
     clock: &C,
     store: &Store<Letter>,
@@ -148,8 +153,8 @@ pub(crate) fn compute_held<C: Clock>(
     }
 }
 
-/// Where a compute from the method finds a value, or a fault that is kept, and hands its factory back unused, which gives its
-/// letter then.
+/// Where a compute from the method finds a value, or a fault that is kept, and hands its factory
+/// back unused, which gives its letter then.
 pub(crate) fn find<R: Wait>(
     rt: &R,
     store: &Store<Letter>,
@@ -174,7 +179,8 @@ pub(crate) fn find<R: Wait>(
     }
 }
 
-/// Asserts that this was answered. Tests assert by it, since a call is cheaper to prove than what `assert_eq!` writes.
+/// Asserts that this was answered. Tests assert by it, since a call is cheaper to prove than what
+/// `assert_eq!` writes.
 pub(crate) fn same<T: Debug + Drop + PartialEq>(rt: &impl Abort, answer: T, wanted: T, what: &str) {
     assert_eq!(rt; answer, wanted, "{what}");
 }

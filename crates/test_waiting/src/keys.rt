@@ -1,4 +1,5 @@
-//! The waiting forms by keys that come late: after their context was closed, and when all numbers are given.
+//! The waiting forms by keys that come late: after their context was closed, and when all numbers
+//! are given.
 ghost use Rattle.std.specs.Prelude.{◌≡◌, ◌<◌, All, length};
 ghost use Rattle.ext_store.specs.Stores.{IsCloserOf, IsLaneOf};
 
@@ -32,7 +33,8 @@ fn compute_refused<R: Wait>(
     }
 }
 
-/// Why a put is refused, whose kept number comes back, and is put in the engine under the other key then.
+/// Why a put is refused, whose kept number comes back, and is put in the engine under the other key
+/// then.
 fn put_refused<R: Wait>(
     rt: &R,
     store: &Store<Letter>,
@@ -57,8 +59,8 @@ fn put_refused<R: Wait>(
     Some(refusal)
 }
 
-/// Asserts that all calls in the class by the key are refused so, and that a value that is refused can be put under the other key in
-/// the engine.
+/// Asserts that all calls in the class by the key are refused so, and that a value that is refused
+/// can be put under the other key in the engine.
 fn all_are_refused<R: Abort + Wait>(
     rt: &R,
     store: &Store<Letter>,

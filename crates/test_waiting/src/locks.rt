@@ -1,5 +1,5 @@
-//! Tests of resource locks: sets that are merged, taken, waited for, refused and given back, and the
-//! refusals of opening and merging.
+//! Tests of resource locks: sets that are merged, taken, waited for, refused and given back, and
+//! the refusals of opening and merging.
 
 mod alone;
 mod apart;

@@ -124,8 +124,8 @@ fn with_opened<W: FnOnce(&Store<Letter>, &Key, &mut [Lane<Letter>], &mut Vec<Clo
     Ok(())
 }
 
-/// Opens the store of the chain with so many lanes, which keeps faults or not, and does the work with it: with the store, the key a, the lanes, and the
-/// closers of the contexts 0, 1 and 2.
+/// Opens the store of the chain with so many lanes, which keeps faults or not, and does the work
+/// with it: with the store, the key a, the lanes, and the closers of the contexts 0, 1 and 2.
 pub(crate) fn with_store<W: FnOnce(&Store<Letter>, &Key, &mut [Lane<Letter>], &mut Vec<Closer>)>(
     alloc: Global,
     lanes: usize,

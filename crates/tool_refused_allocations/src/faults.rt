@@ -78,7 +78,8 @@ fn fail(store: &Store<Letter>, lane: &mut Lane<Letter>, a: &Key, fault: Fault) -
     }
 }
 
-/// What is answered where a fault stands, and the factory that came back gives this when it is called afterwards.
+/// What is answered where a fault stands, and the factory that came back gives this when it is
+/// called afterwards.
 fn answer_of(given: Result<Letter, Fault>) -> Answer {
     match given {
         Err(Fault::Memory) => Answer::Stands,
@@ -86,8 +87,8 @@ fn answer_of(given: Result<Letter, Fault>) -> Answer {
     }
 }
 
-/// Computes by a factory that fails with the fault that came back from a compute that was refused. Nothing stands before, and no fault
-/// is known.
+/// Computes by a factory that fails with the fault that came back from a compute that was refused.
+/// Nothing stands before, and no fault is known.
 fn fails_again(store: &Store<Letter>, lane: &mut Lane<Letter>, a: &Key, back: Fault) -> Outcome
     requires lane { IsLaneOf store.now.id lane.old }
     requires contexts { 2 < length store.now.tree }
@@ -105,7 +106,8 @@ fn fails_again(store: &Store<Letter>, lane: &mut Lane<Letter>, a: &Key, back: Fa
     }
 }
 
-/// Whether the first fault of the store is the factory's, and stands in the method, so that the next factory is not called.
+/// Whether the first fault of the store is the factory's, and stands in the method, so that the
+/// next factory is not called.
 fn stands(store: &Store<Letter>, lane: &mut Lane<Letter>, a: &Key, number: u32) -> Outcome
     requires lane { IsLaneOf store.now.id lane.old }
     requires contexts { 2 < length store.now.tree }

@@ -1,8 +1,9 @@
-//! Calls that are made while one allocation of the process is refused: what each answers then, and what has to hold afterwards.
-//! Own rule.
+//! Calls that are made while one allocation of the process is refused: what each answers then, and
+//! what has to hold afterwards. Own rule.
 //!
-//! `CASE ALLOCATIONS` says which, and how many allocations come before them; without words the usage is printed. The tool that
-//! refuses an allocation is `rt try --fail-alloc N`, and by `scripts/refused-allocations` each of a case is refused in turn.
+//! `CASE ALLOCATIONS` says which, and how many allocations come before them; without words the
+//! usage is printed. The tool that refuses an allocation is `rt try --fail-alloc N`, and by
+//! `scripts/refused-allocations` each of a case is refused in turn.
 #![tactic(auto)]
 
 mod faults;
@@ -36,8 +37,8 @@ fn main(rt: HostRuntime) -> ExitCode {
     }
 }
 
-/// What becomes of the case's calls after so many allocations. Where one was answered with want of memory, all of them are made once
-/// more.
+/// What becomes of the case's calls after so many allocations. Where one was answered with want of
+/// memory, all of them are made once more.
 fn outcome_after<R: Threads + Wait + Sync>(
     rt: &R,
     alloc: Global,

@@ -25,8 +25,9 @@ impl Outcome {
         }
     }
 
-    /// The first outcome of calls of which one was answered with want of memory, where this is what became of them once they were
-    /// made again: since one allocation alone is refused, they find memory then.
+    /// The first outcome of calls of which one was answered with want of memory, where this is what
+    /// became of them once they were made again: since one allocation alone is refused, they find
+    /// memory then.
     pub(crate) fn after(self, first: Outcome) -> Outcome {
         match self {
             Outcome::Whole => first,

@@ -6,7 +6,8 @@ use std::alloc::Global;
 use std::sync::Wait;
 use std::thread::Threads;
 
-/// Three tests with callbacks, steps of each kind that passes, keys with and without a label, and a key in a namespace.
+/// Three tests with callbacks, steps of each kind that passes, keys with and without a label, and a
+/// key in a namespace.
 const PLAN: &str = "\
 keep_faults = true
 key = [{ label = \"a\" }, { label = \"b\", name = \"q\", namespace = [\"n\"] }]
@@ -58,7 +59,8 @@ pub(crate) fn runs_plainly<R: Threads + Wait + Sync>(rt: &R, alloc: Global) -> O
     }
 }
 
-/// The same of a run of which it is told whether a step lacked memory: just that with a report that says so.
+/// The same of a run of which it is told whether a step lacked memory: just that with a report that
+/// says so.
 fn told(outcome: Outcome, lacked: bool) -> Outcome {
     match (outcome, lacked) {
         (Outcome::Whole, true) => Outcome::Wrong("a step lacked memory, and the report is whole"),

@@ -8,8 +8,8 @@ use std::alloc::Global;
 use std::sync::Wait;
 use std::thread::Threads;
 
-/// Four tests that run beside each other where their locks let them, of which two store values, and one of these keeps the fault of
-/// a factory.
+/// Four tests that run beside each other where their locks let them, of which two store values, and
+/// one of these keeps the fault of a factory.
 const PLAN: &str = "\
 keep_faults = true
 key = [{ label = \"a\" }, { label = \"b\" }]

@@ -1,5 +1,5 @@
-//! Keys that are named in a store: a call by a new key may want memory, and hands back what was moved in; a call by a known key wants
-//! none.
+//! Keys that are named in a store: a call by a new key may want memory, and hands back what was
+//! moved in; a call by a known key wants none.
 ghost use Rattle.std.specs.Prelude.{◌<◌, length};
 ghost use Rattle.ext_store.specs.Stores.{IsLaneOf};
 
@@ -118,7 +118,8 @@ fn numbers(store: &Store<Letter>, lane: &mut Lane<Letter>, keys: &Keys) -> Outco
     Outcome::Whole
 }
 
-/// Numbers a key that was refused for want of memory: it took no place, so another key gets the number, and it gets the next.
+/// Numbers a key that was refused for want of memory: it took no place, so another key gets the
+/// number, and it gets the next.
 fn numbers_again(
     store: &Store<Letter>,
     lane: &mut Lane<Letter>,
@@ -169,7 +170,8 @@ fn removes(store: &Store<Letter>, lane: &mut Lane<Letter>, key: &Key) -> Outcome
     }
 }
 
-/// Puts a value under a new key. Where that is refused, the kept number comes back, and is put under the known key.
+/// Puts a value under a new key. Where that is refused, the kept number comes back, and is put
+/// under the known key.
 fn puts(store: &Store<Letter>, lane: &mut Lane<Letter>, key: &Key, known: &Key) -> Outcome
     requires lane { IsLaneOf store.now.id lane.old }
     requires contexts { 2 < length store.now.tree }
@@ -211,7 +213,8 @@ fn compute(store: &Store<Letter>, lane: &mut Lane<Letter>, key: &Key) -> Answer
     }
 }
 
-/// Computes a value under a new key. Where that is refused, the factory comes back, and nothing stands there.
+/// Computes a value under a new key. Where that is refused, the factory comes back, and nothing
+/// stands there.
 fn computes(store: &Store<Letter>, lane: &mut Lane<Letter>, key: &Key) -> Outcome
     requires lane { IsLaneOf store.now.id lane.old }
     requires contexts { 2 < length store.now.tree }
@@ -229,7 +232,8 @@ fn computes(store: &Store<Letter>, lane: &mut Lane<Letter>, key: &Key) -> Outcom
     }
 }
 
-/// Makes all calls by a key that has a number, which want no memory but for a value: so none of them is refused.
+/// Makes all calls by a key that has a number, which want no memory but for a value: so none of
+/// them is refused.
 fn calls_known(store: &Store<Letter>, lane: &mut Lane<Letter>, known: &Key) -> Outcome
     requires lane { IsLaneOf store.now.id lane.old }
     requires contexts { 2 < length store.now.tree }

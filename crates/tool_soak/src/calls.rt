@@ -1,4 +1,5 @@
-//! The calls of a lane, drawn from its numbers, each in a form that waits or in the one that doesn't.
+//! The calls of a lane, drawn from its numbers, each in a form that waits or in the one that
+//! doesn't.
 ghost use Rattle.std.specs.Prelude.{◌<◌};
 ghost use Rattle.ext_store.specs.Stores.{IsLaneOf};
 
@@ -20,8 +21,8 @@ use std::sync::atomic::{AtomicU64, Ordering};
 /// How many calls a lane makes in a round.
 const CALLS: u32 = 400;
 
-/// Whether a call by one of the four keys that was refused so may have been: as busy or contended only where it does not wait. The four
-/// keys have numbers before any late key is named.
+/// Whether a call by one of the four keys that was refused so may have been: as busy or contended
+/// only where it does not wait. The four keys have numbers before any late key is named.
 fn may_refuse(refusal: Refusal, waits: bool) -> bool {
     match refusal {
         Refusal::Closed(_) => true,
@@ -66,8 +67,8 @@ fn name_late(shared: &Shared, lane: &mut Lane<Payload>, numbers: &mut Pcg32, log
     }
 }
 
-/// Looks for the late key from the context, where nothing stands under it, and asks for its number. Both are refused where all numbers
-/// are given.
+/// Looks for the late key from the context, where nothing stands under it, and asks for its number.
+/// Both are refused where all numbers are given.
 fn ask_late(
     shared: &Shared,
     lane: &mut Lane<Payload>,
@@ -110,8 +111,8 @@ pub(crate) fn tell_numbers(shared: &Shared, lane: &mut Lane<Payload>, log: &mut 
     }
 }
 
-/// Makes one call. Under the key that one lane moves it looks, it leaves what stands in the engine all along, and under the key that
-/// is only computed it puts nothing.
+/// Makes one call. Under the key that one lane moves it looks, it leaves what stands in the engine
+/// all along, and under the key that is only computed it puts nothing.
 pub(crate) fn make_call<R: Wait>(
     rt: &R,
     shared: &Shared,
@@ -170,7 +171,8 @@ fn compute_or_remove<R: Wait>(
     }
 }
 
-/// Looks the key up from the context. The value of every second number that is found is shown to the lane.
+/// Looks the key up from the context. The value of every second number that is found is shown to
+/// the lane.
 pub(crate) fn look<R: Wait>(
     rt: &R,
     shared: &Shared,
@@ -228,7 +230,8 @@ fn found(
     }
 }
 
-/// What a look-up or a compute met: a kept fault, with its number, in this context. It is shown to the lane, and has no value.
+/// What a look-up or a compute met: a kept fault, with its number, in this context. It is shown to
+/// the lane, and has no value.
 fn met_fault(
     shared: &Shared,
     lane: &mut Lane<Payload>,
@@ -390,7 +393,8 @@ impl Manner {
     }
 }
 
-/// How a value is computed: for the place, by a form that waits or not, and by which factory, whose fault has the mark.
+/// How a value is computed: for the place, by a form that waits or not, and by which factory, whose
+/// fault has the mark.
 #[derive(Clone, Copy)]
 struct Asked {
     place: Place,
@@ -483,7 +487,8 @@ fn computed_as<F: Drop>(
     }
 }
 
-/// The fault of the factory that ran was kept under this number, where faults are kept. It is shown to the lane.
+/// The fault of the factory that ran was kept under this number, where faults are kept. It is shown
+/// to the lane.
 fn kept_fault(shared: &Shared, lane: &mut Lane<Payload>, asked: Asked, number: u32, log: &mut Log)
     requires { IsLaneOf shared.now.store.id lane.old }
     ensures { IsLaneOf shared.now.store.id lane.new }
@@ -501,7 +506,8 @@ fn kept_fault(shared: &Shared, lane: &mut Lane<Payload>, asked: Asked, number: u
     });
 }
 
-/// The fault of the factory that ran came back: as it has to where no faults are kept, and else for this cause.
+/// The fault of the factory that ran came back: as it has to where no faults are kept, and else for
+/// this cause.
 fn came_back(
     shared: &Shared,
     asked: Asked,

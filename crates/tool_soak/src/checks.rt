@@ -1,4 +1,5 @@
-//! What is checked once all lanes of a round have ended: each reply against those of all other lanes.
+//! What is checked once all lanes of a round have ended: each reply against those of all other
+//! lanes.
 use crate::fault::SoakFault;
 use crate::mark::Mark;
 use crate::opening::{
@@ -22,7 +23,8 @@ struct Fate {
     left: bool,
 }
 
-/// The fates of all numbers, how often each place was filled and not emptied, what the lanes told of keys, and the first fault.
+/// The fates of all numbers, how often each place was filled and not emptied, what the lanes told
+/// of keys, and the first fault.
 #[derive(Drop)]
 pub(crate) struct Checks {
     fates: Vec<Fate>,
@@ -141,7 +143,8 @@ impl Checks {
         }
     }
 
-    /// Reads one reply of a lane that drew this number last. Answers the number that it has drawn last then.
+    /// Reads one reply of a lane that drew this number last. Answers the number that it has drawn
+    /// last then.
     fn stored_by(&mut self, told: Told, last: u32) -> u32 {
         match told {
             Told::Kept(number) => self.draw(number, last),
@@ -231,8 +234,8 @@ impl Checks {
 
     // ---- what left, once it is known what was stored
 
-    /// Reads what a lane replaced, removed and closed, and what it found. What it found of the value that is moved never
-    /// falls.
+    /// Reads what a lane replaced, removed and closed, and what it found. What it found of the
+    /// value that is moved never falls.
     pub(crate) fn read_left(&mut self, log: &Log) {
         let mut last = 0;
         for told in &log.replies {
@@ -240,7 +243,8 @@ impl Checks {
         }
     }
 
-    /// Reads one reply of a lane that found this number last, of the value that is moved. Answers the one found last then.
+    /// Reads one reply of a lane that found this number last, of the value that is moved. Answers
+    /// the one found last then.
     fn left_by(&mut self, told: Told, last: u32) -> u32 {
         match told {
             Told::Put {
@@ -326,8 +330,9 @@ impl Checks {
 
     // ---- what is left
 
-    /// The first fault, where all replies were read: each number up to the last was drawn once, a place was filled as often
-    /// as it was emptied, or once more, and no closeable value that was stored is still there.
+    /// The first fault, where all replies were read: each number up to the last was drawn once, a
+    /// place was filled as often as it was emptied, or once more, and no closeable value that was
+    /// stored is still there.
     pub(crate) fn settled(&mut self) -> Option<SoakFault> {
         let once = were_drawn_once(self.fates.as_slice());
         self.wrong_unless(once, SoakFault::Numbers);

@@ -20,11 +20,12 @@ const TRIES: usize = 6;
 /// How often it looks for each try.
 const LOOKS: usize = 10;
 
-/// The same in a store that keeps faults, whose contexts are open for longer, so that factories can fail in them.
+/// The same in a store that keeps faults, whose contexts are open for longer, so that factories can
+/// fail in them.
 const MORE_LOOKS: usize = 60;
 
-/// What the closes of a round give to their action, and the numbers and the replies of the lane that closes. Every third number
-/// fails.
+/// What the closes of a round give to their action, and the numbers and the replies of the lane
+/// that closes. Every third number fails.
 #[derive(Drop)]
 pub(crate) struct Closing {
     pub(crate) log: Log,
@@ -109,7 +110,8 @@ fn look_once<R: Wait>(
     }
 }
 
-/// Tries to close the context. Answers its closer where it is not closed, as it is not without a lane.
+/// Tries to close the context. Answers its closer where it is not closed, as it is not without a
+/// lane.
 fn close_once(
     shared: &Shared,
     hand: &mut [Lane<Payload>],
@@ -144,7 +146,8 @@ fn looks_for_a_try(keep_faults: bool) -> usize
     if keep_faults { MORE_LOOKS } else { LOOKS }
 }
 
-/// Tries to close the context beside the other lanes, again and again. Answers its closer where it is not closed.
+/// Tries to close the context beside the other lanes, again and again. Answers its closer where it
+/// is not closed.
 fn close_beside<R: Wait>(
     rt: &R,
     shared: &Shared,
@@ -168,7 +171,8 @@ fn close_beside<R: Wait>(
     Some(closer)
 }
 
-/// Closes the next context, the last first, beside the other lanes. Answers its closer where it is not closed.
+/// Closes the next context, the last first, beside the other lanes. Answers its closer where it is
+/// not closed.
 fn close_next<R: Wait>(
     rt: &R,
     shared: &Shared,
@@ -200,8 +204,8 @@ fn leave(shared: &Shared, closer: Option<Closer>, left: &mut Vec<Closer>, log: &
     }
 }
 
-/// Closes the contexts beside the other lanes, the last first, as far as that can be done. The closers of the others are
-/// left.
+/// Closes the contexts beside the other lanes, the last first, as far as that can be done. The
+/// closers of the others are left.
 pub(crate) fn close_some<R: Wait>(
     rt: &R,
     shared: &Shared,
@@ -251,7 +255,8 @@ pub(crate) fn close_all(
     }
 }
 
-/// Whether each place of the context is closed, whether a key has its number or not, for the first of the lanes.
+/// Whether each place of the context is closed, whether a key has its number or not, for the first
+/// of the lanes.
 fn is_closed(shared: &Shared, lane: &mut Lane<Payload>, context: ContextNo) -> bool
     requires lane { IsLaneOf shared.now.store.id lane.old }
     requires context { context < 7 }

@@ -15,7 +15,8 @@ pub(crate) enum SoakFault {
     Late,
     /// A call gave an answer that it can't give there.
     Answer,
-    /// Two factories ran for one place at once, or two values were computed or faults kept there without a remove between them.
+    /// Two factories ran for one place at once, or two values were computed or faults kept there
+    /// without a remove between them.
     TwoFactories,
     /// A factory ran though its lane looked at an ancestor's value after it had claimed.
     AncestorMissed,
@@ -27,13 +28,13 @@ pub(crate) enum SoakFault {
     LeftTwice,
     /// A closeable value that stood at the end was not closed.
     NotClosed,
-    /// A close gave its action a value that is not closeable, or the number of a fault, or not the latest first, or was refused
-    /// after that.
+    /// A close gave its action a value that is not closeable, or the number of a fault, or not the
+    /// latest first, or was refused after that.
     Closed,
     /// A look-up was absent, or met a kept fault, while one of its cells had a value all along.
     Missed,
-    /// A look-up found a number that was never stored there, or one behind the number that it had found before, or a fault that
-    /// another factory gave.
+    /// A look-up found a number that was never stored there, or one behind the number that it had
+    /// found before, or a fault that another factory gave.
     Misplaced,
     /// A context that is closed has an open place.
     Open,
@@ -65,7 +66,8 @@ impl SoakFault {
         }
     }
 
-    /// The exit status: 2 for words that are refused, 3 where the soak could not be made, and 1 where a reply is wrong.
+    /// The exit status: 2 for words that are refused, 3 where the soak could not be made, and 1
+    /// where a reply is wrong.
     pub(crate) fn status(self) -> u8 {
         match self {
             SoakFault::Words => 2,

@@ -1,8 +1,9 @@
-//! Many rounds of lanes that make all calls of one store at once, at random, with their replies checked afterwards. Own rule.
+//! Many rounds of lanes that make all calls of one store at once, at random, with their replies
+//! checked afterwards. Own rule.
 //!
-//! `SEED LANES ROUNDS SECONDS` says which; without words that it knows it is refused. It prints one line, which is the same
-//! whatever the schedule. The exit status is 0, or 1 where a reply is wrong, 2 where the words are refused, or 3 where the soak
-//! could not be made.
+//! `SEED LANES ROUNDS SECONDS` says which; without words that it knows it is refused. It prints one
+//! line, which is the same whatever the schedule. The exit status is 0, or 1 where a reply is
+//! wrong, 2 where the words are refused, or 3 where the soak could not be made.
 #![tactic(auto)]
 
 mod calls;

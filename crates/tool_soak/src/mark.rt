@@ -2,7 +2,8 @@
 use ext_model::{Fault, LaneNo};
 use std::alloc::Global;
 
-/// The lane of a factory that fails, and how many replies it had before: no two faults that a round keeps have one mark.
+/// The lane of a factory that fails, and how many replies it had before: no two faults that a round
+/// keeps have one mark.
 #[derive(Clone, Copy, PartialEq, Eq)]
 pub(crate) struct Mark {
     pub(crate) lane: LaneNo,
@@ -10,7 +11,8 @@ pub(crate) struct Mark {
 }
 
 impl Mark {
-    /// The fault with this mark; want of memory, which has none, where there is no memory for its text.
+    /// The fault with this mark; want of memory, which has none, where there is no memory for its
+    /// text.
     pub(crate) fn fault(self, alloc: Global) -> Fault {
         let (lane, before) = (self.lane, self.before);
         match format!(in alloc; "{lane} {before}") {

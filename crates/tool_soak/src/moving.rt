@@ -1,4 +1,5 @@
-//! A value that one lane moves from the engine to a class and back, so that a look-up from below always finds it.
+//! A value that one lane moves from the engine to a class and back, so that a look-up from below
+//! always finds it.
 ghost use Rattle.std.specs.Prelude.{◌<◌};
 ghost use Rattle.ext_store.specs.Stores.{IsLaneOf};
 
@@ -14,7 +15,8 @@ use std::sync::Wait;
 /// How often the value is moved there and back in a round.
 const MOVES: u32 = 100;
 
-/// Stores the value's successor in the one context and takes it out of the other. Says whether both were done.
+/// Stores the value's successor in the one context and takes it out of the other. Says whether both
+/// were done.
 fn move_once<R: Wait>(
     rt: &R,
     shared: &Shared,
@@ -38,8 +40,8 @@ fn move_once<R: Wait>(
     put(rt, shared, lane, there, true, true, log) && remove(rt, shared, lane, here, true, log)
 }
 
-/// Moves the value there and back, and in half of the rounds there once more, until a context is closed. Makes other calls
-/// meanwhile.
+/// Moves the value there and back, and in half of the rounds there once more, until a context is
+/// closed. Makes other calls meanwhile.
 pub(crate) fn move_often<R: Wait>(
     rt: &R,
     shared: &Shared,

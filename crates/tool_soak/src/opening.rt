@@ -20,11 +20,12 @@ pub(crate) const CLASS: ContextNo = 1;
 /// The last context of class A.
 pub(crate) const LAST_IN_CLASS: ContextNo = 4;
 
-/// How many keys there are under which something is stored. Here a key is told by its place among the names; the number that it gets in
-/// the store is another one, in another order each round.
+/// How many keys there are under which something is stored. Here a key is told by its place among
+/// the names; the number that it gets in the store is another one, in another order each round.
 pub(crate) const KEYS: usize = 4;
 
-/// How many further keys the lanes name late in a round, under which nothing is stored. They are more than there are numbers.
+/// How many further keys the lanes name late in a round, under which nothing is stored. They are
+/// more than there are numbers.
 pub(crate) const LATE: usize = 70;
 
 /// How many these are in a round whose store has many keys.
@@ -33,10 +34,12 @@ pub(crate) const MANY_LATE: usize = 1_030;
 /// The key under which a value stands in the engine all along.
 pub(crate) const STANDING: usize = 0;
 
-/// The key whose value one lane moves from the engine to class A and back; no other lane stores under it.
+/// The key whose value one lane moves from the engine to class A and back; no other lane stores
+/// under it.
 pub(crate) const MOVED: usize = 1;
 
-/// The key under which values are computed and removed, and never put: so factories often run there, and faults are often kept.
+/// The key under which values are computed and removed, and never put: so factories often run
+/// there, and faults are often kept.
 pub(crate) const COMPUTED: usize = 3;
 
 /// The names of the keys.
@@ -125,7 +128,8 @@ fn add(alloc: Global, ids: &mut Vec<UniqueId>, text: &str) -> Option<()> {
     ids.push(UniqueId::parse(alloc, text).ok()?).ok()
 }
 
-/// An engine with two classes, of which A has a class of its own, and a method in each of the three.
+/// An engine with two classes, of which A has a class of its own, and a method in each of the
+/// three.
 fn contexts(alloc: Global) -> Option<Tree> {
     let mut ids = Vec::new(alloc);
     add_contexts(alloc, &mut ids)?;

@@ -1,5 +1,5 @@
-//! A compute that races with a put in its context's parent: where the put came before its claim, the factory does not run, and
-//! where it ran, its value or its fault stands until it is taken out.
+//! A compute that races with a put in its context's parent: where the put came before its claim,
+//! the factory does not run, and where it ran, its value or its fault stands until it is taken out.
 ghost use Rattle.std.specs.Prelude.{◌<◌, All};
 ghost use Rattle.ext_store.specs.Stores.{IsKeptBy, IsLaneOf};
 
@@ -71,7 +71,8 @@ fn value(context: ContextNo) -> Payload {
     }
 }
 
-/// Computes a value in the deepest context, by a factory that fails where its fault is kept. Says whether the factory ran.
+/// Computes a value in the deepest context, by a factory that fails where its fault is kept. Says
+/// whether the factory ran.
 fn computes(deep: &Deep, lane: &mut Lane<Payload>) -> bool
     requires { IsLaneOf deep.now.store.id lane.old }
     ensures { IsLaneOf deep.now.store.id lane.new }
@@ -90,7 +91,8 @@ fn computes(deep: &Deep, lane: &mut Lane<Payload>) -> bool
     )
 }
 
-/// Puts a value in the parent, and answers what a remove below took after that; it is refused where a factory runs there.
+/// Puts a value in the parent, and answers what a remove below took after that; it is refused where
+/// a factory runs there.
 fn puts_above(
     deep: &Deep,
     lane: &mut Lane<Payload>,
@@ -106,7 +108,8 @@ fn puts_above(
     }
 }
 
-/// Whether what the factory gave, if it ran, was taken once: by the remove beside the compute, or by the one after it.
+/// Whether what the factory gave, if it ran, was taken once: by the remove beside the compute, or
+/// by the one after it.
 fn was_taken_once(
     ran: bool,
     beside: Result<Option<u32>, Refusal>,

@@ -17,7 +17,8 @@ use std::alloc::{AllocError, Global};
 use std::sync::{Mutex, Wait};
 use std::thread::{Threads, for_each_mut, join_mut};
 
-/// Makes a round: the last lane closes contexts beside the others, the first moves a value, all others make all calls.
+/// Makes a round: the last lane closes contexts beside the others, the first moves a value, all
+/// others make all calls.
 pub(crate) fn make_round<R: Threads + Sync + Wait + AllocGlobal>(
     rt: &R,
     soak: Soak,
@@ -93,8 +94,8 @@ fn call_and_check<R: Threads + Sync + Wait + AllocGlobal>(
     check(rt, rt.alloc(), &closing.log, logs)
 }
 
-/// Has all lanes of the round make their calls: the last one puts the first values, and then closes while the others call. It
-/// has met all others afterwards.
+/// Has all lanes of the round make their calls: the last one puts the first values, and then closes
+/// while the others call. It has met all others afterwards.
 fn call<R: Threads + Sync + Wait + AllocGlobal>(
     rt: &R,
     shared: &Shared,
@@ -128,7 +129,8 @@ fn call<R: Threads + Sync + Wait + AllocGlobal>(
     tell_and_meet(shared, hand, others, &mut closing.log);
 }
 
-/// Puts a value in the engine under the key where one always stands, and one under the key whose value is moved.
+/// Puts a value in the engine under the key where one always stands, and one under the key whose
+/// value is moved.
 fn put_first<R: Wait>(rt: &R, shared: &Shared, hand: &mut [Lane<Payload>], log: &mut Log)
     requires { All (IsLaneOf shared.now.store.id) hand.old }
     ensures { All (IsLaneOf shared.now.store.id) hand.new }

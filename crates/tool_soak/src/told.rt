@@ -23,7 +23,8 @@ pub(crate) enum Told {
         number: u32,
         closeable: bool,
     },
-    /// The number was drawn for the fault of the place's factory, which has this mark, and stored there.
+    /// The number was drawn for the fault of the place's factory, which has this mark, and stored
+    /// there.
     FaultKept {
         place: Place,
         number: u32,
@@ -58,8 +59,8 @@ pub(crate) enum Told {
         key: usize,
         from: ContextNo,
     },
-    /// A key's number in the store, or that it has none since all are given. The key is told by its place among the four names, and the
-    /// late ones behind them.
+    /// A key's number in the store, or that it has none since all are given. The key is told by its
+    /// place among the four names, and the late ones behind them.
     Named {
         key: usize,
         number: Option<KeyNo>,

@@ -8,7 +8,8 @@ use std::alloc::Allocator;
 use std::collections::LinkedList;
 use std::snapshot::Snapshot;
 
-/// The counter, word 0, and a slot for each job, as workers share them. The key is the list of items.
+/// The counter, word 0, and a slot for each job, as workers share them. The key is the list of
+/// items.
 pub(crate) type Counter<T, O, M> = Shared<Slot<T, O>, Drawn<T, O>, Snapshot<Vec<T, M>>, Drawing>;
 
 /// The counter and the slots with their memory. Workers share `shared` of it.

@@ -2,7 +2,8 @@
 ghost use Rattle.std.specs.Prelude.{◌≡◌};
 ghost use Rattle.ext_crew.specs.InnerCounter.{item_in};
 
-/// What stands in the slot of a job: its item until it is drawn, its outcome once it has ended, and nothing between.
+/// What stands in the slot of a job: its item until it is drawn, its outcome once it has ended, and
+/// nothing between.
 #[derive(Drop)]
 pub(crate) enum Slot<T, O> {
     /// The item of a job that was not drawn yet.

@@ -8,7 +8,8 @@ use crate::locks::scenario::{Scenario, with_locks};
 use ext_locks::{LockFault, LockLane, LockRequest, LockSet, Locks, lock_laws};
 use std::process::Abort;
 
-/// The one lane that there is gets every set: nobody else can hold a lock, or make the events of a contended call.
+/// The one lane that there is gets every set: nobody else can hold a lock, or make the events of a
+/// contended call.
 fn take_alone(locks: &Locks, lane: &mut LockLane, set: &LockSet) -> bool
     requires lane { lane.old.table ≡ locks.now.table }
     requires alone { lane.old.lanes ≡ 1 }

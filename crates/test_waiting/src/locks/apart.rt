@@ -6,7 +6,8 @@ ghost use Rattle.ext_locks.specs.Sets.{Excludes};
 
 use ext_locks::{LockLane, Locks, lock_laws};
 
-/// Shows that two lanes exclude each other, where their numbers tell that they are two. Nothing else is known of them here.
+/// Shows that two lanes exclude each other, where their numbers tell that they are two. Nothing
+/// else is known of them here.
 pub(crate) fn show_apart(locks: &Locks, one: &mut LockLane, other: &mut LockLane) -> bool
     requires one { one.old.table ≡ locks.now.table }
     requires other { other.old.table ≡ locks.now.table }

@@ -11,8 +11,8 @@ use std::sync::atomic::{AtomicU64, Ordering};
 use std::thread;
 use std::thread::Threads;
 
-/// Tries a thousand times to take the set, and adds one to the number, in two steps, while it is held. Returns how often
-/// it was.
+/// Tries a thousand times to take the set, and adds one to the number, in two steps, while it is
+/// held. Returns how often it was.
 fn count_up(locks: &Locks, lane: &mut LockLane, set: &LockSet, number: &AtomicU64) -> u64
     requires lane { lane.old.table ≡ locks.now.table }
     requires nothing { HoldsNothing lane.old }
@@ -31,7 +31,8 @@ fn count_up(locks: &Locks, lane: &mut LockLane, set: &LockSet, number: &AtomicU6
     successes
 }
 
-/// Counts up the number by two lanes, each in a thread of its own. Returns how often they had the lock, both together.
+/// Counts up the number by two lanes, each in a thread of its own. Returns how often they had the
+/// lock, both together.
 fn count_in_both<R: Abort + Threads>(
     rt: &R,
     locks: &Locks,

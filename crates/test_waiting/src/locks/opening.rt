@@ -22,7 +22,8 @@ fn refused(
     same(rt, told, Some(fault), "why locks are not opened");
 }
 
-/// Asserts that so many names are too many, and that all but the first of them are one name, which stands twice.
+/// Asserts that so many names are too many, and that all but the first of them are one name, which
+/// stands twice.
 fn refuses_many(rt: &impl Abort, alloc: Global, many: &[&str; 64]) {
     refused(rt, alloc, many, 2, 8, LockFault::TooMany);
     refused(rt, alloc, many, 0, 8, LockFault::BadLimit);
@@ -43,7 +44,8 @@ fn refused_openings(rt: HostRuntime) {
     refuses_many(&rt, alloc, &["x"; 64]);
 }
 
-/// How many lanes the locks have that are opened for so many of at most `most`, or why they are not opened.
+/// How many lanes the locks have that are opened for so many of at most `most`, or why they are not
+/// opened.
 fn lanes_within(alloc: Global, lanes: usize, most: usize) -> Result<usize, LockFault>
     requires { most ≤ 32 }
 {
@@ -84,7 +86,8 @@ fn add_names<'a>(rt: &impl Abort, texts: &'a [String], names: &mut Vec<&'a str>)
     }
 }
 
-/// There are as many names as there can be. They are in the order of their bytes, and the global lock has no name.
+/// There are as many names as there can be. They are in the order of their bytes, and the global
+/// lock has no name.
 #[derive(Drop)]
 struct MostNames;
 

@@ -59,7 +59,8 @@ fn names_are_in_the_order_of_their_bytes(rt: HostRuntime) {
     with_locks(&rt, rt.alloc(), &["b", "ab", "a", "B"], 1, 1, OrderOfNames);
 }
 
-/// Asserts that the requests are not merged, since there is no lock of the name of the one at this place.
+/// Asserts that the requests are not merged, since there is no lock of the name of the one at this
+/// place.
 fn not_merged(rt: &impl Abort, locks: &Locks, requests: &[LockRequest], at: usize) {
     let fault = LockFault::UnknownResource(at);
     same(rt, merged_at(locks, requests, 0), Err(fault), "no set");

@@ -17,7 +17,8 @@ use std::process::Abort;
 /// What a lane is answered that asks for a set: nothing, once it had it, or a refusal.
 type Answer = Result<Option<LockRefusal>, LockFault>;
 
-/// Takes a set and gives it back: that is one call, with the events of both. Answers why it was refused, if it was.
+/// Takes a set and gives it back: that is one call, with the events of both. Answers why it was
+/// refused, if it was.
 pub(crate) fn take_and_give(
     locks: &Locks,
     lane: &mut LockLane,
@@ -63,7 +64,8 @@ fn hold(locks: &Locks, lane: &mut LockLane, requests: &[LockRequest]) -> Option<
     locks.try_take(lane, &set).ok()
 }
 
-/// What two lanes are answered while a first one reads by b, and what that one has. Nothing, if it doesn't get b.
+/// What two lanes are answered while a first one reads by b, and what that one has. Nothing, if it
+/// doesn't get b.
 fn beside_a_reader(
     locks: &Locks,
     one: &mut LockLane,
@@ -111,8 +113,9 @@ fn merge_and_shared_read(rt: HostRuntime) {
     with_locks(&rt, rt.alloc(), &["b", "a"], 3, 8, BesideReader);
 }
 
-/// What a second lane is answered while a first one reads by a, and then a third one has the global lock too, and whether
-/// these two were shown to be apart. Nothing, if the first or the third lane doesn't get its lock.
+/// What a second lane is answered while a first one reads by a, and then a third one has the global
+/// lock too, and whether these two were shown to be apart. Nothing, if the first or the third lane
+/// doesn't get its lock.
 fn beside_the_global_lock(
     locks: &Locks,
     one: &mut LockLane,
@@ -163,8 +166,9 @@ fn third_lane_takes_the_global_lock(rt: HostRuntime) {
     with_locks(&rt, rt.alloc(), &["a"], 3, 8, BesideGlobalLock);
 }
 
-/// What the last lane is answered that reads b and wants to write it while the first one reads it, and what the first one
-/// is answered that reads b while the last one writes it. Nothing, if one of them doesn't get its lock.
+/// What the last lane is answered that reads b and wants to write it while the first one reads it,
+/// and what the first one is answered that reads b while the last one writes it. Nothing, if one of
+/// them doesn't get its lock.
 fn first_and_last(locks: &Locks, first: &mut LockLane, last: &mut LockLane) -> Option<[Answer; 3]>
     requires lanes { (first.old.table ≡ locks.now.table) × (last.old.table ≡ locks.now.table) }
     requires nothing { HoldsNothing first.old × HoldsNothing last.old }
@@ -179,7 +183,8 @@ fn first_and_last(locks: &Locks, first: &mut LockLane, last: &mut LockLane) -> O
     Some([beside, over, under])
 }
 
-/// The first and the last of as many lanes as there can be read beside each other, and one writes alone.
+/// The first and the last of as many lanes as there can be read beside each other, and one writes
+/// alone.
 #[derive(Drop)]
 struct FirstAndLast;
 

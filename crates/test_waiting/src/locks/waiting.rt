@@ -16,8 +16,8 @@ use std::time::{Clock, Duration};
 // How often a thread looks for another one, a thousandth of a second apart.
 const TURNS: u64 = 20_000;
 
-// How often a lane takes a set that it waits for, which `scripts/soak waits` raises, and how often another one is refused a
-// set meanwhile at most.
+// How often a lane takes a set that it waits for, which `scripts/soak waits` raises, and how often
+// another one is refused a set meanwhile at most.
 const ROUNDS: u64 = 50_000;
 
 const TRIES: u64 = 2_000_000;
@@ -45,8 +45,8 @@ fn watch<R: Abort + Clock>(rt: &R, word: &AtomicU64, number: u64) {
     assert!(rt; reaches(rt, word, number), "a lane is left asleep");
 }
 
-/// Takes the set and gives it back some time after another lane has begun to wait for it. Says whether that one had not
-/// taken it before.
+/// Takes the set and gives it back some time after another lane has begun to wait for it. Says
+/// whether that one had not taken it before.
 fn give_late<R: Abort + Clock>(
     rt: &R,
     locks: &Locks,
@@ -125,8 +125,8 @@ fn reader_waits_for_a_writer(rt: HostRuntime) {
     read_behind_writer(&rt, &locks, lanes.as_mut_slice());
 }
 
-/// In each round waits for the set, and adds one to the number, in two steps, while it is held. Then tells that it has
-/// ended.
+/// In each round waits for the set, and adds one to the number, in two steps, while it is held.
+/// Then tells that it has ended.
 fn count_up<R: Wait>(
     rt: &R,
     locks: &Locks,
@@ -217,8 +217,8 @@ fn ask_until<R: Abort + Clock>(
     watch(rt, ended, 1);
 }
 
-/// The number that the second lane has counted up, which waits for a each time, while the first one takes a and gives it back,
-/// since it is refused b.
+/// The number that the second lane has counted up, which waits for a each time, while the first one
+/// takes a and gives it back, since it is refused b.
 fn count_beside_refused<R: Abort + Clock + Sync + Threads + Wait>(
     rt: &R,
     locks: &Locks,
@@ -258,8 +258,8 @@ fn refuse_beside_waiting<R: Abort + Clock + Sync + Threads + Wait>(
     same(rt, number, ROUNDS, "the number");
 }
 
-/// The second lane waits for a, which the first one takes and gives back, since it is refused b: nobody else gives a back.
-/// Tests `Locks::take_wait` and `Locks::try_take`.
+/// The second lane waits for a, which the first one takes and gives back, since it is refused b:
+/// nobody else gives a back. Tests `Locks::take_wait` and `Locks::try_take`.
 #[test]
 fn refused_take_wakes_who_waits(rt: HostRuntime) {
     let (locks, mut lanes) = open(&rt, rt.alloc(), &["a", "b"], 3, 8);
