@@ -1,5 +1,5 @@
 //! Tests of the engine: the code of the guide and the recipes, what is made of a compute's answers,
-//! openings, and the threads that a run leaves.
+//! and the threads that a run leaves.
 #![tactic(auto)]
 
 #[cfg(test)]
@@ -16,8 +16,6 @@ mod noting;
 mod page;
 #[cfg(test)]
 mod recipes;
-#[cfg(test)]
-mod run_opening;
 #[cfg(test)]
 mod server;
 #[cfg(test)]

@@ -1,6 +1,6 @@
-//! Runs of suites of their own over the engine's public calls: children that run at once, locks
-//! that are held until a context is closed, values of a lane that a run has not in hand, faults in
-//! words.
+//! Openings of runs, and runs of suites of their own over the engine's public calls: children that
+//! run at once, locks that are held until a context is closed, values of a lane that a run has not
+//! in hand, faults in words.
 #![tactic(auto)]
 
 #[cfg(test)]
@@ -13,5 +13,7 @@ mod meeting;
 mod opening;
 #[cfg(test)]
 mod outside;
+#[cfg(test)]
+mod run_opening;
 #[cfg(test)]
 mod texts;
