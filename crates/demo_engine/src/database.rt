@@ -6,8 +6,7 @@ use std::sync::{Mutex, Wait};
 const TABLE: &str = "CREATE TABLE account (name TEXT PRIMARY KEY, money INTEGER NOT NULL);
     INSERT INTO account VALUES ('ann', 100), ('bob', 100)";
 
-/// The database, in a file. A test has the file to itself for one question or one change, and no
-/// longer.
+/// The database, in a file. A test has the file to itself for one question or one change, and no longer.
 #[derive(Drop)]
 pub(crate) struct Database {
     file: String,

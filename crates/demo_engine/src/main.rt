@@ -1,27 +1,24 @@
-//! An engine to copy from, over the public libraries alone: eight tests in three classes run on
-//! four lanes and share one database, which is made once. Four tests fail, each in a way of its
-//! own, and still everything is closed.
+//! An engine to copy from, over the public libraries alone: eight tests in three classes run on four lanes and share one database,
+//! which is made once. Four tests fail, each in a way of its own, and still everything is closed.
 //!
-//! It prints the report of the run (`stdout`, the same in every schedule), with `--lanes-over-time`
-//! also which lane ran which test when, and last whether the run's folder is gone. The exit status
-//! is 0, or 1 where a node failed, as some here do, or 2 where the run was not made.
+//! It prints the report of the run (`stdout`, the same in every schedule), with `--lanes-over-time` also which lane ran which test
+//! when, and last whether the run's folder is gone. The exit status is 0, or 1 where a node failed, as some here do, or 2 where the
+//! run was not made.
 //!
 //! What it shows, and where:
 //!
 //! - `nodes`: the nodes, and what each test does.
-//! - `shared`: what the store holds, as one enum, and what closes it. The close of a lease fails:
-//!   its test fails too, and what else it stored is closed.
-//! - `tests`: the first test that comes makes the database, in the engine's context; the others
-//!   find it or wait (`database`). A factory that fails takes away itself what it made
-//!   (`make_database`). The post's fault is kept: `letter` and `parcel` are both told of attempt 1
-//!   (`send`).
-//! - `suite`: a lock, an isolated test, and a class that runs after the others. Without the lock a
-//!   payment of `gift` or `loan` could be lost (`pay`), and `sum` would fail.
-//! - `run`: opening, the run and its report. `proofs/run/report_of` shows that the suite's lock was
-//!   opened, as `leaf_laws` asks.
+//! - `shared`: what the store holds, as one enum, and what closes it. The close of a lease fails: its test fails too, and what else
+//!   it stored is closed.
+//! - `tests`: the first test that comes makes the database, in the engine's context; the others find it or wait (`database`). A
+//!   factory that fails takes away itself what it made (`make_database`). The post's fault is kept: `letter` and `parcel` are both
+//!   told of attempt 1 (`send`).
+//! - `suite`: a lock, an isolated test, and a class that runs after the others. Without the lock a payment of `gift` or `loan` could
+//!   be lost (`pay`), and `sum` would fail.
+//! - `run`: opening, the run and its report. `proofs/run/report_of` shows that the suite's lock was opened, as `leaf_laws` asks.
 //!
-//! The lanes over time differ from run to run, but `gift` and `loan` are apart, nothing is beside
-//! `alone`, and `sum` and `eve` come last:
+//! The lanes over time differ from run to run, but `gift` and `loan` are apart, nothing is beside `alone`, and `sum` and `eve` come
+//! last:
 //!
 //! ```text
 //! [engine:demo]/[class:Accounts]/[test:gift]   |3333333333333333333333333333................................|
@@ -62,8 +59,7 @@ fn main(rt: HostRuntime) -> ExitCode {
     }
 }
 
-/// Runs the tests in a folder of this process, and prints what came of it. Answers whether a node
-/// failed.
+/// Runs the tests in a folder of this process, and prints what came of it. Answers whether a node failed.
 fn demonstrate<R: Threads + Wait + Sync>(threads: &R, rt: &HostRuntime) -> anyhow::Result<bool> {
     let id = process::id(rt.process());
     let temporary = env::temp_dir(rt)?;

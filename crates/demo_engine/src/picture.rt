@@ -41,8 +41,7 @@ impl Spans {
         }
     }
 
-    /// Notes that the lane has run the test since then. Where memory is refused the picture lacks
-    /// it.
+    /// Notes that the lane has run the test since then. Where memory is refused the picture lacks it.
     pub(crate) fn note<R: Wait>(
         &self,
         rt: &R,
@@ -61,8 +60,8 @@ impl Spans {
         let _noted = self.spans.lock(rt).push(span).is_ok();
     }
 
-    /// The picture: a line for each test, with the number of its lane in each column of the time in
-    /// which it ran. Time goes from the first test's begin to the last one's end.
+    /// The picture: a line for each test, with the number of its lane in each column of the time in which it ran. Time goes from the first
+    /// test's begin to the last one's end.
     pub(crate) fn picture<R: Wait>(&self, rt: &R, alloc: Global) -> Result<String, AllocError> {
         let spans = self.spans.lock(rt);
         let first = spans.iter().map(|span| span.begun).min().unwrap_or(0);

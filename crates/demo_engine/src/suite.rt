@@ -67,8 +67,7 @@ impl<'a> Suite<Shared> for DemoSuite<'a> {
         if node == ACCOUNTS { 1 } else { 0 }
     }
 
-    /// The class of accounts names the lock of the table. Each test below it takes the lock as its
-    /// own.
+    /// The class of accounts names the lock of the table. Each test below it takes the lock as its own.
     fn lock<'l>(&'l self, node: ContextNo, i: usize) -> Option<LockRequest<'l>> {
         if node == ACCOUNTS && i == 0 {
             Some(LockRequest {
@@ -84,8 +83,7 @@ impl<'a> Suite<Shared> for DemoSuite<'a> {
         Closing { rt: self.rt }
     }
 
-    /// The one call of a node is its test. It fails where there is no database, or where it fails
-    /// itself.
+    /// The one call of a node is its test. It fails where there is no database, or where it fails itself.
     fn call<R: Wait>(
         &self,
         rt: &R,

@@ -14,8 +14,7 @@ use std::sync::atomic::{AtomicU32, Ordering};
 use std::time::Duration;
 use std::{fs, thread};
 
-/// What all tests are given: the path of the run's folder, the keys of what they store, and how
-/// often the post was tried.
+/// What all tests are given: the path of the run's folder, the keys of what they store, and how often the post was tried.
 #[derive(Drop)]
 pub(crate) struct Tests<'a> {
     pub(crate) rt: &'a HostRuntime,
@@ -42,8 +41,7 @@ pub(crate) struct Found<'s> {
 }
 
 impl Tests<'_> {
-    /// The database of the engine's context. The first test that comes makes it, and the others
-    /// find it or wait for it.
+    /// The database of the engine's context. The first test that comes makes it, and the others find it or wait for it.
     pub(crate) fn database<'s, R: Wait>(
         &self,
         rt: &R,
@@ -66,8 +64,7 @@ impl Tests<'_> {
         }
     }
 
-    /// The factory of the database. Where it fails it leaves no folder, since there is no value
-    /// that could be closed.
+    /// The factory of the database. Where it fails it leaves no folder, since there is no value that could be closed.
     fn make_database(&self) -> Result<Shared, Fault> {
         match self.fill_folder() {
             Ok(shared) => Ok(shared),
@@ -137,8 +134,7 @@ impl Tests<'_> {
         )
     }
 
-    /// Pays in two steps. A payment of another test between them would be lost, so no other one may
-    /// run: the class has a lock.
+    /// Pays in two steps. A payment of another test between them would be lost, so no other one may run: the class has a lock.
     fn pay<R: Wait>(&self, rt: &R, database: &Database, amount: i64) -> anyhow::Result<()> {
         let question = "SELECT money FROM account WHERE name = 'ann'";
         let money = database.ask(rt, self.rt, question)?;
@@ -161,8 +157,7 @@ impl Tests<'_> {
         Ok(())
     }
 
-    /// Needs the post, which nobody reaches. The fault of the first test's factory is kept, and the
-    /// other test runs none.
+    /// Needs the post, which nobody reaches. The fault of the first test's factory is kept, and the other test runs none.
     fn send<R: Wait>(
         &self,
         rt: &R,

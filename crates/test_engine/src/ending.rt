@@ -47,8 +47,7 @@ fn end<R: Abort>(
     assert!(rt; (closed.closed, stop.stopped) == (1, 1));
 }
 
-/// A close of the engine's context without the lane that stored the server: nothing is closed, and
-/// the closer comes back.
+/// A close of the engine's context without the lane that stored the server: nothing is closed, and the closer comes back.
 fn end_too_early<R: Abort>(
     rt: &R,
     store: &Store<Server>,
@@ -70,8 +69,7 @@ fn end_too_early<R: Abort>(
     (closer, second)
 }
 
-/// One lane makes the server. The close without it is refused, and that by both lanes stops the
-/// server.
+/// One lane makes the server. The close without it is refused, and that by both lanes stops the server.
 fn make_and_end<R: Abort + Wait>(
     rt: &R,
     store: &Store<Server>,

@@ -109,8 +109,8 @@ fn first_hour(rt: HostRuntime) {
     find_server(&rt, &opened.store, first, second, &key);
 }
 
-/// A test that needs the server: it finds the server or makes it, and asks again while another test
-/// makes it. Answers the server's number, where there is one.
+/// A test that needs the server: it finds the server or makes it, and asks again while another test makes it. Answers the
+/// server's number, where there is one.
 fn find_or_start<R: Wait>(
     rt: &R,
     store: &Store<Server>,

@@ -13,8 +13,7 @@ fn request(name: &str, mode: LockMode) -> LockRequest {
     }
 }
 
-/// Runs a test while its lane holds the locks that it asks for. Where it answers `false`, ask again
-/// later.
+/// Runs a test while its lane holds the locks that it asks for. Where it answers `false`, ask again later.
 fn run_test(locks: &Locks, lane: &mut LockLane, requests: &[LockRequest]) -> Result<bool, LockFault>
     requires lane { lane.old.table ≡ locks.now.table }
     requires free_hands { HoldsNothing lane.old }

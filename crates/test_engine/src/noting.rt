@@ -65,8 +65,7 @@ impl StoreValue for Failure {
     }
 }
 
-/// After a call of a test: where it failed, the suite notes why in the test's own context. The
-/// first failure stays.
+/// After a call of a test: where it failed, the suite notes why in the test's own context. The first failure stays.
 fn note<R: Wait>(
     rt: &R,
     alloc: Global,
@@ -110,8 +109,7 @@ fn failure_of<'a, R: Wait>(
     }
 }
 
-/// Notes two failures of a test, and asks for them. Answers whether nothing was noted before, and
-/// the first one is afterwards.
+/// Notes two failures of a test, and asks for them. Answers whether nothing was noted before, and the first one is afterwards.
 fn note_twice<R: Wait>(
     rt: &R,
     alloc: Global,

@@ -1,5 +1,4 @@
-//! An engine in a page: tests that need a server, which is made once, found by all of them, and
-//! stopped at the end of the run.
+//! An engine in a page: tests that need a server, which is made once, found by all of them, and stopped at the end of the run.
 use crate::server::{Server, server_key};
 use ext_closing::CloseAction;
 use ext_engine::{

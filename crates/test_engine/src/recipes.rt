@@ -1,5 +1,4 @@
-//! Recipes: a value once a class, a retry, a run that stops at the first failure, cases that are
-//! told before the run.
+//! Recipes: a value once a class, a retry, a run that stops at the first failure, cases that are told before the run.
 ghost use Rattle.std.specs.Prelude.{◌<◌, length};
 
 use crate::server::{Server, server_key};
@@ -60,8 +59,7 @@ impl Cases<'_> {
         Err(fault_of(self.alloc, "the sum is wrong"))
     }
 
-    /// Tries the test until it passes. One that does not pass at once is counted as flaky, or fails
-    /// as its last attempt does.
+    /// Tries the test until it passes. One that does not pass at once is counted as flaky, or fails as its last attempt does.
     fn tried(&self, node: ContextNo) -> Result<(), Fault> {
         let mut ended = self.attempt(node, 1);
         for attempt in 2..=ATTEMPTS {

@@ -22,8 +22,7 @@ fn thread_count<R: AllocGlobal + Clone + Drop + Files>(rt: &R) -> Option<usize> 
     Some(count)
 }
 
-/// Whether the process comes to have so many threads in time. One that was joined may be listed for
-/// a moment.
+/// Whether the process comes to have so many threads in time. One that was joined may be listed for a moment.
 fn comes_to<R: AllocGlobal + Clock + Clone + Drop + Files>(rt: &R, count: Option<usize>) -> bool {
     for _ in 0..LOOKS {
         if thread_count(rt) == count {

@@ -1,33 +1,33 @@
 //! Leaves that run at once.
-use crate::gates::{TWO_TESTS, reaches};
-use crate::outside::{LetGo, Page};
-use ext_engine::{LeafRun, LeafSuite, Mode, Outcome, Status, Verdict, read_ids, run_leaves};
+use super::leaves::{CloseNothing, flat};
+use crate::gates::reaches;
+use crate::server::Server;
+use ext_engine::{LeafRun, LeafSuite, Mode, Outcome, Status, Verdict, run_leaves};
 use ext_model::{ContextNo, Fault};
 use ext_store::{Lane, Limits, Store};
 use std::sync::Wait;
 use std::sync::atomic::{AtomicU64, Ordering};
 use std::test::Fail;
 
-/// Two tests, each of which waits until both have started, and fails where the turns are used up
-/// before.
+/// Two tests, each of which waits until both have started, and fails where the turns are used up before.
 #[derive(Drop)]
 struct MeetingLeaves {
     started: AtomicU64,
 }
 
-impl LeafSuite<Page> for MeetingLeaves {
-    type Action = LetGo;
+impl LeafSuite<Server> for MeetingLeaves {
+    type Action = CloseNothing;
 
-    fn action(&self, _node: ContextNo) -> LetGo {
-        LetGo
+    fn action(&self, _node: ContextNo) -> CloseNothing {
+        CloseNothing
     }
 
     fn run<R: Wait>(
         &self,
         _rt: &R,
-        _store: &Store<Page>,
+        _store: &Store<Server>,
         _node: ContextNo,
-        _lane: &mut Lane<Page>,
+        _lane: &mut Lane<Server>,
     ) -> Result<Outcome, Fault> {
         self.started.fetch_add(1, Ordering::SeqCst);
         if reaches(&self.started, 2) {
@@ -41,12 +41,12 @@ impl LeafSuite<Page> for MeetingLeaves {
 #[test]
 fn two_leaves_run_at_once(rt: HostRuntime) -> Result<(), Fail> {
     let alloc = rt.alloc();
-    let ids = read_ids(alloc, &TWO_TESTS)?;
+    let ids = flat(alloc, 2)?;
     let suite = MeetingLeaves {
         started: AtomicU64::new(0),
     };
     let limits = Limits::new(2);
-    let run: LeafRun<Page> = run_leaves(&rt, alloc, &suite, &ids, Mode::Concurrent, limits)?;
+    let run: LeafRun<Server> = run_leaves(&rt, alloc, &suite, &ids, Mode::Concurrent, limits)?;
     for result in &run.results {
         assert!(rt; result.status == Status::Successful, "{}", result.node);
     }

@@ -1,5 +1,6 @@
 //! Suites of leaves that leave no value.
-use crate::outside::{LetGo, Page};
+use crate::server::Server;
+use ext_closing::CloseAction;
 use ext_engine::{LeafSuite, Outcome};
 use ext_ids::UniqueId;
 use ext_model::{ContextNo, Fault};
@@ -8,23 +9,35 @@ use std::alloc::Global;
 use std::sync::Wait;
 use std::test::Fail;
 
+/// Closes nothing: no test leaves a value.
+#[derive(Drop)]
+pub(super) struct CloseNothing;
+
+impl CloseAction<Server> for CloseNothing {
+    ghost close_gives = { λ before number server answer after. Unit {0} };
+
+    fn close(&mut self, _number: u32, _server: &Server) -> Result<(), Fault> {
+        Ok(())
+    }
+}
+
 /// Each test fails.
 #[derive(Drop)]
 pub(super) struct FailingLeaves;
 
-impl LeafSuite<Page> for FailingLeaves {
-    type Action = LetGo;
+impl LeafSuite<Server> for FailingLeaves {
+    type Action = CloseNothing;
 
-    fn action(&self, _node: ContextNo) -> LetGo {
-        LetGo
+    fn action(&self, _node: ContextNo) -> CloseNothing {
+        CloseNothing
     }
 
     fn run<R: Wait>(
         &self,
         _rt: &R,
-        _store: &Store<Page>,
+        _store: &Store<Server>,
         _node: ContextNo,
-        _lane: &mut Lane<Page>,
+        _lane: &mut Lane<Server>,
     ) -> Result<Outcome, Fault> {
         Err(Fault::Memory)
     }

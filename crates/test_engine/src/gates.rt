@@ -8,13 +8,6 @@ use std::sync::Wait;
 use std::sync::atomic::{AtomicU64, Ordering};
 use std::thread::Threads;
 
-/// An engine with two tests.
-pub(crate) const TWO_TESTS: [&str; 3] = [
-    "[engine:x]",
-    "[engine:x]/[method:m1()]",
-    "[engine:x]/[method:m2()]",
-];
-
 /// How often a thread looks for a sign, by one atomic load each.
 const TURNS: u64 = 10_000_000_000;
 
@@ -65,7 +58,12 @@ impl Gate for MeetingGate {
 
 /// Runs two tests on two lanes, beside one another and with this gate.
 fn run_two<R: Abort + Threads + Wait + Sync>(rt: &R, alloc: Global, gate: &MeetingGate) {
-    let ids = read_ids(alloc, &TWO_TESTS).expect(rt, "ids");
+    let texts = [
+        "[engine:x]",
+        "[engine:x]/[method:m1()]",
+        "[engine:x]/[method:m2()]",
+    ];
+    let ids = read_ids(alloc, &texts).expect(rt, "ids");
     let Opened {
         store,
         mut lanes,
