@@ -37,11 +37,7 @@ final class ThreadsTest extends OverContexts {
         CountDownLatch go = new CountDownLatch(1);
         together(2, thread -> {
             if (thread == 0) {
-                inClass.getOrComputeIfAbsent("server", it -> {
-                    begun.countDown();
-                    await(go);
-                    return "up";
-                });
+                computeOnceTold(inClass, "server", "up", begun, go);
             } else {
                 await(begun);
                 new Thread(() -> {
@@ -75,11 +71,7 @@ final class ThreadsTest extends OverContexts {
         CountDownLatch go = new CountDownLatch(1);
         together(3, thread -> {
             if (thread == 0) {
-                store.getOrComputeIfAbsent("slow", it -> {
-                    begun.countDown();
-                    await(go);
-                    return "made";
-                });
+                computeOnceTold(store, "slow", "made", begun, go);
             } else if (thread == 1) {
                 await(begun);
                 equal(store.put("slow", "put"), "made");
@@ -201,6 +193,15 @@ final class ThreadsTest extends OverContexts {
     private static Object failing(Store store, IllegalStateException fault) {
         return store.getOrComputeIfAbsent("key", it -> {
             throw fault;
+        });
+    }
+
+    // Computes a value by a factory that tells that it has begun, and ends when it is told to.
+    private static void computeOnceTold(Store store, String key, String made, CountDownLatch begun, CountDownLatch go) {
+        store.getOrComputeIfAbsent(key, it -> {
+            begun.countDown();
+            await(go);
+            return made;
         });
     }
 

@@ -130,8 +130,8 @@ impl<R: Wait, L: RunListener> RunListener for Failures<'_, R, L> {
 /// last line says that faults were lost, if some were. The bytes are the plan's, which is of at
 /// most this size, as a run reads them.
 ///
-/// Refused as `Plan` if the plan is refused, and as `Memory` if memory for the plan's tree or for
-/// the text is. Takes memory for these and for the plan.
+/// Refused as `Plan` if the plan is refused, and as `Memory` if memory for the plan's tree, for a
+/// list of each node's faults or for the text is. Takes memory for these and for the plan.
 pub fn failures_text(
     alloc: Global,
     input: &[u8],
