@@ -60,6 +60,15 @@ static uint32_t first_lane(jint hint, uint32_t many) { return ((uint32_t)hint & 
         code = CALL;                       \
     }
 
+/* Refuses to be loaded by a processor that is older than the code of ext_c, which is for x86-64-v2. */
+JNIEXPORT jint JNICALL JNI_OnLoad(JavaVM *machine, void *unused) {
+    (void)machine, (void)unused;
+#ifdef __x86_64__
+    if (!__builtin_cpu_supports("sse4.2") || !__builtin_cpu_supports("popcnt")) return JNI_ERR;
+#endif
+    return JNI_VERSION_10;
+}
+
 /* The store's address, or the code of the refusal with a minus. */
 NATIVE(jlong, open)
 (JNIEnv *env, jclass type, jbyteArray bytes, jintArray lengths, jint tries, jint numbers, jint count) {

@@ -186,7 +186,8 @@ final class ClosingTest extends OverContexts {
             kept.add(one);
         }
         long grown = residentKilobytes() - before;
-        equal(grown < 12_000 ? "" : grown + " kB more", "");
+        // the machine itself takes up to 15,000 more while it warms up, and 2,000 stores that are not closed 33,000
+        equal(grown < 25_000 ? "" : grown + " kB more", "");
         Contexts last = kept.get(1_999);
         Store store = last.root().getStore(Namespace.GLOBAL);
         equal(thrown(StoreException.class, () -> store.get(1)).isClosed(), true);

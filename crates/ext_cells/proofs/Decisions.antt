@@ -1,5 +1,5 @@
 -- What the word after an act, or its refusal, tells of the reply of one thread.
-use Rattle.std.proofs.Common.{◌≡◌, ℕ, ◌+◌, ◌^◌, ◌<◌, ◌≤◌, Bool, true, false, arith, refl, ap, sym, subst, Option, None, Some}
+use Rattle.std.proofs.Common.{◌≡◌, ℕ, ◌+◌, ◌/◌, ◌%◌, ◌^◌, ◌<◌, ◌≤◌, Bool, true, false, arith, refl, ap, sym, subst, Option, None, Some}
 use Rattle.std.specs.Prelude.{Result, Ok, Err, if◌then◌else◌}
 use Rattle.std.proofs.lemmas.Bool.{ne_eqb}
 use Rattle.ext_model.specs.declared.event.Act.{Act}
@@ -159,3 +159,42 @@ room_for_seal s v w e is = room s is (nothing_stands s v w is e)
     room : (t : Option Slot) → IsCellWord t v w → t ≡ None → w + 16777219 < 2 ^ 64
     room None of none = let f = of.is in let r = of.room (λ same. cc same) in omega (arith, f, r)
     room (Some x) of none = absurd (cc none)
+
+-- ---- a seal of a value
+
+value_stands : (s : Option Slot) (version word : ℕ) → IsCellWord s version word → word % 16 ≡ 2 → (n : ℕ) × (s ≡ Some (slot.Entry n))
+value_stands None v w is e = let f = is.is in absurd (omega (arith, f, e))
+value_stands (Some (slot.Entry n)) v w is e = (n, refl)
+value_stands (Some (slot.Fault n)) v w is e = let f = is.is in absurd (omega (arith, f, e))
+value_stands (Some (slot.Claim lane)) v w is e = let f = is.is in absurd (omega (arith, f, e))
+value_stands (Some (slot.Sealed kept)) v w is e = let f = is.is in absurd (omega (arith, f, e))
+
+sealed_value : (n version word : ℕ) → IsCellWord (Some (slot.Entry n)) version word → word + 16777217 ≡ slot_word (Some (slot.Sealed (Some n))) (version + 1)
+sealed_value n v w is = let f = is.is in omega (arith, f)
+
+at_value : (act : Act ℕ) (n version word : ℕ) → IsSeal act → IsCellWord (Some (slot.Entry n)) version word → Decides act (Some (slot.Entry n)) version (Change (word + 16777217) (Value n))
+at_value (Keep m) n v w seal is = absurd seal
+at_value (Put at m) n v w seal is = absurd seal
+at_value (Remove at) n v w seal is = absurd seal
+at_value (Claim at) n v w seal is = absurd seal
+at_value (Fill at m) n v w seal is = absurd seal
+at_value (Fail at m) n v w seal is = absurd seal
+at_value (Abandon at) n v w seal is = absurd seal
+at_value (Seal at) n v w seal is = (refl, λ lane. sealed_value n v w is)
+
+told_value : (n version word number : ℕ) → IsCellWord (Some (slot.Entry n)) version word → number ≡ word / 16 % 2 ^ 20 → n ≡ number
+told_value n v w number is told = let f = is.is in let fits = is.fits in omega (arith, f, fits, told)
+
+pub seals_value : (act : Act ℕ) (s : Option Slot) (version word number : ℕ) → IsSeal act → word % 16 ≡ 2 → number ≡ word / 16 % 2 ^ 20 → IsCellWord s version word → Decides act s version (Change (word + 16777217) (Value number))
+seals_value act s v w number seal e told is =
+    let value = value_stands s v w is e in
+    let own = subst (λ t. IsCellWord t v w) value.1 is in
+    subst (λ t. Decides act t v (Change (w + 16777217) (Value number))) (sym value.1)
+    (subst (λ k. Decides act (Some (slot.Entry value.0)) v (Change (w + 16777217) (Value k))) (told_value value.0 v w number own told) (at_value act value.0 v w seal own))
+
+-- there is room for the word of the seal
+pub room_for_value : (s : Option Slot) (version word : ℕ) → word % 16 ≡ 2 → IsCellWord s version word → word + 16777217 < 2 ^ 64
+room_for_value s v w e is = let value = value_stands s v w is e in room value.0 (subst (λ t. IsCellWord t v w) value.1 is)
+  where
+    room : (n : ℕ) → IsCellWord (Some (slot.Entry n)) v w → w + 16777217 < 2 ^ 64
+    room n of = let f = of.is in let r = of.room (λ same. cc same) in let fits = of.fits in omega (arith, f, r, fits)

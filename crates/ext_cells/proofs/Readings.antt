@@ -307,6 +307,14 @@ value_told (Some (slot.Fault n)) word number version fits is value told = absurd
 value_told (Some (slot.Claim lane)) word number version fits is value told = absurd (omega (arith, is, value))
 value_told (Some (slot.Sealed kept)) word number version fits is value told = absurd (omega (arith, is, value))
 
+-- an empty word tells that nothing stands
+pub nothing_told : (s : Option Slot) (word version : ℕ) → word ≡ slot_word s version → word % 16 ≡ 0 → standing_of s ≡ None
+nothing_told None word version is empty = refl
+nothing_told (Some (slot.Entry n)) word version is empty = absurd (omega (arith, is, empty))
+nothing_told (Some (slot.Fault n)) word version is empty = absurd (omega (arith, is, empty))
+nothing_told (Some (slot.Claim lane)) word version is empty = absurd (omega (arith, is, empty))
+nothing_told (Some (slot.Sealed kept)) word version is empty = absurd (omega (arith, is, empty))
+
 -- nothing stands in cells with empty words
 pub nothing_in : (p : History) (cs ws : List ℕ) → ws ≡ map (word_of p) cs → All IsEmptyWord ws → All (λ c. (state_after p).slots c ≡ None) cs
 nothing_in p cs ws is none =

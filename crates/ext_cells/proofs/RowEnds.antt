@@ -14,7 +14,7 @@ use Rattle.ext_history.proofs.Fronts.{moved_seen, moved_once}
 use Rattle.ext_model.specs.declared.event.Act.{Act}
 use Rattle.ext_model.specs.declared.event.Act.TheVariants.{Seal}
 use Rattle.ext_model.specs.Closing.{IsSealedUnused}
-use Rattle.ext_model.specs.History.{History, Limits, lane_of, state_after}
+use Rattle.ext_model.specs.History.{History, Limits, lane_of}
 use Rattle.ext_model.specs.CallActs.{LaneView, Calls, GoesOn}
 use Rattle.ext_rows.specs.declared.view.View.{View}
 use Rattle.ext_rows.specs.Standings.{Open, Ended, MayEnd, seals}

@@ -135,7 +135,7 @@ impl CellSteps {
             .compare_exchange_with::<Exchange>(seat, place, old, new, &act)
     }
 
-    /// Makes an event, which changes the word at its place, if that is still the word that was
+    /// Makes an event of a cell, which changes the cell's word, if that is still the word that was
     /// seen. Returns the word that it found. A cell that had no event gets its mark first.
     #[inline(always)]
     pub(crate) fn exchange<A: Aim>(
@@ -152,14 +152,37 @@ impl CellSteps {
         requires aim { A.cell ≡ place }
         requires may { (lane : ℕ) × MayExchange seat.old.me.0 lane act place old new }
         requires seen { IsWordAt (limits_of seat.old.me.0.limits) (seen seat.old.me.0.fronts) place old }
+        requires cell { place < cells }
         requires standing { place < cells → old ≢ ended_word }
         ensures table { seat.new.table_id ≡ seat.old.table_id }
         ensures missed { result ≢ old → Found seat.old.me.0 seat.new.me.0 place result }
         ensures made { result ≡ old → Made seat.old.me.0 seat.new.me.0 place old act }
     {
-        if place < cells && old == 0 && !self.mark::<A>(seat, cells, place) {
+        if old == 0 && !self.mark::<A>(seat, cells, place) {
             return ENDED_WORD;
         }
+        self.change(seat, place, old, new, act)
+    }
+
+    /// Draws a number: changes the count, which stands behind the cells, if it is still the one
+    /// that was seen. Returns the count that it found.
+    #[inline(always)]
+    pub(crate) fn exchange_count(
+        &self,
+        seat: &mut LaneSeat,
+        place: usize,
+        old: u64,
+        new: u64,
+        act: Act<CellNo>,
+    ) -> u64
+        requires table { seat.old.table_id ≡ self.now.table.shared.table_id }
+        requires cells { IsTable self.now.table.shared.table_id.words self.now.table.shared.key.cells seat.old.me.0 seat.old.me.0.limits.cells }
+        requires count { place ≡ seat.old.me.0.limits.cells }
+        requires may { (lane : ℕ) × MayExchange seat.old.me.0 lane act place old new }
+        ensures table { seat.new.table_id ≡ seat.old.table_id }
+        ensures missed { result ≢ old → Found seat.old.me.0 seat.new.me.0 place result }
+        ensures made { result ≡ old → Made seat.old.me.0 seat.new.me.0 place old act }
+    {
         self.change(seat, place, old, new, act)
     }
 

@@ -53,9 +53,12 @@ pub(crate) fn what_stands(word: u64) -> Option<Standing>
     ensures none { IfNone result (IsEmptyWord word) }
     ensures says { Says word result }
 {
-    // Most often a value: one test is faster than the jump by a table below.
+    // Most often a value or nothing: a test is faster than the jump by a table below.
     if word % 16 == 2 {
         return Some(Standing::Value(number_in(word)));
+    }
+    if is_empty(word) {
+        return None;
     }
     let (state, number, _) = parts(word);
     match state {
@@ -68,7 +71,7 @@ pub(crate) fn what_stands(word: u64) -> Option<Standing>
 }
 
 // The number in a word.
-fn number_in(word: u64) -> u32
+pub(crate) fn number_in(word: u64) -> u32
     ensures { result ≡ word / 16 % 2 ^ 20 }
 {
     (word / 16 % 1_048_576) as u32
@@ -85,6 +88,10 @@ pub(crate) fn version(word: u64) -> u64
 // What sealing an empty cell adds to its word: a version, and the state of a seal that keeps no
 // number.
 pub(crate) const SEAL_OF_NOTHING: u64 = 16_777_216 + 3;
+
+// What sealing a value adds to its cell's word: a version, and the state of a seal in place of that
+// of a value.
+pub(crate) const SEAL_OF_VALUE: u64 = 16_777_216 + 1;
 
 // Whether nothing stands at the cell of this word.
 #[inline(always)]

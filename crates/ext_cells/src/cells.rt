@@ -206,7 +206,7 @@ impl Cells {
                 return Err(CellRefusal::NumbersFull);
             }
             let number = count as u32 + 1;
-            match self.exchange(lane, place, count, count + 1, Act::Keep(number)) {
+            match self.exchange_count(lane, place, count, count + 1, Act::Keep(number)) {
                 Ok(()) => return Ok(number),
                 Err(found) => count = found,
             }
@@ -496,7 +496,7 @@ impl Cells {
         self.table.read_at::<Brand>(&mut lane.seat, cell, row, bits)
     }
 
-    /// Makes an event, which changes the word at its place, if that is still the word that was
+    /// Makes an event of a cell, which changes the cell's word, if that is still the word that was
     /// seen, and else answers the word that it found. The act is for the proof alone: inlined, it
     /// costs nothing.
     #[inline(always)]
@@ -510,7 +510,7 @@ impl Cells {
     ) -> Result<(), u64>
         requires lane { lane.old.cells ≡ self.now.id }
         requires place { place ≡ place_in self.now.id.limits act }
-        requires within { place ≤ self.now.id.limits.cells }
+        requires within { place < self.now.id.limits.cells }
         requires seen { IsWordAt lane.old.cells.limits (seen_by lane.old.view) place old }
         requires may { (h : History) → Finds lane.old.cells.limits lane.old.view place old h → MayGoOn lane.old.cells.limits lane.old.view h place new act }
         ensures made { IfOk result (λ _. (h : History) × Finds lane.old.cells.limits lane.old.view place old h × MayGoOn lane.old.cells.limits lane.old.view h place new act × (lane.new ≡ stepped lane.old (h ++ by lane.old.view.number act ∷ []))) }
@@ -519,6 +519,32 @@ impl Cells {
         let found = self
             .table
             .exchange::<Brand>(&mut lane.seat, self.limits.cells, place, old, new, act);
+        if found == old {
+            return Ok(());
+        }
+        Err(found)
+    }
+
+    /// Draws a number as `exchange` makes an event of a cell. The count stands behind the cells.
+    #[inline(always)]
+    fn exchange_count(
+        &self,
+        lane: &mut CellLane,
+        place: usize,
+        old: u64,
+        new: u64,
+        act: Act<CellNo>,
+    ) -> Result<(), u64>
+        requires lane { lane.old.cells ≡ self.now.id }
+        requires place { place ≡ place_in self.now.id.limits act }
+        requires count { place ≡ self.now.id.limits.cells }
+        requires may { (h : History) → Finds lane.old.cells.limits lane.old.view place old h → MayGoOn lane.old.cells.limits lane.old.view h place new act }
+        ensures made { IfOk result (λ _. (h : History) × Finds lane.old.cells.limits lane.old.view place old h × MayGoOn lane.old.cells.limits lane.old.view h place new act × (lane.new ≡ stepped lane.old (h ++ by lane.old.view.number act ∷ []))) }
+        ensures missed { IfErr result (λ found. (found ≢ old) × ((h : History) × Finds lane.old.cells.limits lane.old.view place found h × (lane.new ≡ stepped lane.old h))) }
+    {
+        let found = self
+            .table
+            .exchange_count(&mut lane.seat, place, old, new, act);
         if found == old {
             return Ok(());
         }

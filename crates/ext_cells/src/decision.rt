@@ -1,10 +1,10 @@
 //! What a call does next, by the word that it found.
-ghost use Rattle.std.specs.Prelude.{◌≡◌, ℕ, ◌<◌, IsTrue, Option};
+ghost use Rattle.std.specs.Prelude.{◌≡◌, ℕ, ◌<◌, ◌%◌, IsTrue, Option};
 ghost use Rattle.ext_model.specs.declared.slot.Slot.{Slot};
 ghost use Rattle.ext_cells.specs.WordChanges.{IsEmptyWord};
 ghost use Rattle.ext_cells.specs.InnerDeciding.{IsCellWord, IsChange, IsSeal, is_settled as is_settled_of, Decides};
 
-use crate::cell_word::{SEAL_OF_NOTHING, after, is_empty, parts};
+use crate::cell_word::{SEAL_OF_NOTHING, SEAL_OF_VALUE, after, is_empty, number_in, parts};
 use crate::stood::Stood;
 use crate::{CellRefusal, CellState};
 use ext_model::{Act, CellNo};
@@ -39,6 +39,14 @@ fn seals_nothing(word: u64, act: Act<CellNo>) -> bool
     matches!(act, Act::Seal(_)) && is_empty(word)
 }
 
+// Whether the act seals a value.
+#[inline(always)]
+fn seals_value(word: u64, act: Act<CellNo>) -> bool
+    ensures { IsTrue result → IsSeal act × (word % 16 ≡ 2) }
+{
+    matches!(act, Act::Seal(_)) && word % 16 == 2
+}
+
 // Decides a put, a remove, a claim or a seal of the cell whose word this is. The act is a constant
 // in each caller, so the compiler removes the tests of it.
 #[inline(always)]
@@ -47,6 +55,12 @@ pub(crate) fn decide(word: u64, act: Act<CellNo>) -> Decision
     requires act { IsChange act }
     ensures { (stands : Option Slot) (version : ℕ) → IsCellWord stands version word → Decides act stands version result }
 {
+    if seals_value(word, act) {
+        return Decision::Change {
+            next: word + SEAL_OF_VALUE,
+            stood: Stood::Value(number_in(word)),
+        };
+    }
     if seals_nothing(word, act) {
         return Decision::Change {
             next: word + SEAL_OF_NOTHING,

@@ -112,6 +112,7 @@ impl Cells {
     /// not empty, it is read once and no other. Otherwise it reads all cells, pass after pass, as
     /// `collect` does. Refused only as `Contended`, if other lanes made at least `tries` events on
     /// these cells meanwhile.
+    #[inline(always)]
     pub fn nearest(
         &self,
         lane: &mut CellLane,

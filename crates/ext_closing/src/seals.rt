@@ -157,7 +157,6 @@ fn seal_marked<V, const ROOM: usize>(
 
 // Seals one key of the closer's context.
 #[tactic(auto, using(crate::proofs::Counting::fronts_within))]
-#[inline(always)]
 fn seal_key<V>(
     store: &Store<V>,
     closer: &Closer,

@@ -190,8 +190,13 @@ module _ {V A : Type 0} (t : TreeSetting V A) (finer : ℕ → Call → Option H
   tree_finer (suc depth) node before ran after run leads = (
     run.0,
     run.1,
-    (λ test. test_finer node run.0 before ran after (run.2 test) leads),
-    (λ container.
-        container_finer (λ child s below u. TreeRun t depth child s below u) (λ child s below u. TreeRun (with_calls finer t) depth child s below u)
-        (λ c s below u r. tree_relates t R same next moves meets seals depth c s below u r) (λ c s below u r here. tree_finer depth c s below u r here) node run.0 before ran after (run.3 container) leads),
+    elim run.2 [
+      | inl left ↦ inl (record { allowed = left.allowed; some_lane = left.some_lane; ran_is = left.ran_is; untouched = left.untouched })
+      | inr on ↦ inr (
+        (λ test. test_finer node run.0 before ran after (on.0 test) leads),
+        (λ container.
+            container_finer (λ child s below u. TreeRun t depth child s below u) (λ child s below u. TreeRun (with_calls finer t) depth child s below u)
+            (λ c s below u r. tree_relates t R same next moves meets seals depth c s below u r) (λ c s below u r here. tree_finer depth c s below u r here) node run.0 before ran after (on.1 container) leads),
+      )
+    ],
   )

@@ -8,6 +8,7 @@ use Rattle.std.proofs.lemmas.List.Elements.{All-contains, All-head, All-tail}
 use Rattle.ext_history.proofs.Lists.{bools, contains_none, contains_here, contains_later, contains_cons}
 use Rattle.ext_lifecycle.specs.declared.status.Status.TheVariants as statuses
 use Rattle.ext_lifecycle.specs.Modes.{in_run_order}
+use Rattle.ext_lifecycle.specs.Results.{skipped_result}
 use Rattle.ext_tree.specs.Trees.{Id, IsTree, IsParentOf, IsPathOf, children_of}
 use Rattle.ext_tree.proofs.TreeLaws.{parents_list_children}
 use Rattle.ext_engine.specs.Suites.{SuiteView}
@@ -20,6 +21,10 @@ use Rattle.ext_history.proofs.Once.{Once, once-append, once-parted, once-from_pa
 abbrev pub Entry : Type 0
 Entry = ℕ × List Ran
 
+-- what is told of a node that the suite leaves out
+abbrev pub left_out : SuiteView → ℕ → Ran
+left_out suite node = record { result = skipped_result node (suite.is_test node); went_on = false }
+
 abbrev pub runs_in : List Entry → List Ran
 runs_in done = flat_map (λ e. e.1) done
 
@@ -27,6 +32,7 @@ module _ (ids : List Id) (suite : SuiteView) where
   abbrev pub order : ℕ → List ℕ
   order node = in_run_order suite.is_concurrent (children_of ids node)
 
+module _ (ids : List Id) (suite : SuiteView) (may_disable : ℕ → Type 0) where
   -- a node and its children, of which `Child` says what ran of each
   pub record Grew (Child : ℕ → List Ran → Type 0) (node : ℕ) (ran : List Ran) : Type 0 where
     pub first : Ran
@@ -36,9 +42,9 @@ module _ (ids : List Id) (suite : SuiteView) where
     pub ran_are : ran ≡ first ∷ runs_in done
     pub node_is : first.result.node ≡ node
     pub test_is : first.result.is_test ≡ suite.is_test node
-    pub ran_status : first.result.status ≢ statuses.Skipped
+    pub skips : first.result.status ≡ statuses.Skipped → (first ≡ left_out suite node) × may_disable node
     pub each : All (λ e. Child e.0 e.1) done
-    pub whole : first.went_on ≡ true → map (λ e. e.0) done ≡ order node
+    pub whole : first.went_on ≡ true → map (λ e. e.0) done ≡ order ids suite node
     pub nothing : first.went_on ≡ false → done ≡ []
 
   -- and so to so many levels
@@ -49,13 +55,13 @@ module _ (ids : List Id) (suite : SuiteView) where
   module _ (tree : IsTree ids) where
     -- ---- children
 
-    order_child : (node c : ℕ) → node < length ids → Contains (order node) c → IsParentOf ids node c
+    order_child : (node c : ℕ) → node < length ids → Contains (order ids suite node) c → IsParentOf ids node c
     order_child node c within there = (parents_list_children ids node within).child c (contains-from_parted suite.is_concurrent (children_of ids node) c there)
 
-    child_order : (node c : ℕ) → IsParentOf ids node c → Contains (order node) c
+    child_order : (node c : ℕ) → IsParentOf ids node c → Contains (order ids suite node) c
     child_order node c is = contains-parted suite.is_concurrent (children_of ids node) c ((parents_list_children ids node is.parent_within).listed c is)
 
-    order_once : (node : ℕ) → node < length ids → Once (order node)
+    order_once : (node : ℕ) → node < length ids → Once (order ids suite node)
     order_once node within = once-parted suite.is_concurrent (children_of ids node) (once-from_pairs (λ a b. a < b) (λ x less. omega (arith, less)) (children_of ids node) (parents_list_children ids node within).order)
 
     module _ (Child : ℕ → List Ran → Type 0) (node : ℕ) (ran : List Ran) (g : Grew Child node ran) where
@@ -156,13 +162,17 @@ module _ (ids : List Id) (suite : SuiteView) where
           | inr part ↦ kind_told depth part.0.0 part.0.1 (done_run Child node ran g part.0 part.1) r part.2
         ]
 
-    pub no_skip : (depth node : ℕ) (ran : List Ran) → Grows depth node ran → (r : Ran) → Contains ran r → r.result.status ≢ statuses.Skipped
-    no_skip zero node ran g r there = absurd g
-    no_skip (suc depth) node ran g r there =
+    pub left_only : (depth node : ℕ) (ran : List Ran) → Grows depth node ran → (r : Ran) → Contains ran r → r.result.status ≡ statuses.Skipped
+        → (r ≡ left_out suite r.result.node) × may_disable r.result.node
+    left_only zero node ran g r there skipped = absurd g
+    left_only (suc depth) node ran g r there skipped =
         let Child : ℕ → List Ran → Type 0 = λ child below. Grows depth child below in
         elim (parts Child node ran g r there) [
-          | inl same ↦ subst (λ x. x.result.status ≢ statuses.Skipped) same g.ran_status
-          | inr part ↦ no_skip depth part.0.0 part.0.1 (done_run Child node ran g part.0 part.1) r part.2
+          | inl same ↦
+              let at : node ≡ r.result.node = sym g.node_is ∙ ap (λ x. x.result.node) same in
+              let told = g.skips (ap (λ x. x.result.status) same ∙ skipped) in
+              (sym same ∙ told.0 ∙ ap (left_out suite) at, subst may_disable at told.1)
+          | inr part ↦ left_only depth part.0.0 part.0.1 (done_run Child node ran g part.0 part.1) r part.2 skipped
         ]
 
     -- ---- what ran, and what was skipped

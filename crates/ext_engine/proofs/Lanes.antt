@@ -121,17 +121,24 @@ module _ {V A : Type 0} (t : TreeSetting V A) where
 
   tree_kept : (depth node : ℕ) (before : Lanes V) (ran : List Ran) (after : Lanes V) → TreeRun t depth node before ran after → Kept t.locks before after
   tree_kept zero node before ran after run = absurd run
-  tree_kept (suc depth) node before ran after run = elim (bools (t.suite.is_test node)) [
-    | inl test ↦ test_kept node run.0 before ran after (run.2 test)
-    | inr container ↦ container_kept (λ child s below u. TreeRun t depth child s below u) (λ c s below u r. tree_kept depth c s below u r) node run.0 before ran after (run.3 container)
+  tree_kept (suc depth) node before ran after run = elim run.2 [
+    | inl left ↦ subst (λ x. Kept t.locks before x) (sym left.untouched) (kept_same t.locks before)
+    | inr on ↦ elim (bools (t.suite.is_test node)) [
+      | inl test ↦ test_kept node run.0 before ran after (on.0 test)
+      | inr container ↦ container_kept (λ child s below u. TreeRun t depth child s below u) (λ c s below u r. tree_kept depth c s below u r) node run.0 before ran after (on.1 container)
+    ]
   ]
 
-  -- each run ends with a close, which leaves lanes of the store
-  own_lanes : (depth node : ℕ) (before : Lanes V) (ran : List Ran) (after : Lanes V) → TreeRun t depth node before ran after → All (IsLaneOf t.store.id) after.first
-  own_lanes zero node before ran after run = absurd run
-  own_lanes (suc depth) node before ran after run = elim (bools (t.suite.is_test node)) [
-    | inl test ↦ (run.2 test).closes.closes.own_lanes
-    | inr container ↦ (run.3 container).ends.closes.closes.own_lanes
+  -- the run of a node that is not left out ends with a close, which leaves lanes of the store
+  own_lanes : (depth node : ℕ) (before : Lanes V) (ran : List Ran) (after : Lanes V) → TreeRun t depth node before ran after → All (IsLaneOf t.store.id) before.first
+      → All (IsLaneOf t.store.id) after.first
+  own_lanes zero node before ran after run own = absurd run
+  own_lanes (suc depth) node before ran after run own = elim run.2 [
+    | inl left ↦ subst (λ (x : Lanes V). All (IsLaneOf t.store.id) x.first) (sym left.untouched) own
+    | inr on ↦ elim (bools (t.suite.is_test node)) [
+      | inl test ↦ (on.0 test).closes.closes.own_lanes
+      | inr container ↦ (on.1 container).ends.closes.closes.own_lanes
+    ]
   ]
 
   pub keeps_lanes : (depth node : ℕ) (before : Lanes V) (ran : List Ran) (after : Lanes V) → TreeRun t depth node before ran after → IsUsable t.store t.locks before
@@ -147,7 +154,7 @@ module _ {V A : Type 0} (t : TreeSetting V A) where
           some = omega (arith, a, some);
           same = b ∙ same ∙ sym a;
           few = omega (arith, a, few);
-          lanes = own_lanes depth node before ran after run;
+          lanes = own_lanes depth node before ran after run usable.lanes;
           idle = kept.still_idle usable.idle;
         },
         a,

@@ -1,7 +1,8 @@
 -- One result a node.
-use Rattle.std.proofs.Common.{◌≡◌, ◌≢◌, ◌<◌, ◌+◌, inl, inr, ℕ, zero, suc, Bool, List, [], ◌∷◌, length, map, refl, ap, sym, subst, ◌∙◌, arith}
+use Rattle.std.proofs.Common.{◌≡◌, ◌≢◌, ◌⊎◌, ◌<◌, ◌+◌, inl, inr, ℕ, zero, suc, Bool, false, List, [], ◌∷◌, length, map, refl, ap, sym, subst, ◌∙◌, arith}
 use Rattle.std.specs.Prelude.{Contains, Option, Some, option_map, slice_get, slice_set}
 use Rattle.std.specs.List.{range_with_len}
+use Rattle.std.proofs.lemmas.Bool.{cases_eq}
 use Rattle.std.proofs.lemmas.List.{length-map, length-set, map-set}
 use Rattle.std.proofs.lemmas.List.FromFn.{length-range_with_len}
 use Rattle.std.proofs.lemmas.Option.{slice_get-map}
@@ -11,7 +12,7 @@ use Rattle.ext_lifecycle.specs.declared.status.Status.TheVariants as statuses
 use Rattle.ext_lifecycle.specs.Results.{ResultOf, skipped_result}
 use Rattle.ext_engine.specs.Suites.{SuiteView}
 use Rattle.ext_engine.specs.TreeRun.{Ran, placed, all_skipped, all_results}
-use Rattle.ext_engine.specs.RunLaws.{HasRun, IsOneEach, nodes_of}
+use Rattle.ext_engine.specs.RunLaws.{HasRun, IsLeftOut, IsOneEach, nodes_of}
 use Rattle.ext_history.proofs.Once.{Once, contains-from_map}
 
 -- ---- lists
@@ -47,6 +48,17 @@ number_at : (from count i k : ℕ) → i < count → k ≡ from + i → slice_ge
 number_at from zero i k less is = absurd (omega (arith, less))
 number_at from (suc count) zero k less is = ap Some (omega (arith, is))
 number_at from (suc count) (suc i) k less is = number_at (from + 1) count i k (omega (arith, less)) (omega (arith, is))
+
+-- it stands there or not
+has_or_not : (xs : List ℕ) (k : ℕ) → Contains xs k ⊎ (¬ Contains xs k)
+has_or_not [] k = inr (λ there. contains_none k there)
+has_or_not (x ∷ xs) k = elim (cases_eq x k) [
+  | inl same ↦ inl (subst (Contains (x ∷ xs)) same (contains_here x xs))
+  | inr differ ↦ elim (has_or_not xs k) [
+    | inl later ↦ inl (contains_later x xs k later)
+    | inr none ↦ inr (λ there. elim (contains_cons x xs k there) [ inl same ↦ differ same | inr later ↦ none later ])
+  ]
+]
 
 -- ---- results
 
@@ -117,8 +129,9 @@ place_within results count node result in_order is =
     let long : length results ≡ count = sym (length-map results (λ r. r.node)) ∙ ap length in_order ∙ length-range_with_len 0 count in
     omega (arith, less, long)
 
-module _ (suite : SuiteView) (count : ℕ) (ran : List Ran) (once : Once (nodes_of ran)) (within : (r : Ran) → Contains ran r → r.result.node < count)
-    (told : (r : Ran) → Contains ran r → r.result.is_test ≡ suite.is_test r.result.node) (not_skipped : (r : Ran) → Contains ran r → r.result.status ≢ statuses.Skipped) where
+module _ (suite : SuiteView) (may_disable : ℕ → Type 0) (count : ℕ) (ran : List Ran) (once : Once (nodes_of ran)) (within : (r : Ran) → Contains ran r → r.result.node < count)
+    (told : (r : Ran) → Contains ran r → r.result.is_test ≡ suite.is_test r.result.node)
+    (left_only : (r : Ran) → Contains ran r → r.result.status ≡ statuses.Skipped → (r ≡ record { result = skipped_result r.result.node (suite.is_test r.result.node); went_on = false }) × may_disable r.result.node) where
   of_run : (r : Ran) → Contains ran r → slice_get (all_results suite count ran) r.result.node ≡ Some r.result
   of_run r there = placed-ran ran (all_skipped suite count) once r there (let e = skipped-length suite count in let less = within r there in omega (arith, e, less))
 
@@ -131,21 +144,36 @@ module _ (suite : SuiteView) (count : ℕ) (ran : List Ran) (once : Once (nodes_
   a_place : (node : ℕ) (result : ResultOf Fault) → slice_get (all_results suite count ran) node ≡ Some result → node < count
   a_place node result is = place_within (all_results suite count ran) count node result in_order is
 
-  status_ran : (node : ℕ) (result : ResultOf Fault) → slice_get (all_results suite count ran) node ≡ Some result → result.status ≡ statuses.Skipped → HasRun ran node → ⊥
+  status_ran : (node : ℕ) (result : ResultOf Fault) → slice_get (all_results suite count ran) node ≡ Some result → result.status ≡ statuses.Skipped → HasRun ran node → IsLeftOut suite may_disable ran node
   status_ran node result is skipped has =
       let at = contains-from_map (λ r. r.result.node) ran node has in
       let there = subst (λ k. slice_get (all_results suite count ran) k ≡ Some at.0.result) at.2 (of_run at.0 at.1) in
-      not_skipped at.0 at.1 (ap (λ r. r.status) (one_value (slice_get (all_results suite count ran) node) at.0.result result there is) ∙ skipped)
+      let told = left_only at.0 at.1 (ap (λ r. r.status) (one_value (slice_get (all_results suite count ran) node) at.0.result result there is) ∙ skipped) in
+      let P : ℕ → Type 0 = λ k. Contains ran (record { result = skipped_result k (suite.is_test k); went_on = false }) in
+      record { allowed = subst may_disable at.2 told.1; among = subst P at.2 (subst (Contains ran) told.0 at.1) }
+
+  status_told : (node : ℕ) (result : ResultOf Fault) → slice_get (all_results suite count ran) node ≡ Some result → result.status ≡ statuses.Skipped → (¬ HasRun ran node) ⊎ IsLeftOut suite may_disable ran node
+  status_told node result is skipped = elim (has_or_not (nodes_of ran) node) [
+    | inl has ↦ inr (status_ran node result is skipped has)
+    | inr not_run ↦ inl not_run
+  ]
+
+  status_left : (node : ℕ) (result : ResultOf Fault) → slice_get (all_results suite count ran) node ≡ Some result → IsLeftOut suite may_disable ran node → result.status ≡ statuses.Skipped
+  status_left node result is left =
+      ap (λ r. r.status) (one_value (slice_get (all_results suite count ran) node) result (skipped_result node (suite.is_test node)) is (of_run _ left.among))
 
   status_skipped : (node : ℕ) (result : ResultOf Fault) → slice_get (all_results suite count ran) node ≡ Some result → (¬ HasRun ran node) → result.status ≡ statuses.Skipped
   status_skipped node result is not_run =
       ap (λ r. r.status) (one_value (slice_get (all_results suite count ran) node) result (skipped_result node (suite.is_test node)) is (of_skipped node (a_place node result is) not_run))
 
-  pub one_each : IsOneEach suite count ran (all_results suite count ran)
+  pub one_each : IsOneEach suite may_disable count ran (all_results suite count ran)
   one_each = record {
     nodes = in_order;
     tests = placed-kinds suite count ran (all_skipped suite count) told (skipped-kinds suite (range_with_len 0 count));
     of_run = of_run;
     of_skipped = of_skipped;
-    status = λ node result is. (status_ran node result is, status_skipped node result is);
+    status = λ node result is. (
+      status_told node result is,
+      λ why. elim why [ inl not_run ↦ status_skipped node result is not_run | inr left ↦ status_left node result is left ],
+    );
   }

@@ -143,7 +143,10 @@ module _ {V A : Type 0} (t : TreeSetting V A)
 
   pub tree_relates : (depth node : ℕ) (before : Lanes V) (ran : List Ran) (after : Lanes V) → TreeRun t depth node before ran after → All2 before.first after.first
   tree_relates zero node before ran after run = absurd run
-  tree_relates (suc depth) node before ran after run = elim (bools (t.suite.is_test node)) [
-    | inl test ↦ test_relates node run.0 before ran after (run.2 test)
-    | inr container ↦ container_relates (λ child s below u. TreeRun t depth child s below u) (λ c s below u r. tree_relates depth c s below u r) node run.0 before ran after (run.3 container)
+  tree_relates (suc depth) node before ran after run = elim run.2 [
+    | inl left ↦ subst (λ (x : Lanes V). All2 before.first x.first) (sym left.untouched) (same2 before.first)
+    | inr on ↦ elim (bools (t.suite.is_test node)) [
+      | inl test ↦ test_relates node run.0 before ran after (on.0 test)
+      | inr container ↦ container_relates (λ child s below u. TreeRun t depth child s below u) (λ c s below u r. tree_relates depth c s below u r) node run.0 before ran after (on.1 container)
+    ]
   ]

@@ -136,9 +136,12 @@ module _ {V A : Type 0} (t : TreeSetting V A) (moves : CallsGoOn t.call_gives) (
 
   pub tree_acts : (depth node : ℕ) (before : Lanes V) (ran : List Ran) (after : Lanes V) → TreeRun t depth node before ran after → All (HasSeenWithin h) after.first → Acts h before.first after.first
   tree_acts zero node before ran after run within = absurd run
-  tree_acts (suc depth) node before ran after run within = elim (bools (t.suite.is_test node)) [
-    | inl test ↦ test_acts node run.0 before ran after (run.2 test)
-    | inr container ↦
-        container_acts (λ child s below u. TreeRun t depth child s below u) (λ c s below u r. tree_goes t moves depth c s below u r) (λ c s below u r seen. tree_acts depth c s below u r seen)
-        node run.0 before ran after (run.3 container) within
+  tree_acts (suc depth) node before ran after run within = elim run.2 [
+    | inl left ↦ subst (λ (x : Lanes V). Acts h before.first x.first) (sym left.untouched) (acts_same h before.first)
+    | inr on ↦ elim (bools (t.suite.is_test node)) [
+      | inl test ↦ test_acts node run.0 before ran after (on.0 test)
+      | inr container ↦
+          container_acts (λ child s below u. TreeRun t depth child s below u) (λ c s below u r. tree_goes t moves depth c s below u r) (λ c s below u r seen. tree_acts depth c s below u r seen)
+          node run.0 before ran after (on.1 container) within
+    ]
   ]

@@ -11,10 +11,10 @@ use Rattle.ext_lifecycle.specs.declared.status.Status.TheVariants as statuses
 use Rattle.ext_lifecycle.specs.Endings.{all_successful, first_abort, first_fault, total_by, unsuccessful}
 use Rattle.ext_lifecycle.specs.Lifecycle.{computed_in, endings_of, found_in}
 use Rattle.ext_lifecycle.specs.Modes.{in_run_order}
-use Rattle.ext_lifecycle.specs.Results.{close_ending, result_of}
+use Rattle.ext_lifecycle.specs.Results.{close_ending, result_of, skipped_result}
 use Rattle.ext_tree.specs.Trees.{IsTree, IsPathOf, children_of}
 use Rattle.ext_crew.proofs.RunLaws.{run-outcome}
-use Rattle.ext_engine.specs.TreeRun.{Ran, TreeSetting, Lanes, TreeRun, TestRun, ContainerRun, BodyRun, IsRunnable, concurrent_children, with_lanes}
+use Rattle.ext_engine.specs.TreeRun.{Ran, TreeSetting, Lanes, TreeRun, IsDisabled, TestRun, ContainerRun, BodyRun, IsRunnable, concurrent_children, with_lanes}
 use Rattle.ext_engine.proofs.Above.{within_tree}
 use Rattle.ext_engine.proofs.Grown.{Entry, runs_in, order, Grows}
 
@@ -93,7 +93,7 @@ module _ {V A : Type 0} (t : TreeSetting V A) (tree : IsTree t.store.tree) (fit 
         }
 
   test_grown : (depth node : ℕ) (path : List ℕ) (before : Lanes V) (ran : List Ran) (after : Lanes V) → IsPathOf t.store.tree node path → t.suite.is_test node ≡ true
-      → TestRun t node path before ran after → Grows t.store.tree t.suite (suc depth) node ran
+      → TestRun t node path before ran after → Grows t.store.tree t.suite t.may_disable (suc depth) node ran
   test_grown depth node path before ran after is test run =
       let ends = endings_of run.outcomes ++ map close_ending run.faults in
       let none : children_of t.store.tree node ≡ [] = fit.below node (within_tree t.store.tree node path tree is) test in
@@ -105,19 +105,19 @@ module _ {V A : Type 0} (t : TreeSetting V A) (tree : IsTree t.store.tree) (fit 
         ran_are = run.ran_is;
         node_is = refl;
         test_is = sym test;
-        ran_status = not_skipped (first_fault ends) (first_abort ends) (unsuccessful ends);
+        skips = λ skipped. absurd (not_skipped (first_fault ends) (first_abort ends) (unsuccessful ends) skipped);
         each = λ k d less. absurd (omega (arith, less));
         whole = λ on. sym (ap (in_run_order t.suite.is_concurrent) none);
         nothing = λ off. refl;
       }
 
   container_grown : (depth node : ℕ) (path : List ℕ) (before : Lanes V) (ran : List Ran) (after : Lanes V) → IsPathOf t.store.tree node path
-      → (Run : ℕ → Lanes V → List Ran → Lanes V → Type 0) → ((c : ℕ) (s : Lanes V) (below : List Ran) (u : Lanes V) → Run c s below u → Grows t.store.tree t.suite depth c below)
-      → t.suite.is_test node ≡ false → ContainerRun t Run node path before ran after → Grows t.store.tree t.suite (suc depth) node ran
+      → (Run : ℕ → Lanes V → List Ran → Lanes V → Type 0) → ((c : ℕ) (s : Lanes V) (below : List Ran) (u : Lanes V) → Run c s below u → Grows t.store.tree t.suite t.may_disable depth c below)
+      → t.suite.is_test node ≡ false → ContainerRun t Run node path before ran after → Grows t.store.tree t.suite t.may_disable (suc depth) node ran
   container_grown depth node path before ran after is Run at container run =
       let calls = run.befores ++ run.ends.afters in
       let ends = endings_of calls ++ map close_ending run.ends.faults in
-      let P : ℕ → List Ran → Type 0 = λ c below. Grows t.store.tree t.suite depth c below in
+      let P : ℕ → List Ran → Type 0 = λ c below. Grows t.store.tree t.suite t.may_disable depth c below in
       let opened : Lanes V = record { first = run.opened; second = before.second } in
       let first : Ran = record { result = result_of node false (endings_of calls) (computed_in calls) (found_in calls) run.ends.faults; went_on = all_successful (endings_of run.befores) } in
       let status = not_skipped (first_fault ends) (first_abort ends) (unsuccessful ends) in
@@ -132,7 +132,7 @@ module _ {V A : Type 0} (t : TreeSetting V A) (tree : IsTree t.store.tree) (fit 
               ran_are = run.ran_are ∙ ap (λ r. r ∷ run.below) run.ends.own_is ∙ ap (λ l. first ∷ l) b.runs_are;
               node_is = refl;
               test_is = sym container;
-              ran_status = status;
+              skips = λ skipped. absurd (status skipped);
               each = b.each;
               whole = λ yes_on. b.nodes_are;
               nothing = λ off. absurd (let e : true ≡ false = sym on ∙ off in cc);
@@ -145,16 +145,35 @@ module _ {V A : Type 0} (t : TreeSetting V A) (tree : IsTree t.store.tree) (fit 
           ran_are = run.ran_are ∙ ap (λ r. r ∷ run.below) run.ends.own_is ∙ ap (λ l. first ∷ l) (run.body_made.skipped off).0;
           node_is = refl;
           test_is = sym container;
-          ran_status = status;
+          skips = λ skipped. absurd (status skipped);
           each = λ k d less. absurd (omega (arith, less));
           whole = λ on. absurd (let e : true ≡ false = sym on ∙ off in cc);
           nothing = λ no_on. refl;
         }
       ]
 
-  pub grown : (depth node : ℕ) (before : Lanes V) (ran : List Ran) (after : Lanes V) → TreeRun t depth node before ran after → Grows t.store.tree t.suite depth node ran
+  disabled_grown : (depth node : ℕ) (path : List ℕ) (before : Lanes V) (ran : List Ran) (after : Lanes V) → IsPathOf t.store.tree node path
+      → IsDisabled t node before ran after → Grows t.store.tree t.suite t.may_disable (suc depth) node ran
+  disabled_grown depth node path before ran after is left = record {
+    first = record { result = skipped_result node (t.suite.is_test node); went_on = false };
+    done = [];
+    path = path;
+    path_is = is;
+    ran_are = left.ran_is;
+    node_is = refl;
+    test_is = refl;
+    skips = λ skipped. (refl, left.allowed);
+    each = λ k d less. absurd (omega (arith, less));
+    whole = λ on. absurd cc;
+    nothing = λ off. refl;
+  }
+
+  pub grown : (depth node : ℕ) (before : Lanes V) (ran : List Ran) (after : Lanes V) → TreeRun t depth node before ran after → Grows t.store.tree t.suite t.may_disable depth node ran
   grown zero node before ran after run = absurd run
-  grown (suc depth) node before ran after run = elim (bools (t.suite.is_test node)) [
-    | inl test ↦ test_grown depth node run.0 before ran after run.1 test (run.2 test)
-    | inr container ↦ container_grown depth node run.0 before ran after run.1 (λ child s below u. TreeRun t depth child s below u) (λ c s below u r. grown depth c s below u r) container (run.3 container)
+  grown (suc depth) node before ran after run = elim run.2 [
+    | inl left ↦ disabled_grown depth node run.0 before ran after run.1 left
+    | inr on ↦ elim (bools (t.suite.is_test node)) [
+      | inl test ↦ test_grown depth node run.0 before ran after run.1 test (on.0 test)
+      | inr container ↦ container_grown depth node run.0 before ran after run.1 (λ child s below u. TreeRun t depth child s below u) (λ c s below u r. grown depth c s below u r) container (on.1 container)
+    ]
   ]

@@ -1,5 +1,5 @@
 -- What holds of the run of a node, from what holds of its parts.
-use Rattle.std.proofs.Common.{◌≡◌, ℕ, ◌+◌, ◌-◌, ◌<◌, ◌≤◌, false, true, min, zero, suc, List, [], ◌∷◌, ◌++◌, length, map, drop, ap, ◌∙◌, sym, refl, subst, arith, append-nil, length-drop, length-take}
+use Rattle.std.proofs.Common.{◌≡◌, inl, inr, ℕ, ◌+◌, ◌-◌, ◌<◌, ◌≤◌, false, true, min, zero, suc, List, [], ◌∷◌, ◌++◌, length, map, drop, ap, ◌∙◌, sym, refl, subst, arith, append-nil, length-drop, length-take}
 use Rattle.std.specs.Prelude.{All, option_map, filter, not, Some, Ok, Err, Result, Vec, IfOk, IsOk, slice_get, slice_index_or}
 use Rattle.std.specs.declared.alloc.Global.{Global}
 use Rattle.std.specs.List.{flat_map, AllZip}
@@ -18,7 +18,7 @@ use Rattle.ext_crew.proofs.RunLaws.{run-outcome}
 use Rattle.ext_engine.specs.declared.node.closers.Item.{Item}
 use Rattle.ext_engine.specs.declared.node.results.RanNode.{RanNode}
 use Rattle.ext_engine.specs.InnerResults.{ran_view, ran_in}
-use Rattle.ext_engine.specs.TreeRun.{Ran, TreeSetting, Lanes, IsUsable, IsIdle, TreeRun, TestRun, ContainerRun, BodyRun, RanInTurn, with_lanes}
+use Rattle.ext_engine.specs.TreeRun.{Ran, TreeSetting, Lanes, IsUsable, IsIdle, TreeRun, IsDisabled, TestRun, ContainerRun, BodyRun, RanInTurn, with_lanes}
 use Rattle.ext_engine.specs.Meeting.{Forks, Joins, OnlyMeets}
 
 -- ---- shares that can be used
@@ -139,7 +139,12 @@ module _ {V A : Type 0} (t : TreeSetting V A) where
       → (path : List ℕ) × IsPathOf t.store.tree node path × TestRun t node path s ran u → Tree depth node s ran u
   tree-of-test zero node s ran u some_depth test run = absurd (omega (arith, some_depth))
   tree-of-test (suc depth) node s ran u some_depth test run =
-      (run.0, run.1, (λ _. run.2), (λ bad. absurd (let e : true ≡ false = sym test ∙ bad in cc)))
+      (run.0, run.1, inr ((λ _. run.2), (λ bad. absurd (let e : true ≡ false = sym test ∙ bad in cc))))
+
+  pub tree-of-disabled : (depth node : ℕ) (s : Lanes V) (ran : List Ran) (u : Lanes V) → 1 ≤ depth
+      → (path : List ℕ) × IsPathOf t.store.tree node path × IsDisabled t node s ran u → Tree depth node s ran u
+  tree-of-disabled zero node s ran u some_depth left = absurd (omega (arith, some_depth))
+  tree-of-disabled (suc depth) node s ran u some_depth left = (left.0, left.1, inl left.2)
 
   pub tree-of-container : (depth node : ℕ) (s : Lanes V) (ran : List Ran) (u : Lanes V) → 1 ≤ depth → t.suite.is_test node ≡ false
       → (path : List ℕ) × IsPathOf t.store.tree node path × ContainerRun t (Tree (depth - 1)) node path s ran u → Tree depth node s ran u
@@ -147,7 +152,7 @@ module _ {V A : Type 0} (t : TreeSetting V A) where
   tree-of-container (suc depth) node s ran u some_depth container run =
       let e : suc depth - 1 ≡ depth = omega arith in
       let P : ℕ → Type 0 = λ n. ContainerRun t (Tree n) node run.0 s ran u in
-      (run.0, run.1, (λ good. absurd (let f : true ≡ false = sym good ∙ container in cc)), (λ _. subst P e run.2))
+      (run.0, run.1, inr ((λ good. absurd (let f : true ≡ false = sym good ∙ container in cc)), (λ _. subst P e run.2)))
 
   module _ (Child : ℕ → Lanes V → List Ran → Lanes V → Type 0) where
     -- the children beside one another, and then the others

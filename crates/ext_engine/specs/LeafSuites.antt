@@ -51,14 +51,15 @@ pub record MakesLeaf {V : Type 0} (Gives : Result Outcome Fault → StoreLane V 
   pub outcome_is : outcome ≡ outcome_of answer
 
 -- The setting of a run, from what is said of all suites of the type. There are no callbacks.
-module _ {V S A : Type 0} (is_closeable : V → Bool) (run_gives : S → StoreView → ℕ → StoreLane V → Result Outcome Fault
-    → StoreLane V → Type 0)
+module _ {V S A : Type 0} (is_closeable : V → Bool) (may_disable : S → ℕ → Type 0)
+    (run_gives : S → StoreView → ℕ → StoreLane V → Result Outcome Fault → StoreLane V → Type 0)
     (action_gives : S → ℕ → A → Type 0) (close_gives : A → ℕ → V → Answer → A → Type 0) where
   abbrev pub leaf_setting : S → Bool → StoreView → LocksView → TreeSetting V A
   leaf_setting suite concurrent store locks = record {
     store = store;
     locks = locks;
     suite = leaves_view concurrent store.tree;
+    may_disable = λ node. may_disable suite node;
     registered = λ kind node. 0;
     call_gives = λ node call held before outcome after.
         MakesLeaf (λ answer left. run_gives suite store node before answer left) outcome after;

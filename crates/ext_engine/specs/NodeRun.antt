@@ -28,7 +28,7 @@ pub use Rattle.ext_engine.specs.Taking.{IsNamedLock, IsIdle, TakesSet, GivesBack
 
 -- ---- results
 
--- A node that ran, its result, and whether the nodes below it were run. For a test, which has none, `went_on` is true.
+-- A node that the run came to, its result, and whether the nodes below it were run; of a test that ran it is true.
 pub record Ran : Type 0 where
   pub result : ResultOf Fault
   pub went_on : Bool
@@ -49,10 +49,11 @@ pub record TreeSetting (V A : Type 0) : Type 1 where
   pub store : StoreView
   pub locks : LocksView
   pub suite : SuiteView
+  -- Which nodes the suite may leave out of a run.
+  pub may_disable : ℕ → Type 0
   -- How many callbacks of a kind a node has.
   pub registered : Kind → ℕ → ℕ
-  -- What a call of a node does: the node, the call, the locks it is lent, the lane before it, its outcome, and the lane
-  -- after it.
+  -- What a call does: the node, the call, the locks it is lent, the lane before it, its outcome, the lane after it.
   pub call_gives : ℕ → Call → Option HeldView → StoreLane V → Outcome → StoreLane V → Type 0
   -- The close actions that a node may be given, which values are closeable, and what a call of an action does.
   pub action_gives : ℕ → A → Type 0
@@ -60,7 +61,8 @@ pub record TreeSetting (V A : Type 0) : Type 1 where
   pub close_gives : A → ℕ → V → Answer → A → Type 0
 
 -- The setting for one suite of a type, from what is said of all suites of the type.
-module _ {V S A : Type 0} (is_closeable : V → Bool) (suite_view : S → SuiteView) (registered : S → Kind → ℕ → ℕ)
+module _ {V S A : Type 0} (is_closeable : V → Bool) (suite_view : S → SuiteView) (may_disable : S → ℕ → Type 0)
+    (registered : S → Kind → ℕ → ℕ)
     (call_gives : S → StoreView → ℕ → Call → Option HeldView → StoreLane V → Outcome → StoreLane V → Type 0)
     (action_gives : S → ℕ → A → Type 0) (close_gives : A → ℕ → V → Answer → A → Type 0) where
   abbrev pub setting_of : S → StoreView → LocksView → TreeSetting V A
@@ -68,6 +70,7 @@ module _ {V S A : Type 0} (is_closeable : V → Bool) (suite_view : S → SuiteV
     store = store;
     locks = locks;
     suite = suite_view suite;
+    may_disable = may_disable suite;
     registered = registered suite;
     call_gives = call_gives suite store;
     action_gives = action_gives suite;
@@ -82,6 +85,7 @@ with_calls calls t = record {
   store = t.store;
   locks = t.locks;
   suite = t.suite;
+  may_disable = t.may_disable;
   registered = t.registered;
   call_gives = calls;
   action_gives = t.action_gives;
@@ -146,6 +150,13 @@ module _ {V A : Type 0} (t : TreeSetting V A) where
       went_on = true;
     }
         ∷ []
+
+  -- A node that the suite leaves out: nothing is done, and it is skipped with all nodes below it.
+  pub record IsDisabled (node : ℕ) (before : Lanes V) (ran : List Ran) (after : Lanes V) : Type 0 where
+    pub allowed : t.may_disable node
+    pub some_lane : 0 < length before.first
+    pub ran_is : ran ≡ record { result = skipped_result node (t.suite.is_test node); went_on = false } ∷ []
+    pub untouched : after ≡ before
 
   -- A container before its children: its before-callbacks are called on the first lane, up to the first that isn't
   -- successful.

@@ -1,7 +1,7 @@
 -- What a run of a tree of nodes leaves of its lanes, and the results that it gives (JUnit 5 User Guide, "Relative
 -- Execution Order of User Code and Extensions" and "Parallel Execution"). Shares, lanes and dealings are not from
 -- JUnit. `NodeRun` has what is done for one node alone; its names are passed on.
-use Rattle.std.specs.Prelude.{◌≡◌, ℕ, zero, suc, Bool, true, false, not, List, [], ◌∷◌, ◌++◌, length, map, min, filter, slice_index_or}
+use Rattle.std.specs.Prelude.{◌≡◌, ◌⊎◌, ℕ, zero, suc, Bool, true, false, not, List, [], ◌∷◌, ◌++◌, length, map, min, filter, slice_index_or}
 use Rattle.std.specs.List.{FoldsTo, flat_map}
 use Rattle.ext_model.specs.declared.look.Fault.{Fault}
 use Rattle.ext_lifecycle.specs.declared.outcome.Outcome.{Outcome}
@@ -13,7 +13,7 @@ use Rattle.ext_store.specs.Stores.{StoreLane}
 use Rattle.ext_crew.specs.Dealing.{Share, RunByDealing}
 use Rattle.ext_engine.specs.Suites.{SuiteView}
 use Rattle.ext_engine.specs.Meeting.{Forks, Joins}
-pub use Rattle.ext_engine.specs.NodeRun.{Ran, TreeSetting, setting_of, with_calls, Lanes, placed, all_skipped, OnFirst, ClosesNode, MakesOn, TestRun, CallsBefores, EndsContainer, TakesSet, GivesBack, IsIdle, IsUsable, IsNamedLock, IsRunnable, IsRefusedClose, IsUnjoined, IsFault}
+pub use Rattle.ext_engine.specs.NodeRun.{Ran, TreeSetting, setting_of, with_calls, Lanes, placed, all_skipped, OnFirst, IsDisabled, ClosesNode, MakesOn, TestRun, CallsBefores, EndsContainer, TakesSet, GivesBack, IsIdle, IsUsable, IsNamedLock, IsRunnable, IsRefusedClose, IsUnjoined, IsFault}
 
 -- ---- results
 
@@ -86,11 +86,12 @@ module _ {V A : Type 0} (t : TreeSetting V A) where
       pub no_locks : after.second ≡ body.second
       pub ran_are : ran ≡ own ∷ below
 
-  -- A node and all nodes below it, down to `depth` levels.
+  -- A node and all nodes below it, down to `depth` levels, unless the suite leaves it out.
   abbrev pub TreeRun : ℕ → ℕ → Lanes V → List Ran → Lanes V → Type 0
   TreeRun zero node before ran after = ⊥
   TreeRun (suc depth) node before ran after =
       (path : List ℕ) × IsPathOf t.store.tree node path
-      × (t.suite.is_test node ≡ true → TestRun t node path before ran after)
+      × (IsDisabled t node before ran after
+      ⊎ ((t.suite.is_test node ≡ true → TestRun t node path before ran after)
       × (t.suite.is_test node ≡ false
-      → ContainerRun (λ child s below u. TreeRun depth child s below u) node path before ran after)
+      → ContainerRun (λ child s below u. TreeRun depth child s below u) node path before ran after)))

@@ -69,11 +69,11 @@ pub fn run_leaves<
 ) -> Result<LeafRun<V>, LeafFault>
     requires fits { (store : StoreView) → IsStoreFor ids.now limits store → S.fits suite.now store }
     ensures run { IfOk result (λ run. IsLeafRun
-        (leaf_setting V.is_closeable S.run_gives S.action_gives S.Action.close_gives suite.now (is_concurrent mode))
+        (leaf_setting V.is_closeable S.may_disable S.run_gives S.action_gives S.Action.close_gives suite.now (is_concurrent mode))
         ids.now limits run.store (map told run.results.items)) }
     ensures nodes { IfOk result (λ run. All (λ r. r.node < length run.store.tree) run.results.items) }
     ensures fault { IfErr result (IsLeafFault
-        (leaf_setting V.is_closeable S.run_gives S.action_gives S.Action.close_gives suite.now (is_concurrent mode))
+        (leaf_setting V.is_closeable S.may_disable S.run_gives S.action_gives S.Action.close_gives suite.now (is_concurrent mode))
         ids.now limits) }
 {
     let opened = match open_run(alloc, ids, &[], limits) {
@@ -117,12 +117,12 @@ fn results_over<
     requires closers { closers.items ≡ closers_below store.now.id.cells (length store.now.tree) }
     requires fits { S.fits suite.now store.now }
     ensures run { IfOk result (λ results. (ran : List Ran)
-        × TreeRun (leaf_setting V.is_closeable S.run_gives S.action_gives S.Action.close_gives suite.now (is_concurrent mode) store.now locks.now)
+        × TreeRun (leaf_setting V.is_closeable S.may_disable S.run_gives S.action_gives S.Action.close_gives suite.now (is_concurrent mode) store.now locks.now)
         16 0 (record { first = lanes.old; second = lock_lanes.old }) ran (record { first = lanes.new; second = lock_lanes.new })
         × (map told results.items ≡ all_results (leaves_view (is_concurrent mode) store.now.tree) (length store.now.tree) ran)) }
     ensures nodes { IfOk result (λ results. All (λ r. r.node < length store.now.tree) results.items) }
     ensures early { IfErr result (λ why.
-        EndsEarly (leaf_setting V.is_closeable S.run_gives S.action_gives S.Action.close_gives suite.now (is_concurrent mode) store.now locks.now)
+        EndsEarly (leaf_setting V.is_closeable S.may_disable S.run_gives S.action_gives S.Action.close_gives suite.now (is_concurrent mode) store.now locks.now)
         16 0 (record { first = lanes.old; second = lock_lanes.old }) why (record { first = lanes.new; second = lock_lanes.new })) }
 {
     let leaves = Leaves { suite, store, mode };

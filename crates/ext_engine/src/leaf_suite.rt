@@ -17,7 +17,7 @@ use std::sync::Wait;
 /// All workers of a run share it, and its tests may run in several threads at once. A suite with
 /// callbacks, with locks, or with nodes of both modes is a `Suite`.
 pub trait LeafSuite<V: StoreValue + Drop> {
-    ghost use Rattle.std.specs.Prelude.{◌≡◌, ◌<◌, ℕ, length, Result};
+    ghost use Rattle.std.specs.Prelude.{◌≡◌, ◌<◌, ℕ, false, length, Result};
     ghost use Rattle.ext_model.specs.declared.look.Fault.{Fault};
     ghost use Rattle.ext_lifecycle.specs.declared.outcome.Outcome.{Outcome};
     ghost use Rattle.ext_store.specs.Stores.{StoreView, StoreLane, IsLaneOf};
@@ -34,6 +34,17 @@ pub trait LeafSuite<V: StoreValue + Drop> {
 
     /// The actions that a node may be given: any, unless the suite says otherwise.
     ghost action_gives: { Self → ℕ → Self.Action → Type 0 } = { λ suite node action. Unit {0} };
+
+    /// The nodes that may be left out of a run: none, unless the suite says otherwise.
+    ghost may_disable: { Self → ℕ → Type 0 } = { λ suite node. ⊥ };
+
+    /// Whether the node is to be run, as `Suite::is_enabled` says it. `true`, unless the suite says
+    /// otherwise.
+    fn is_enabled(&self, _node: ContextNo) -> bool
+        ensures { (result ≡ false) → may_disable self.now _node }
+    {
+        true
+    }
 
     /// Answers what closes the values of the node's context, as `Suite::action` does. JUnit 5 User
     /// Guide, section "Keeping State in Extensions"; that the suite gives it is an own rule.
@@ -118,6 +129,8 @@ impl<'a, V: StoreValue + Drop, S: LeafSuite<V>> Suite<V> for Leaves<'a, V, S> {
 
     ghost action_gives = { λ leaves node action. S.action_gives leaves.suite.now node action };
 
+    ghost may_disable = { λ leaves node. S.may_disable leaves.suite.now node };
+
     fn mode(&self, _node: ContextNo) -> Mode {
         self.mode
     }
@@ -128,6 +141,10 @@ impl<'a, V: StoreValue + Drop, S: LeafSuite<V>> Suite<V> for Leaves<'a, V, S> {
 
     fn is_test(&self, node: ContextNo) -> bool {
         is_leaf(self.store.tree(), node)
+    }
+
+    fn is_enabled(&self, node: ContextNo) -> bool {
+        self.suite.is_enabled(node)
     }
 
     fn lock_count(&self, _node: ContextNo) -> usize {

@@ -41,7 +41,8 @@ const LEVELS: usize = 16;
 /// A test takes the global lock and those named at itself and at its ancestors. All its calls are
 /// lent them, and they are given back once its context is closed. The calls of a node are made on
 /// the first lane of its share. A node is skipped exactly where a node above it did not run its
-/// children: then nothing of it is called, and its context is not closed. `gate` is told when each
+/// children, or where the suite leaves out the node or one above it: then nothing of it is called,
+/// and its context is not closed. `gate` is told when each
 /// concurrent child begins and when it has ended, by its index among those of its container, and
 /// nothing of the root and of other children.
 ///
@@ -90,12 +91,12 @@ pub fn run_tree<
     ensures lanes { IsUsable store.now locks.now (record { first = lanes.new; second = lock_lanes.new }) }
     ensures count { length lanes.new ≡ length lanes.old }
     ensures run { IfOk result (λ results. (ran : List Ran)
-        × TreeRun (setting_of V.is_closeable S.suite_view S.registered S.call_gives S.action_gives S.Action.close_gives suite.now store.now locks.now)
+        × TreeRun (setting_of V.is_closeable S.suite_view S.may_disable S.registered S.call_gives S.action_gives S.Action.close_gives suite.now store.now locks.now)
         16 0 (record { first = lanes.old; second = lock_lanes.old }) ran (record { first = lanes.new; second = lock_lanes.new })
         × (map told results.items ≡ all_results (S.suite_view suite.now) (length store.now.tree) ran)) }
     ensures nodes { IfOk result (λ results. All (λ r. r.node < length store.now.tree) results.items) }
     ensures early { IfErr result (λ why.
-        EndsEarly (setting_of V.is_closeable S.suite_view S.registered S.call_gives S.action_gives S.Action.close_gives suite.now store.now locks.now)
+        EndsEarly (setting_of V.is_closeable S.suite_view S.may_disable S.registered S.call_gives S.action_gives S.Action.close_gives suite.now store.now locks.now)
         16 0 (record { first = lanes.old; second = lock_lanes.old }) why (record { first = lanes.new; second = lock_lanes.new })) }
 {
     let nodes = NodeRunner {
@@ -119,8 +120,9 @@ impl<
     S: Suite<V> + Sync,
     G: Gate + Sync,
 > TreeRunner<'a, R, V, S, G> {
-    /// Runs a node and all below it: a test, or a container with its before-callbacks, its children
-    /// if all of these were successful, its after-callbacks, and its close.
+    /// Runs a node and all below it, unless the suite leaves it out: a test, or a container with its
+    /// before-callbacks, its children if all of these were successful, its after-callbacks, and its
+    /// close.
     #[cycle(tree)]
     fn run_node(
         &self,
@@ -134,12 +136,16 @@ impl<
         requires ready { IsRunnable self.now.nodes.store.now self.now.nodes.locks.now (S.suite_view self.now.nodes.suite.now)
             × S.fits self.now.nodes.suite.now self.now.nodes.store.now
             × IsUsable self.now.nodes.store.now self.now.nodes.locks.now (record { first = lanes.old; second = lock_lanes.old }) }
-        ensures left { NodeEnds (setting_of V.is_closeable S.suite_view S.registered S.call_gives S.action_gives S.Action.close_gives
+        ensures left { NodeEnds (setting_of V.is_closeable S.suite_view S.may_disable S.registered S.call_gives S.action_gives S.Action.close_gives
             self.now.nodes.suite.now self.now.nodes.store.now self.now.nodes.locks.now) depth item.node
             (record { first = lanes.old; second = lock_lanes.old }) result (record { first = lanes.new; second = lock_lanes.new }) }
     {
         let tree = self.nodes.store.tree();
         let _count = tree.len();
+        if !self.nodes.suite.is_enabled(item.node) {
+            let _path = tree.path(item.node);
+            return self.nodes.leave_out(alloc, item.node);
+        }
         if self.nodes.suite.is_test(item.node) {
             let _path = tree.path(item.node);
             return self.nodes.run_test(alloc, depth, item, lanes, lock_lanes);
@@ -170,7 +176,7 @@ impl<
         requires ready { IsRunnable self.now.nodes.store.now self.now.nodes.locks.now (S.suite_view self.now.nodes.suite.now)
             × S.fits self.now.nodes.suite.now self.now.nodes.store.now
             × IsUsable self.now.nodes.store.now self.now.nodes.locks.now (record { first = lanes.old; second = lock_lanes.old }) }
-        ensures left { BodyEnds (setting_of V.is_closeable S.suite_view S.registered S.call_gives S.action_gives S.Action.close_gives
+        ensures left { BodyEnds (setting_of V.is_closeable S.suite_view S.may_disable S.registered S.call_gives S.action_gives S.Action.close_gives
             self.now.nodes.suite.now self.now.nodes.store.now self.now.nodes.locks.now) depth go node
             (record { first = lanes.old; second = lock_lanes.old }) result (record { first = lanes.new; second = lock_lanes.new }) }
     {
@@ -213,7 +219,7 @@ impl<
         requires ready { IsRunnable self.now.nodes.store.now self.now.nodes.locks.now (S.suite_view self.now.nodes.suite.now)
             × S.fits self.now.nodes.suite.now self.now.nodes.store.now
             × IsUsable self.now.nodes.store.now self.now.nodes.locks.now (record { first = lanes.old; second = lock_lanes.old }) }
-        ensures left { TurnEnds (setting_of V.is_closeable S.suite_view S.registered S.call_gives S.action_gives S.Action.close_gives
+        ensures left { TurnEnds (setting_of V.is_closeable S.suite_view S.may_disable S.registered S.call_gives S.action_gives S.Action.close_gives
             self.now.nodes.suite.now self.now.nodes.store.now self.now.nodes.locks.now) depth (nodes_in items)
             (record { first = lanes.old; second = lock_lanes.old }) result (record { first = lanes.new; second = lock_lanes.new }) }
     {
@@ -239,7 +245,7 @@ impl<
         requires ready { IsRunnable self.now.nodes.store.now self.now.nodes.locks.now (S.suite_view self.now.nodes.suite.now)
             × S.fits self.now.nodes.suite.now self.now.nodes.store.now
             × IsUsable self.now.nodes.store.now self.now.nodes.locks.now (record { first = lanes.old; second = lock_lanes.old }) }
-        ensures left { BesideEnds (setting_of V.is_closeable S.suite_view S.registered S.call_gives S.action_gives S.Action.close_gives
+        ensures left { BesideEnds (setting_of V.is_closeable S.suite_view S.may_disable S.registered S.call_gives S.action_gives S.Action.close_gives
             self.now.nodes.suite.now self.now.nodes.store.now self.now.nodes.locks.now) depth items
             (record { first = lanes.old; second = lock_lanes.old }) result (record { first = lanes.new; second = lock_lanes.new }) }
     {
@@ -251,7 +257,7 @@ impl<
                 × IsRunnable self.now.nodes.store.now self.now.nodes.locks.now (S.suite_view self.now.nodes.suite.now)
                 × S.fits self.now.nodes.suite.now self.now.nodes.store.now
                 × IsUsable self.now.nodes.store.now self.now.nodes.locks.now (record { first = lanes.old; second = lock_lanes.old }) }
-            ensures { NodeEnds (setting_of V.is_closeable S.suite_view S.registered S.call_gives S.action_gives S.Action.close_gives
+            ensures { NodeEnds (setting_of V.is_closeable S.suite_view S.may_disable S.registered S.call_gives S.action_gives S.Action.close_gives
                 self.entry.now.nodes.suite.now self.entry.now.nodes.store.now self.entry.now.nodes.locks.now) depth item.node
                 (record { first = lanes.old; second = lock_lanes.old }) result (record { first = lanes.new; second = lock_lanes.new }) }
         { self.run_node(alloc, depth, item, lanes, lock_lanes) };

@@ -1,5 +1,5 @@
 -- The body of a container, cell by cell.
-use Rattle.std.proofs.Common.{◌≡◌, ◌⊎◌, inl, inr, ℕ, ◌<◌, ◌≤◌, zero, suc, min, List, [], ◌∷◌, length, sym, subst, arith}
+use Rattle.std.proofs.Common.{◌≡◌, ◌⊎◌, inl, inr, ℕ, ◌<◌, ◌≤◌, zero, suc, min, List, [], ◌∷◌, length, refl, sym, subst, arith}
 use Rattle.std.specs.Prelude.{All, Contains, Some, slice_get, slice_index_or, ◌≢◌}
 use Rattle.std.specs.List.{FoldsTo}
 use mathlib.Core.List.{IsPrefix}
@@ -53,12 +53,19 @@ module _ {V A : Type 0} (t : TreeSetting V A) (changed : ℕ → List ℕ) where
 -- ---- lanes
 
 module _ {V A : Type 0} (t : TreeSetting V A) where
+  first_of : (lanes : List (StoreLane V)) → 0 < length lanes → (lane : StoreLane V) × (rest : List (StoreLane V)) × (lanes ≡ lane ∷ rest)
+  first_of [] some = absurd (omega (arith, some))
+  first_of (lane ∷ rest) some = (lane, rest, refl)
+
   -- a node is run with some lanes
   pub some_lanes : (depth node : ℕ) (s : Lanes V) (ran : List Ran) (u : Lanes V) → TreeRun t depth node s ran u → (lane : StoreLane V) × (rest : List (StoreLane V)) × (s.first ≡ lane ∷ rest)
   some_lanes zero node s ran u run = absurd run
-  some_lanes (suc depth) node s ran u run = elim (bools (t.suite.is_test node)) [
-    | inl test ↦ let calls = (run.2 test).calls in (calls.lane, calls.rest, calls.first_was)
-    | inr container ↦ let befores = (run.3 container).befores_made in (befores.lane, befores.rest, befores.first_was)
+  some_lanes (suc depth) node s ran u run = elim run.2 [
+    | inl left ↦ first_of s.first left.some_lane
+    | inr on ↦ elim (bools (t.suite.is_test node)) [
+      | inl test ↦ let calls = (on.0 test).calls in (calls.lane, calls.rest, calls.first_was)
+      | inr container ↦ let befores = (on.1 container).befores_made in (befores.lane, befores.rest, befores.first_was)
+    ]
   ]
 
 -- lanes that go on to these are earlier than these

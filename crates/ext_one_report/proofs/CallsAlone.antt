@@ -189,10 +189,15 @@ module _ {V A : Type 0} (t : TreeSetting V A) (moves : CallsGoOn t.call_gives) (
   tree_alone tree (suc depth) node before ran after r = (
     r.run.0,
     r.run.1,
-    (λ test. test_alone node r.run.0 before ran after (r.run.2 test) r.within r.alone),
-    (λ container.
-        container_alone depth (λ child s below u. TreeRun (with_calls (CallsAlone t h) t) depth child s below u) (λ c s below u here. tree_alone tree depth c s below u here) tree node r.run.0 r.run.1
-        before ran after (r.run.3 container) r.within r.alone),
+    elim r.run.2 [
+      | inl left ↦ inl (record { allowed = left.allowed; some_lane = left.some_lane; ran_is = left.ran_is; untouched = left.untouched })
+      | inr on ↦ inr (
+        (λ test. test_alone node r.run.0 before ran after (on.0 test) r.within r.alone),
+        (λ container.
+            container_alone depth (λ child s below u. TreeRun (with_calls (CallsAlone t h) t) depth child s below u) (λ c s below u here. tree_alone tree depth c s below u here) tree node r.run.0 r.run.1
+            before ran after (on.1 container) r.within r.alone),
+      )
+    ],
   )
 
 module _ {V A : Type 0} (t : TreeSetting V A) (moves : CallsGoOn t.call_gives) where

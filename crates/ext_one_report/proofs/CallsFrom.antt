@@ -189,7 +189,12 @@ module _ {V A : Type 0} (t : TreeSetting V A) (Is : StoreLane V → Type 0) (kee
   tree_from (suc depth) node before ran after run all = (
     run.0,
     run.1,
-    (λ test. test_from node run.0 before ran after (run.2 test) all),
-    (λ container.
-        container_from depth (λ child s below u. TreeRun finer depth child s below u) (λ c s below u r here. tree_from depth c s below u r here) node run.0 before ran after (run.3 container) all),
+    elim run.2 [
+      | inl left ↦ inl (record { allowed = left.allowed; some_lane = left.some_lane; ran_is = left.ran_is; untouched = left.untouched })
+      | inr on ↦ inr (
+        (λ test. test_from node run.0 before ran after (on.0 test) all),
+        (λ container.
+            container_from depth (λ child s below u. TreeRun finer depth child s below u) (λ c s below u r here. tree_from depth c s below u r here) node run.0 before ran after (on.1 container) all),
+      )
+    ],
   )

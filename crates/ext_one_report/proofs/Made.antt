@@ -233,9 +233,12 @@ module _ {V A : Type 0} (t : TreeSetting V A) (moves : CallsGoOn t.call_gives) (
 
   pub tree_on : (depth node : ℕ) (before : Lanes V) (ran : List Ran) (after : Lanes V) → TreeRun t depth node before ran after → All (HasSeenWithin h) after.first → OnAll node before.first after.first
   tree_on zero node before ran after run within = absurd run
-  tree_on (suc depth) node before ran after run within = elim (bools (t.suite.is_test node)) [
-    | inl test ↦ test_on node run.0 run.1 test before ran after (run.2 test) within
-    | inr container ↦ container_on depth (λ c s below u r here. tree_on depth c s below u r here) node run.0 run.1 container before ran after (run.3 container) within
+  tree_on (suc depth) node before ran after run within = elim run.2 [
+    | inl left ↦ subst (λ (x : Lanes V). OnAll node before.first x.first) (sym left.untouched) (same_on node before.first)
+    | inr on ↦ elim (bools (t.suite.is_test node)) [
+      | inl test ↦ test_on node run.0 run.1 test before ran after (on.0 test) within
+      | inr container ↦ container_on depth (λ c s below u r here. tree_on depth c s below u r here) node run.0 run.1 container before ran after (on.1 container) within
+    ]
   ]
 
 -- ---- laws

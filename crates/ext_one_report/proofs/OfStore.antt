@@ -1,5 +1,5 @@
 -- Where a run of a tree begins with lanes of the store, and calls leave lanes that are of the store, each of its calls begins with such a lane.
-use Rattle.std.proofs.Common.{inl, inr, ℕ, zero, suc, List}
+use Rattle.std.proofs.Common.{inl, inr, ℕ, zero, suc, List, subst, sym}
 use Rattle.std.specs.Prelude.{All, Option}
 use Rattle.ext_history.proofs.Lists.{bools}
 use Rattle.ext_lifecycle.specs.declared.call.Call.{Call}
@@ -19,11 +19,14 @@ module _ {V A : Type 0} (t : TreeSetting V A) where
   CallsOf = CallsFrom t (IsLaneOf t.store.id)
 
   -- closes leave lanes of the store
-  tree_leaves : (depth node : ℕ) (before : Lanes V) (ran : List Ran) (after : Lanes V) → TreeRun t depth node before ran after → All Is after.first
-  tree_leaves zero node before ran after run = absurd run
-  tree_leaves (suc depth) node before ran after run = elim (bools (t.suite.is_test node)) [
-    | inl test ↦ (run.2 test).closes.closes.own_lanes
-    | inr container ↦ (run.3 container).ends.closes.closes.own_lanes
+  tree_leaves : (depth node : ℕ) (before : Lanes V) (ran : List Ran) (after : Lanes V) → TreeRun t depth node before ran after → All Is before.first → All Is after.first
+  tree_leaves zero node before ran after run all = absurd run
+  tree_leaves (suc depth) node before ran after run all = elim run.2 [
+    | inl left ↦ subst (λ (x : Lanes V). All Is x.first) (sym left.untouched) all
+    | inr on ↦ elim (bools (t.suite.is_test node)) [
+      | inl test ↦ (on.0 test).closes.closes.own_lanes
+      | inr container ↦ (on.1 container).ends.closes.closes.own_lanes
+    ]
   ]
 
   module _ (stays : (node : ℕ) (call : Call) (held : Option HeldView) (a : StoreLane V) (outcome : Outcome) (b : StoreLane V) → t.call_gives node call held a outcome b → Is a → Is b) where
@@ -31,7 +34,7 @@ module _ {V A : Type 0} (t : TreeSetting V A) where
     keeps = record {
       calls = stays;
       met = λ xs ys meet all. (met_mine t.store xs ys meet).0;
-      runs = λ depth node before ran after run all. tree_leaves depth node before ran after run;
+      runs = λ depth node before ran after run all. tree_leaves depth node before ran after run all;
       joined = λ depth node before below after body all. (met_mine t.store body.between.first body.joined body.joins.only_meet).0;
     }
 

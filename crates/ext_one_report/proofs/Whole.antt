@@ -70,9 +70,12 @@ module _ (plan : PlanText) (lanes : ℕ) (results : List (ResultOf Fault)) (run 
 
   -- there is a lane
   first_lane : 0 < length run.first.first
-  first_lane = elim (bools ((suite_of plan).is_test 0)) [
-    | inl test ↦ let calls = (full.2 test).calls in some_before run.first.first calls.lane calls.rest calls.first_was
-    | inr container ↦ let befores = (full.3 container).befores_made in some_before run.first.first befores.lane befores.rest befores.first_was
+  first_lane = elim full.2 [
+    | inl left ↦ left.some_lane
+    | inr on ↦ elim (bools ((suite_of plan).is_test 0)) [
+      | inl test ↦ let calls = (on.0 test).calls in some_before run.first.first calls.lane calls.rest calls.first_was
+      | inr container ↦ let befores = (on.1 container).befores_made in some_before run.first.first befores.lane befores.rest befores.first_was
+    ]
   ]
 
   some_lane : 0 < length run.after.first
@@ -137,7 +140,7 @@ module _ (plan : PlanText) (lanes : ℕ) (results : List (ResultOf Fault)) (run 
 
   -- ---- results
 
-  pub one_each : IsReadPlan plan → IsOneEach (suite_of plan) (length plan.nodes) run.ran results
+  pub one_each : IsReadPlan plan → IsOneEach (suite_of plan) (λ node. ⊥) (length plan.nodes) run.ran results
   one_each read =
       let st = run.store in
       let t = full_setting plan st run.locks (CallsFully plan st) in
@@ -145,5 +148,5 @@ module _ (plan : PlanText) (lanes : ℕ) (results : List (ResultOf Fault)) (run 
       let is_tree = subst (λ ids. IsTree ids) (sym tree) read.runnable.tree in
       let runnable = tree_runnable plan st run.locks tree (λ name there. Contains-permutation (lock_names plan.nodes) run.locks.names name run.locks_are.names there) read.runnable.tests in
       let counted : length st.tree ≡ length plan.nodes = ap length tree ∙ length-map plan.nodes (λ n. n.id) in
-      let one = one_result_each st.tree (suite_of plan) is_tree 16 run.ran (grown t is_tree runnable 16 0 run.first run.ran run.after full) in
-      subst (λ r. IsOneEach (suite_of plan) (length plan.nodes) run.ran r) (sym run.results_are) (subst (λ n. IsOneEach (suite_of plan) n run.ran (all_results (suite_of plan) n run.ran)) counted one)
+      let one = one_result_each st.tree (suite_of plan) (λ node. ⊥) is_tree 16 run.ran (grown t is_tree runnable 16 0 run.first run.ran run.after full) in
+      subst (λ r. IsOneEach (suite_of plan) (λ node. ⊥) (length plan.nodes) run.ran r) (sym run.results_are) (subst (λ n. IsOneEach (suite_of plan) (λ node. ⊥) n run.ran (all_results (suite_of plan) n run.ran)) counted one)

@@ -75,6 +75,7 @@ full_setting plan store locks calls = record {
   store = store;
   locks = locks;
   suite = suite_of plan;
+  may_disable = λ node. ⊥;
   registered = registered plan;
   call_gives = calls;
   action_gives = IsAction;

@@ -43,6 +43,7 @@ setting_of_plan plan store locks = record {
   store = store;
   locks = locks;
   suite = suite_of plan;
+  may_disable = λ node. ⊥;
   registered = registered plan;
   call_gives = MakesCall plan store;
   action_gives = IsAction;

@@ -2,6 +2,8 @@ pub mod Lines
 pub mod Groupings
 mod SuiteCases
 mod Orders
+mod ContextLines
 mod Indents
 mod XmlTexts
 mod Suites
+mod Types

@@ -1,10 +1,10 @@
 -- The cases of a suite, picked from all results: which suite a case stands in, how many there are, and what is written of them.
-use Rattle.std.proofs.Common.{◌≡◌, ℕ, suc, ◌+◌, ◌<◌, ◌≤◌, Bool, true, false, cond, List, [], ◌∷◌, ◌++◌, length, map, get_or, take, All, Contains, refl, sym, ap, subst, ◌∙◌, arith, inl, inr, append-nil, codes, zero-add}
+use Rattle.std.proofs.Common.{◌≡◌, ℕ, ◌+◌, ◌<◌, Bool, true, false, cond, List, [], ◌∷◌, ◌++◌, length, get_or, take, All, refl, sym, ap, subst, ◌∙◌, arith, inl, inr, append-nil, codes, zero-add}
 use Rattle.std.specs.Prelude.{◌==◌, ◌&&◌, not, filter, if◌then◌else◌}
 use Rattle.std.specs.Borrow.{Bor}
 use Rattle.std.specs.Global.{Vec}
 use Rattle.std.specs.List.{AllZip, count_by, flat_map, list_any}
-use Rattle.std.proofs.lemmas.Bool.{and_from, and_parts, and_right, cases_Bool, cond-false, cond-true, eq-eqb, eqb-true, ne_eqb, not-true, not_from_false, true≢false}
+use Rattle.std.proofs.lemmas.Bool.{and_parts, and_right, cases_Bool, cond-false, cond-true, eq-eqb, eqb-true, ne_eqb, not-true, true≢false}
 use Rattle.std.proofs.lemmas.List.{get_or-map, length-map, map-append, take_more}
 use Rattle.std.proofs.lemmas.Grind.{flat_map-append}
 use Rattle.std.proofs.lemmas.List.Elements.{All-filter, All-map, All-same, Contains-get_or}
@@ -17,10 +17,9 @@ use Rattle.ext_tree.proofs.TreeLaws.{parents_list_children}
 use Rattle.ext_lifecycle.specs.declared.node_result.NodeResult.{NodeResult}
 use Rattle.ext_lifecycle.specs.declared.status.Status.TheVariants as statuses
 use Rattle.ext_lifecycle.specs.FaultTexts.{NodeOutcome, result_view, results_view}
-use Rattle.ext_report.specs.declared.cases.CaseCounts.{CaseCounts}
 use Rattle.ext_report.specs.Groups.{numbered, shown}
 use Rattle.ext_report.specs.InnerSuites.{AreSuites, IsSuiteOf, cases_of, cases_view, counts_of_cases, suite_if_filled, suite_with}
-use Rattle.ext_report.specs.JunitXml.{case_element, case_in, count_attributes, counts_where, is_case, is_left_out, stands_in, suite_element, suite_if_any, suite_name}
+use Rattle.ext_report.specs.JunitXml.{case_element, count_attributes, counts_where, is_case, is_left_out, stands_in, suite_element, suite_if_any, suite_name}
 use Rattle.ext_report.specs.Report.{is_status}
 use Rattle.ext_report.proofs.Groupings.{group_read}
 
@@ -85,7 +84,7 @@ suites_of_more ids results old new i suite r less is put one so_far =
 
 -- ---- the cases of a suite
 
-kept_same : (b c : Bool) (r : NodeResult) (rest : List NodeResult) (kept : List NodeOutcome) → c ≡ b → results_view rest ≡ kept
+pub kept_same : (b c : Bool) (r : NodeResult) (rest : List NodeResult) (kept : List NodeOutcome) → c ≡ b → results_view rest ≡ kept
     → results_view (if b then r ∷ rest else rest) ≡ cond c (result_view r ∷ kept) kept
 kept_same true true r rest kept same is = ap (λ l. result_view r ∷ l) is
 kept_same false false r rest kept same is = is

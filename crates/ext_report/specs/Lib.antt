@@ -7,3 +7,4 @@ pub mod TreeLines
 pub mod Xml
 pub mod JunitXml
 pub mod Forms
+pub mod Reserve

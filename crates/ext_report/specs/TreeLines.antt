@@ -1,12 +1,12 @@
--- The report of a run as a tree: a line for each context, depth first, indented by two spaces more than its parent's,
+-- The report of a run as a tree: the lines of each context, depth first, indented by two spaces for each context above,
 --
 --     TYPE:VALUE STATUS closed N: FAULT (+M)
 --
 -- TYPE and VALUE are those of the last segment of the context's id, decoded. The rest is as in the report's text
--- (`Report`), for the result at the context's place in the list, and missing if there is none. The two lines of totals
--- follow. The format is not from JUnit.
-use Rattle.std.specs.Prelude.{ℕ, zero, suc, ◌-◌, codes, List, [], ◌∷◌, ◌++◌, Option, Some, None, length}
-use Rattle.std.specs.List.{flat_map, slice_get, slice_index_or}
+-- (`Report`). A context has a line for each result of it in the list, in the order of the list, and none where it has
+-- no result. The two lines of totals follow. The format is not from JUnit.
+use Rattle.std.specs.Prelude.{ℕ, zero, suc, ◌-◌, ◌==◌, codes, filter, List, [], ◌∷◌, ◌++◌, length}
+use Rattle.std.specs.List.{flat_map, slice_index_or}
 use Rattle.ext_ids.specs.Grammar.{Pair}
 use Rattle.ext_tree.specs.Trees.{Id, id_at, children_of}
 use Rattle.ext_lifecycle.specs.FaultTexts.{NodeOutcome}
@@ -35,13 +35,10 @@ segment_words segment = segment.0 ++ codes ":" ++ segment.1
 unfoldable pub tree_head : Id → List ℕ
 tree_head id = indent (length id - 1) ++ segment_words (slice_index_or id (length id - 1) ([], []))
 
--- How its node ended, and the end of the line.
-abbrev pub tree_part : Option NodeOutcome → List ℕ
-tree_part None = codes "\n"
-tree_part (Some r) = outcome_part r
-
+-- The context's lines, one for each result of it.
 abbrev pub tree_line : List Id → List NodeOutcome → ℕ → List ℕ
-tree_line ids rs context = tree_head (id_at ids context) ++ tree_part (slice_get rs context)
+tree_line ids rs context =
+    flat_map (λ r. tree_head (id_at ids context) ++ outcome_part r) (filter (λ r. r.node == context) rs)
 
 abbrev pub tree_of : List Id → List NodeOutcome → List ℕ
 tree_of ids rs = flat_map (tree_line ids rs) (depth_first ids) ++ counts_line (counts_of rs) ++ sums_line (sums_of rs)

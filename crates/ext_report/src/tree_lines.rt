@@ -1,10 +1,13 @@
 //! The report of a run as a tree.
-ghost use Rattle.std.specs.Prelude.{◌≡◌, ◌<◌, ◌++◌, length, string_bytes, All, IfOk, OnOk};
+ghost use Rattle.std.specs.Prelude.{◌≡◌, ◌<◌, ◌++◌, length, map, string_bytes, vec_len, All, IfOk, OnOk};
 ghost use Rattle.std.specs.List.{flat_map};
-ghost use Rattle.ext_lifecycle.specs.FaultTexts.{results_view};
-ghost use Rattle.ext_report.specs.TreeLines.{depth_first, depth_first_from, indent, segment_words, tree_head, tree_line, tree_of};
+ghost use Rattle.ext_lifecycle.specs.FaultTexts.{result_view, results_view};
+ghost use Rattle.ext_report.specs.Groups.{AreGrouped, shown};
+ghost use Rattle.ext_report.specs.Report.{outcome_part};
+ghost use Rattle.ext_report.specs.TreeLines.{depth_first, depth_first_from, indent, segment_words, tree_head, tree_of};
 ghost use Rattle.ext_tree.specs.Trees.{id_at};
 
+use crate::grouping::grouped;
 use crate::line::write_outcome;
 use crate::totals::{NodeSums, TestCounts};
 use ext_ids::UniqueId;
@@ -13,25 +16,55 @@ use ext_model::ContextNo;
 use ext_tree::Tree;
 use std::alloc::{AllocError, Global};
 
-/// Returns the report of results as a tree: one line for each context, depth first, and two lines
-/// of totals. Each line is indented by two spaces more than its parent's. It has the last segment
-/// of the context's id, and the outcome of the node whose result has the context's index in the
-/// list.
+/// Returns the report of results as a tree: one line for each, depth first, and two lines of
+/// totals. Each result is of a context of the tree. A context may have no result, or several.
 ///
-/// Takes memory for the text and for the order of the contexts, and fails with `AllocError` only if
-/// that is refused.
+/// The lines of a context come in the order of the list. Each line is indented by two spaces for
+/// each context above. It has the last segment of the context's id, and the outcome of the node. A
+/// result of no context of the tree would be counted and have no line.
+///
+/// Takes memory for the text, for the order of the contexts and for a list of each context's
+/// results, and fails with `AllocError` only if that is refused.
 pub fn tree_report(alloc: Global, tree: &Tree, results: &[NodeResult]) -> Result<String, AllocError>
     ensures { IfOk result
         (λ text. string_bytes text ≡ tree_of tree.now (results_view results.now)) }
 {
     let order = depth_first(alloc, tree)?;
+    let of_contexts = results_by_context(alloc, tree, results)?;
     let mut text = String::new(alloc);
     for context in order.as_slice() {
-        write_tree_line(&mut text, tree, results, *context)?;
+        let of_context = of_contexts[*context].as_slice();
+        write_tree_lines(&mut text, tree.id(*context), of_context)?;
     }
     TestCounts::of(results).write_to(&mut text)?;
     NodeSums::of(results).write_to(&mut text)?;
     Ok(text)
+}
+
+/// Lists the results of each context, by the contexts. Takes memory for the lists.
+fn results_by_context<'r>(
+    alloc: Global,
+    tree: &Tree,
+    results: &'r [NodeResult],
+) -> Result<Vec<Vec<&'r NodeResult>>, AllocError>
+    ensures count { IfOk result (λ groups. vec_len groups ≡ length tree.now) }
+    ensures groups { IfOk result
+        (λ groups. AreGrouped (length tree.now) (map (λ r. r.node) results.now) results.now groups.items) }
+{
+    let nodes = nodes_of(alloc, results)?;
+    let groups = grouped(alloc, results, nodes.as_slice(), tree.len())?;
+    Ok(groups)
+}
+
+/// Lists the node of each result. Takes memory for the list.
+fn nodes_of(alloc: Global, results: &[NodeResult]) -> Result<Vec<ContextNo>, AllocError>
+    ensures { IfOk result (λ nodes. nodes.items ≡ map (λ r. r.node) results.now) }
+{
+    let mut nodes = Vec::new(alloc);
+    for r in results {
+        nodes.push(r.node)?;
+    }
+    Ok(nodes)
 }
 
 /// Lists the contexts of the tree depth first: each before those below it, and siblings in the
@@ -67,22 +100,30 @@ fn push_from(
     Ok(())
 }
 
-/// Writes the line of a context at the end of a text.
-fn write_tree_line(
+/// Writes a line for each of these results of the context with this id, at the end of a text.
+fn write_tree_lines(
     text: &mut String,
-    tree: &Tree,
-    results: &[NodeResult],
-    context: ContextNo,
+    id: &UniqueId,
+    results: &[&NodeResult],
 ) -> Result<(), AllocError>
-    requires context { context < length tree.now }
     ensures { OnOk result
-        (string_bytes text.new ≡ string_bytes text.old ++ tree_line tree.now (results_view results.now) context) }
+        (string_bytes text.new ≡ string_bytes text.old
+        ++ flat_map (λ r. tree_head id.now ++ outcome_part r) (results_view (shown results.now))) }
 {
-    write_head(text, tree.id(context))?;
-    match results.get(context) {
-        None => text.push('\n'),
-        Some(node) => write_outcome(text, node),
+    for node in results {
+        write_tree_line(text, id, node)?;
     }
+    Ok(())
+}
+
+/// Writes the line of a result of the context with this id, at the end of a text.
+fn write_tree_line(text: &mut String, id: &UniqueId, node: &NodeResult) -> Result<(), AllocError>
+    ensures { OnOk result
+        (string_bytes text.new ≡ string_bytes text.old
+        ++ (tree_head id.now ++ outcome_part (result_view node.now))) }
+{
+    write_head(text, id)?;
+    write_outcome(text, node)
 }
 
 /// Writes the beginning of a context's line at the end of a text: the indentation and the last

@@ -44,6 +44,7 @@ impl<V: StoreValue + Drop> Store<V> {
     /// Looks up a key as `get` does, but by its number, as `number` gives it. The number must be
     /// below `key_count`, and need not have a key yet. Refused only as `Contended`.
     #[tactic(auto, unfolding(crate::specs::LaneCalls::Frame))]
+    #[inline(always)]
     pub fn get_numbered(
         &self,
         lane: &mut Lane<V>,

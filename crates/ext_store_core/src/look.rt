@@ -17,6 +17,7 @@ impl StoreCore {
     /// faults answers none.
     ///
     /// Javadoc `ExtensionContext.Store`, `get`.
+    #[inline(always)]
     pub fn get(&self, lane: &mut CellLane, context: ContextNo, key: KeyNo) -> Result<Look, Refusal>
         requires lane { lane.old.cells ≡ self.now.cells }
         requires context { context < length self.now.tree }
@@ -33,6 +34,7 @@ impl StoreCore {
     }
 
     // The look-up of the key along the path.
+    #[inline(always)]
     pub(crate) fn look_along(
         &self,
         lane: &mut CellLane,

@@ -2,7 +2,7 @@
 use crate::same::same;
 use crate::trees::push_ids;
 use ext_model::{ContextNo, Fault};
-use ext_report::{NodeResult, Status, any_failed, report_text};
+use ext_report::{NodeResult, Status, any_failed, leave_out_reserve, report_text, tree_report};
 use ext_tree::Tree;
 use std::alloc::{AllocError, Global};
 use std::process::Abort;
@@ -166,6 +166,28 @@ fn report_of_two_classes(rt: HostRuntime) -> Result<(), Fail> {
     reports(&rt, rt.alloc(), TWO_CLASSES, &OF_TWO_CLASSES, false, wanted)
 }
 
+/// The two classes as a tree, where the first method was left out of the results.
+const TREE_WITHOUT_A_METHOD: &str = "engine:x successful closed 1
+  class:A successful closed 1
+    method:m2() aborted closed 0: later
+  class:B successful closed 0
+    method:n1() successful closed 1
+    method:n2() successful closed 0
+tests 3 successful 2 aborted 1 failed 0 skipped 0
+computed 1 found 2 closed 3 close faults 0
+";
+
+/// Tests `tree_report`.
+#[test]
+fn tree_without_a_result(rt: HostRuntime) -> Result<(), Fail> {
+    let tree = tree_of(rt.alloc(), TWO_CLASSES)?;
+    let mut results = results_of(rt.alloc(), &OF_TWO_CLASSES)?;
+    results.retain(|r| r.node != 2);
+    let text = tree_report(rt.alloc(), &tree, results.as_slice())?;
+    same(&rt, text.as_str(), TREE_WITHOUT_A_METHOD, "the tree");
+    Ok(())
+}
+
 /// A test that had no memory.
 const WANT_OF_MEMORY: [Ended; 1] = [Ended {
     status: Status::Failed,
@@ -203,4 +225,90 @@ fn report_of_the_greatest_counts(rt: HostRuntime) -> Result<(), Fail> {
          tests 0 successful 0 aborted 0 failed 0 skipped 0\n\
          computed 0 found 36893488147419103230 closed 0 close faults 0\n";
     reports(&rt, rt.alloc(), CHAIN, &GREATEST_COUNTS, false, wanted)
+}
+
+/// A test of cases, with two nodes for them, one with a step of its own, and an ordinary test.
+const WITH_RESERVE: &str = "[engine:x]
+[engine:x]/[class:A]
+[engine:x]/[class:A]/[test-template:p()]
+[engine:x]/[class:A]/[test-template:p()]/[test-template-invocation:#1]
+[engine:x]/[class:A]/[test-template:p()]/[test-template-invocation:#2]
+[engine:x]/[class:A]/[test-template:p()]/[test-template-invocation:#2]/[step:s]
+[engine:x]/[class:A]/[method:m()]";
+
+/// The class.
+const CLASS: Ended = Ended {
+    node: 1,
+    ..CONTAINER
+};
+
+/// The test of cases.
+const CASES: Ended = Ended {
+    node: 2,
+    ..CONTAINER
+};
+
+/// The case that came.
+const CASE: Ended = Ended {
+    node: 3,
+    status: Status::Failed,
+    fault: "too few",
+    ..TEST
+};
+
+/// The node whose case did not come.
+const UNUSED: Ended = Ended {
+    node: 4,
+    status: Status::Skipped,
+    ..CONTAINER
+};
+
+/// The node below it.
+const UNUSED_STEP: Ended = Ended {
+    node: 5,
+    status: Status::Skipped,
+    ..TEST
+};
+
+/// The ordinary test, skipped.
+const SKIPPED: Ended = Ended {
+    node: 6,
+    status: Status::Skipped,
+    ..TEST
+};
+
+/// The results of all nodes.
+const OF_RESERVE: [Ended; 7] = [CONTAINER, CLASS, CASES, UNUSED, CASE, UNUSED_STEP, SKIPPED];
+
+/// Those that are left.
+const LEFT: [Ended; 5] = [CONTAINER, CLASS, CASES, CASE, SKIPPED];
+
+/// Tests `leave_out_reserve` and `report_text`.
+#[test]
+fn report_without_the_reserve(rt: HostRuntime) -> Result<(), Fail> {
+    let wanted = "[engine:x] successful closed 0\n\
+         [engine:x]/[class:A] successful closed 0\n\
+         [engine:x]/[class:A]/[test-template:p()] successful closed 0\n\
+         [engine:x]/[class:A]/[test-template:p()]/[test-template-invocation:#1] failed closed 0: \
+         too few\n\
+         [engine:x]/[class:A]/[method:m()] skipped closed 0\n\
+         tests 2 successful 0 aborted 0 failed 1 skipped 1\n\
+         computed 0 found 0 closed 0 close faults 0\n";
+    let tree = tree_of(rt.alloc(), WITH_RESERVE)?;
+    let mut results = results_of(rt.alloc(), &OF_RESERVE)?;
+    leave_out_reserve(&tree, "test-template-invocation", &mut results);
+    are_left(&rt, rt.alloc(), results.as_slice(), &LEFT)?;
+    tells(&rt, rt.alloc(), &tree, results.as_slice(), wanted)
+}
+
+/// Asserts that these results are left.
+fn are_left<R: Abort>(
+    rt: &R,
+    alloc: Global,
+    results: &[NodeResult],
+    rows: &[Ended],
+) -> Result<(), Fail> {
+    let wanted = results_of(alloc, rows)?;
+    same(rt, results == wanted.as_slice(), true, "the results left");
+    Ok(())
 }

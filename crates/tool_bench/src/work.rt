@@ -58,6 +58,8 @@ pub(crate) fn look_up_in_turn(
 }
 
 /// Whether the look-up finds a value, which is shown where `shown`, or other lanes were in its way.
+/// In a peer the look-up stands in the loop, too.
+#[inline(always)]
 fn finds(
     store: &Store<Payload>,
     lane: &mut Lane<Payload>,

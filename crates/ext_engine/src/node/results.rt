@@ -12,12 +12,12 @@ use ext_lifecycle::NodeResult;
 use ext_store::StoreValue;
 use std::alloc::{AllocError, Global};
 
-/// A node that ran.
+/// A node that the run came to.
 #[derive(Drop)]
 pub(crate) struct RanNode {
     /// What is reported of it.
     pub result: NodeResult,
-    /// Whether the nodes below it were run; true of a test, which has none. Only proofs ask for it.
+    /// Whether the nodes below it were run; true of a test that ran. Only proofs ask for it.
     pub went_on: bool,
 }
 

@@ -2,7 +2,7 @@ use Rattle.std.proofs.Common.{◌≡◌, false, sym, ap, subst, ◌∙◌}
 use Rattle.ext_model.specs.CellWords.{number_code}
 use Rattle.ext_cells.specs.declared.decision.Decision.TheVariants.{Change}
 use Rattle.ext_cells.specs.InnerDeciding.{state_of, is_settled, stood_in, Decides}
-use Rattle.ext_cells.proofs.Decisions.{changes, refuses, seals_nothing}
+use Rattle.ext_cells.proofs.Decisions.{changes, refuses, seals_nothing, seals_value}
 use Rattle.ext_cells.proofs.decision.decide.Goals as goal
 
 pub returns-in-Ok : goal.returns-in-Ok
@@ -23,3 +23,8 @@ pub returns-then-seals_nothing : goal.returns-then-seals_nothing
 returns-then-seals_nothing c stands version is =
     let seals = c.seals_nothing.ensures c.if-seals_nothing.true in
     seals_nothing c.args.act stands version c.args.word seals.0 seals.1 is
+
+pub returns-then-seals_value : goal.returns-then-seals_value
+returns-then-seals_value c stands version is =
+    let seals = c.seals_value.ensures c.if-seals_value.true in
+    seals_value c.args.act stands version c.args.word c.number_in.result seals.0 seals.1 c.number_in.ensures is

@@ -1,7 +1,7 @@
-use Rattle.std.proofs.Common.{◌∙◌, ap, sym, subst, arith}
+use Rattle.std.proofs.Common.{sym, subst, arith}
 use Rattle.std.specs.List.{AllZip}
 use Rattle.std.proofs.lemmas.Slice.Zip.{AllZip-long}
-use Rattle.ext_report.specs.Groups.{group_at, numbered}
+use Rattle.ext_report.specs.Groups.{group_at}
 use Rattle.ext_report.specs.InnerSuites.{IsSuiteOf}
 use Rattle.ext_report.proofs.SuiteCases.{cases_are}
 use Rattle.ext_report.proofs.cases.cases_by_suite.Goals as goal

@@ -1,5 +1,5 @@
-use Rattle.std.proofs.Common.{◌∙◌, ap, arith, length, subst, sym}
-use Rattle.ext_tree.specs.Trees.{IsParentOf, IsPathOf}
+use Rattle.std.proofs.Common.{subst, sym}
+use Rattle.ext_tree.specs.Trees.{IsPathOf}
 use Rattle.ext_report.proofs.SuiteCases.{parent_at}
 use Rattle.ext_report.proofs.cases.parent_of.Goals as goal
 

@@ -21,8 +21,8 @@ returns-then-count-most-clause-reply c =
     let most = c.if-count-most.true in
     full_now c.args.lane.now c.loop.lane c.loop.count c.loop.counter c.loop.invariant c.args.self.now.tries (omega (arith, limit, from, most))
 
-pub exchange-requires-clause-may : goal.exchange-requires-clause-may
-exchange-requires-clause-may c =
+pub exchange_count-requires-clause-may : goal.exchange_count-requires-clause-may
+exchange_count-requires-clause-may c =
     let limit : c.args.lane.now.cells.limits.numbers ≡ c.self.inside.limits.numbers = ap (λ z. z.limits.numbers) c.requires.lane ∙ ap (λ z. z.id.limits.numbers) (sym c.self.view_is) in
     let place : c.self.inside.limits.cells ≡ c.args.lane.now.cells.limits.cells = ap (λ z. z.id.limits.cells) c.self.view_is ∙ ap (λ z. z.limits.cells) (sym c.requires.lane) in
     let from = c.from-most.ensures in
@@ -38,7 +38,7 @@ returns-in-Ok-clause-reply c =
     let less = c.if-count-most.false in
     let room : c.loop.count < c.args.lane.now.cells.limits.numbers = omega (arith, limit, from, less) in
     let m = c.in-Ok.ensures.made in
-    drew c.args.lane.now c.loop.lane c.loop.count c.loop.counter c.loop.invariant _ room refl c.args.self.now.tries c.exchange.new.lane m.0 (subst (λ p. Finds c.loop.lane.cells.limits c.loop.lane.view p c.loop.count m.0) place m.1) (ap (λ (l : Lane). l.view) m.3)
+    drew c.args.lane.now c.loop.lane c.loop.count c.loop.counter c.loop.invariant _ room refl c.args.self.now.tries c.exchange_count.new.lane m.0 (subst (λ p. Finds c.loop.lane.cells.limits c.loop.lane.view p c.loop.count m.0) place m.1) (ap (λ (l : Lane). l.view) m.3)
 
 pub returns-in-Ok-clause-storable : goal.returns-in-Ok-clause-storable
 returns-in-Ok-clause-storable c =
@@ -48,8 +48,8 @@ returns-in-Ok-clause-storable c =
     let less = c.if-count-most.false in
     let room : c.loop.count < c.args.lane.now.cells.limits.numbers = omega (arith, limit, from, less) in
     let m = c.in-Ok.ensures.made in
-    drew_storable c.args.self.now.tries c.args.lane.now c.exchange.new.lane _ (made_legal c.args.lane.now c.loop.lane c.exchange.new.lane c.args.lane.now.cells.limits.cells c.loop.count c.loop.counter m.0 (Keep (c.loop.count + 1)) c.loop.invariant m.1.on.legal m.2.allowed (ap (λ (l : Lane). l.view) m.3))
-    (drew c.args.lane.now c.loop.lane c.loop.count c.loop.counter c.loop.invariant _ room refl c.args.self.now.tries c.exchange.new.lane m.0 (subst (λ p. Finds c.loop.lane.cells.limits c.loop.lane.view p c.loop.count m.0) place m.1) (ap (λ (l : Lane). l.view) m.3))
+    drew_storable c.args.self.now.tries c.args.lane.now c.exchange_count.new.lane _ (made_legal c.args.lane.now c.loop.lane c.exchange_count.new.lane c.args.lane.now.cells.limits.cells c.loop.count c.loop.counter m.0 (Keep (c.loop.count + 1)) c.loop.invariant m.1.on.legal m.2.allowed (ap (λ (l : Lane). l.view) m.3))
+    (drew c.args.lane.now c.loop.lane c.loop.count c.loop.counter c.loop.invariant _ room refl c.args.self.now.tries c.exchange_count.new.lane m.0 (subst (λ p. Finds c.loop.lane.cells.limits c.loop.lane.view p c.loop.count m.0) place m.1) (ap (λ (l : Lane). l.view) m.3))
 
 pub returns-in-Ok-clause-within : goal.returns-in-Ok-clause-within
 returns-in-Ok-clause-within c =
@@ -92,14 +92,14 @@ returns-then-count-most-2-clause-reply c =
     let all = c.loop-test.false in
     record { overtaken = λ e. overtaken c.args.lane.now.cells.limits c.args.lane.now.view c.loop.lane.view c.args.lane.now.cells.limits.cells c.loop.count c.loop.counter c.loop.invariant.tries c.args.self.now.tries (omega (arith, tries, all)); replied = λ other. absurd (other refl) }
 
-pub exchange-requires-clause-lane : goal.exchange-requires-clause-lane
-exchange-requires-clause-lane c = c.loop.invariant.cells ∙ c.requires.lane
+pub exchange_count-requires-clause-lane : goal.exchange_count-requires-clause-lane
+exchange_count-requires-clause-lane c = c.loop.invariant.cells ∙ c.requires.lane
 
-pub exchange-requires-clause-place : goal.exchange-requires-clause-place
-exchange-requires-clause-place c = ap (λ z. z.id.limits.cells) c.self.view_is
+pub exchange_count-requires-clause-place : goal.exchange_count-requires-clause-place
+exchange_count-requires-clause-place c = ap (λ z. z.id.limits.cells) c.self.view_is
 
-pub exchange-requires-clause-within : goal.exchange-requires-clause-within
-exchange-requires-clause-within c = let same : c.self.inside.limits.cells ≡ c.args.self.now.id.limits.cells = ap (λ z. z.id.limits.cells) c.self.view_is in omega (arith, same)
+pub exchange_count-requires-clause-count : goal.exchange_count-requires-clause-count
+exchange_count-requires-clause-count c = ap (λ z. z.id.limits.cells) c.self.view_is
 
 -- ---- how many steps, and whose the lane stays
 
@@ -135,7 +135,7 @@ returns-in-Ok-clause-steps c =
     let place : c.self.inside.limits.cells ≡ c.args.lane.now.cells.limits.cells = ap (λ z. z.id.limits.cells) c.self.view_is ∙ ap (λ z. z.limits.cells) (sym c.requires.lane) in
     let tries : c.self.inside.tries ≡ c.args.self.now.tries = ap (λ z. z.tries) c.self.view_is in
     let m = c.in-Ok.ensures.made in
-    let steps = steps_next c.args.lane.now c.loop.lane c.exchange.new.lane c.args.lane.now.cells.limits.cells c.loop.count c.loop.counter m.0 (Keep (c.loop.count + 1)) c.loop.invariant (subst (λ p. Finds c.loop.lane.cells.limits c.loop.lane.view p c.loop.count m.0) place m.1) m.3 in
+    let steps = steps_next c.args.lane.now c.loop.lane c.exchange_count.new.lane c.args.lane.now.cells.limits.cells c.loop.count c.loop.counter m.0 (Keep (c.loop.count + 1)) c.loop.invariant (subst (λ p. Finds c.loop.lane.cells.limits c.loop.lane.view p c.loop.count m.0) place m.1) m.3 in
     let less = c.loop-test.true in omega (arith, tries, steps, less)
 
 pub returns-clause-contended : goal.returns-clause-contended

@@ -2,7 +2,7 @@
 mod leaves;
 mod meeting;
 
-use crate::server::Server;
+use crate::outside::Page;
 use ext_engine::{
     LeafFault, LeafRun, Mode, OpenFault, Opened, Status, open_run, read_ids, run_leaves,
 };
@@ -32,7 +32,7 @@ fn opened(
     texts: &[&str],
     names: &[&str],
     limits: Limits,
-) -> Result<Opened<Server>, OpenFault> {
+) -> Result<Opened<Page>, OpenFault> {
     let ids = read_ids(alloc, texts)?;
     open_run(alloc, ids.as_slice(), names, limits)
 }
@@ -71,7 +71,8 @@ fn refused_openings_of_runs(rt: HostRuntime) {
     refused(&rt, alloc, &class, &same, limits(1, 8), locks);
 }
 
-/// How many lanes of the store and of the locks were opened, of so many and this size, or why none were.
+/// How many lanes of the store and of the locks were opened, of so many and this size, or why none
+/// were.
 fn lanes_of(alloc: Global, size: Size, lanes: usize) -> Result<(usize, usize), OpenFault> {
     let ids = read_ids(alloc, &["[engine:x]"])?;
     let limits = Limits {
@@ -79,7 +80,7 @@ fn lanes_of(alloc: Global, size: Size, lanes: usize) -> Result<(usize, usize), O
         numbers: 1,
         ..Limits::new(lanes)
     };
-    let opened: Opened<Server> = open_run(alloc, ids.as_slice(), &["db"], limits)?;
+    let opened: Opened<Page> = open_run(alloc, ids.as_slice(), &["db"], limits)?;
     Ok((opened.lanes.len(), opened.lock_lanes.len()))
 }
 
@@ -111,7 +112,7 @@ fn contexts_of(
         numbers,
         ..Limits::new(1)
     };
-    let opened: Opened<Server> = open_run(alloc, ids, &[], limits)?;
+    let opened: Opened<Page> = open_run(alloc, ids, &[], limits)?;
     Ok(opened.store.tree().len())
 }
 
@@ -149,7 +150,7 @@ fn leaves_refused<R: Threads + Wait + Sync>(
         Ok(ids) => ids,
         Err(why) => return Some(LeafFault::Open(why)),
     };
-    let run: Result<LeafRun<Server>, LeafFault> = run_leaves(
+    let run: Result<LeafRun<Page>, LeafFault> = run_leaves(
         rt,
         alloc,
         &FailingLeaves,
@@ -190,7 +191,7 @@ fn fault_of_a_leaf_is_that_of_its_test(rt: HostRuntime) -> Result<(), Fail> {
     let ids = read_ids(rt.alloc(), &["[engine:x]", "[engine:x]/[method:m()]"])?;
     let (alloc, limits) = (rt.alloc(), Limits::new(1));
     let mode = Mode::SameThread;
-    let run: LeafRun<Server> = run_leaves(&rt, alloc, &FailingLeaves, &ids, mode, limits)?;
+    let run: LeafRun<Page> = run_leaves(&rt, alloc, &FailingLeaves, &ids, mode, limits)?;
     let told = run
         .results
         .get(1)

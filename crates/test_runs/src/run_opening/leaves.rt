@@ -1,6 +1,5 @@
 //! Suites of leaves that leave no value.
-use crate::server::Server;
-use ext_closing::CloseAction;
+use crate::outside::{LetGo, Page};
 use ext_engine::{LeafSuite, Outcome};
 use ext_ids::UniqueId;
 use ext_model::{ContextNo, Fault};
@@ -9,35 +8,23 @@ use std::alloc::Global;
 use std::sync::Wait;
 use std::test::Fail;
 
-/// Closes nothing: no test leaves a value.
-#[derive(Drop)]
-pub(super) struct CloseNothing;
-
-impl CloseAction<Server> for CloseNothing {
-    ghost close_gives = { λ before number server answer after. Unit {0} };
-
-    fn close(&mut self, _number: u32, _server: &Server) -> Result<(), Fault> {
-        Ok(())
-    }
-}
-
 /// Each test fails.
 #[derive(Drop)]
 pub(super) struct FailingLeaves;
 
-impl LeafSuite<Server> for FailingLeaves {
-    type Action = CloseNothing;
+impl LeafSuite<Page> for FailingLeaves {
+    type Action = LetGo;
 
-    fn action(&self, _node: ContextNo) -> CloseNothing {
-        CloseNothing
+    fn action(&self, _node: ContextNo) -> LetGo {
+        LetGo
     }
 
     fn run<R: Wait>(
         &self,
         _rt: &R,
-        _store: &Store<Server>,
+        _store: &Store<Page>,
         _node: ContextNo,
-        _lane: &mut Lane<Server>,
+        _lane: &mut Lane<Page>,
     ) -> Result<Outcome, Fault> {
         Err(Fault::Memory)
     }

@@ -1,7 +1,7 @@
 //! Leaves that run at once.
-use super::leaves::{CloseNothing, flat};
+use super::leaves::flat;
 use crate::gates::reaches;
-use crate::server::Server;
+use crate::outside::{LetGo, Page};
 use ext_engine::{LeafRun, LeafSuite, Mode, Outcome, Status, Verdict, run_leaves};
 use ext_model::{ContextNo, Fault};
 use ext_store::{Lane, Limits, Store};
@@ -9,25 +9,26 @@ use std::sync::Wait;
 use std::sync::atomic::{AtomicU64, Ordering};
 use std::test::Fail;
 
-/// Two tests, each of which waits until both have started, and fails where the turns are used up before.
+/// Two tests, each of which waits until both have started, and fails where the turns are used up
+/// before.
 #[derive(Drop)]
 struct MeetingLeaves {
     started: AtomicU64,
 }
 
-impl LeafSuite<Server> for MeetingLeaves {
-    type Action = CloseNothing;
+impl LeafSuite<Page> for MeetingLeaves {
+    type Action = LetGo;
 
-    fn action(&self, _node: ContextNo) -> CloseNothing {
-        CloseNothing
+    fn action(&self, _node: ContextNo) -> LetGo {
+        LetGo
     }
 
     fn run<R: Wait>(
         &self,
         _rt: &R,
-        _store: &Store<Server>,
+        _store: &Store<Page>,
         _node: ContextNo,
-        _lane: &mut Lane<Server>,
+        _lane: &mut Lane<Page>,
     ) -> Result<Outcome, Fault> {
         self.started.fetch_add(1, Ordering::SeqCst);
         if reaches(&self.started, 2) {
@@ -46,7 +47,7 @@ fn two_leaves_run_at_once(rt: HostRuntime) -> Result<(), Fail> {
         started: AtomicU64::new(0),
     };
     let limits = Limits::new(2);
-    let run: LeafRun<Server> = run_leaves(&rt, alloc, &suite, &ids, Mode::Concurrent, limits)?;
+    let run: LeafRun<Page> = run_leaves(&rt, alloc, &suite, &ids, Mode::Concurrent, limits)?;
     for result in &run.results {
         assert!(rt; result.status == Status::Successful, "{}", result.node);
     }

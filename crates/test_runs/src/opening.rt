@@ -7,11 +7,13 @@ ghost use Rattle.ext_engine.specs.TreeRun.{IsIdle, IsUsable};
 use ext_engine::{Opened, open_run, read_ids};
 use ext_locks::LockLane;
 use ext_store::{Lane, Limits, StoreValue};
+use ext_tree::{Key, Namespace};
 use std::alloc::Global;
 use std::fmt::Debug;
 use std::process::Abort;
 
-/// What a run of a tree goes over, and a lane of its store and one of its locks that the run has not in hand.
+/// What a run of a tree goes over, and a lane of its store and one of its locks that the run has
+/// not in hand.
 #[derive(Drop)]
 pub(crate) struct OpenedApart<V> {
     pub(crate) opened: Opened<V>,
@@ -19,7 +21,8 @@ pub(crate) struct OpenedApart<V> {
     pub(crate) lock_lane: LockLane,
 }
 
-/// A store of these contexts, with so many lanes for a run and one more, which keeps no faults, and as many lanes of locks of these names.
+/// A store of these contexts, with so many lanes for a run and one more, which keeps no faults, and
+/// as many lanes of locks of these names.
 pub(crate) fn open_apart<V: StoreValue + Drop>(
     alloc: Global,
     texts: &[&str],
@@ -50,7 +53,13 @@ pub(crate) fn open_apart<V: StoreValue + Drop>(
     })
 }
 
-/// Asserts that this was answered. Tests assert by it, since a call is cheaper to prove than what `assert_eq!` writes.
+/// A key; `None` where there is no memory.
+pub(crate) fn a_key(alloc: Global) -> Option<Key> {
+    Key::new(alloc, Namespace::global(), "page").ok()
+}
+
+/// Asserts that this was answered. Tests assert by it, since a call is cheaper to prove than what
+/// `assert_eq!` writes.
 pub(crate) fn same<T: Debug + Drop + PartialEq>(rt: &impl Abort, answer: T, wanted: T, what: &str) {
     assert_eq!(rt; answer, wanted, "{what}");
 }

@@ -1,8 +1,9 @@
-//! Recipes: a value once a class, a retry, a run that stops at the first failure, cases that are told before the run.
+//! Recipes: a value once a class, a retry, a run that stops at the first failure, cases that are
+//! told before the run.
 ghost use Rattle.std.specs.Prelude.{◌<◌, length};
 
-use crate::server::{Server, server_key};
-use ext_closing::CloseAction;
+use crate::opening::a_key;
+use crate::outside::{LetGo, Page};
 use ext_engine::{LeafSuite, Mode, Outcome, Verdict, outcome_with, run_leaves};
 use ext_ids::UniqueId;
 use ext_model::{ContextNo, Fault};
@@ -13,18 +14,7 @@ use std::alloc::Global;
 use std::sync::Wait;
 use std::sync::atomic::{AtomicBool, AtomicU64, Ordering};
 use std::test::Fail;
-
-/// Lets a server go.
-#[derive(Drop)]
-struct LetGo;
-
-impl CloseAction<Server> for LetGo {
-    ghost close_gives = { λ before number server answer after. Unit {0} };
-
-    fn close(&mut self, _number: u32, _server: &Server) -> Result<(), Fault> {
-        Ok(())
-    }
-}
+use std::thread::Threads;
 
 /// How often a test is tried.
 const ATTEMPTS: usize = 3;
@@ -34,6 +24,8 @@ const ATTEMPTS: usize = 3;
 struct Cases<'a> {
     alloc: Global,
     key: &'a Key,
+    /// Whether the value can be made.
+    can_make: bool,
     attempts: &'a [usize],
     has_failed: AtomicBool,
     flaky: AtomicU64,
@@ -59,7 +51,8 @@ impl Cases<'_> {
         Err(fault_of(self.alloc, "the sum is wrong"))
     }
 
-    /// Tries the test until it passes. One that does not pass at once is counted as flaky, or fails as its last attempt does.
+    /// Tries the test until it passes. One that does not pass at once is counted as flaky, or fails
+    /// as its last attempt does.
     fn tried(&self, node: ContextNo) -> Result<(), Fault> {
         let mut ended = self.attempt(node, 1);
         for attempt in 2..=ATTEMPTS {
@@ -70,12 +63,20 @@ impl Cases<'_> {
             self.flaky
                 .fetch_add(u64::from(ended.is_ok()), Ordering::SeqCst);
         }
-        self.has_failed.fetch_or(ended.is_err(), Ordering::SeqCst);
         ended
+    }
+
+    /// Makes the value of a class.
+    fn make(&self) -> Result<Page, Fault> {
+        if self.can_make {
+            Ok(Page)
+        } else {
+            Err(fault_of(self.alloc, "no port"))
+        }
     }
 }
 
-impl LeafSuite<Server> for Cases<'_> {
+impl LeafSuite<Page> for Cases<'_> {
     type Action = LetGo;
 
     fn action(&self, _node: ContextNo) -> LetGo {
@@ -85,18 +86,23 @@ impl LeafSuite<Server> for Cases<'_> {
     fn run<R: Wait>(
         &self,
         rt: &R,
-        store: &Store<Server>,
+        store: &Store<Page>,
         node: ContextNo,
-        lane: &mut Lane<Server>,
+        lane: &mut Lane<Page>,
     ) -> Result<Outcome, Fault> {
         if self.has_failed.load(Ordering::SeqCst) {
             let why = fault_of(self.alloc, "a test before has failed");
             return Ok(Outcome::of(Verdict::Aborted(why)));
         }
-        let start = |_key: &Key| -> Result<Server, Fault> { Ok(Server { port: 8080 }) };
-        let answer = store.compute_wait(rt, lane, class_of(store, node), self.key, start);
-        let made = store.found_or_made(answer, lane)?;
-        Ok(outcome_with(&made, self.tried(node)))
+        let make = |_key: &Key| -> Result<Page, Fault> { self.make() };
+        let answer = store.compute_wait(rt, lane, class_of(store, node), self.key, make);
+        let outcome = match store.found_or_made(answer, lane) {
+            Ok(made) => outcome_with(&made, self.tried(node)),
+            Err(why) => Outcome::of(Verdict::Failed(why)),
+        };
+        self.has_failed
+            .fetch_or(!outcome.verdict.is_successful(), Ordering::SeqCst);
+        Ok(outcome)
     }
 }
 
@@ -113,24 +119,35 @@ fn ids_of(alloc: Global, names: &[&str]) -> Result<Vec<UniqueId>, Fail> {
     Ok(ids)
 }
 
-/// Tests `run_leaves`, `UniqueId::append` and `outcome_with`.
-#[test]
-fn cases_run_until_one_fails(rt: HostRuntime) -> Result<(), Fail> {
-    let key = server_key(rt.alloc()).ok_or("no key")?;
-    let ids = ids_of(rt.alloc(), &["1+1", "1/2", "a[0]", "2+2"])?;
-    let cases = Cases {
-        alloc: rt.alloc(),
-        key: &key,
-        attempts: &[0, 0, 1, 2, 4, 1],
-        has_failed: AtomicBool::new(false),
-        flaky: AtomicU64::new(0),
-    };
+/// Runs the cases of these names one after another, and gives the report.
+fn report_on<R: Threads + Wait + Sync>(
+    rt: &R,
+    alloc: Global,
+    names: &[&str],
+    cases: &Cases,
+) -> Result<String, Fail> {
+    let ids = ids_of(alloc, names)?;
     let limits = Limits {
         keep_faults: true,
         ..Limits::new(1)
     };
-    let run = run_leaves(&rt, rt.alloc(), &cases, &ids, Mode::SameThread, limits)?;
-    let report = report_text(rt.alloc(), run.store.tree(), &run.results)?;
+    let run = run_leaves(rt, alloc, cases, &ids, Mode::SameThread, limits)?;
+    Ok(report_text(alloc, run.store.tree(), &run.results)?)
+}
+
+/// Tests `run_leaves`, `UniqueId::append` and `outcome_with`.
+#[test]
+fn cases_run_until_one_fails(rt: HostRuntime) -> Result<(), Fail> {
+    let key = a_key(rt.alloc()).ok_or("no key")?;
+    let cases = Cases {
+        alloc: rt.alloc(),
+        key: &key,
+        can_make: true,
+        attempts: &[0, 0, 1, 2, 4, 1],
+        has_failed: AtomicBool::new(false),
+        flaky: AtomicU64::new(0),
+    };
+    let report = report_on(&rt, rt.alloc(), &["1+1", "1/2", "a[0]", "2+2"], &cases)?;
     let wanted = "[engine:x] successful closed 0
 [engine:x]/[class:Sums] successful closed 1
 [engine:x]/[class:Sums]/[case:1%2B1] successful closed 0
@@ -142,5 +159,29 @@ computed 1 found 2 closed 1 close faults 0
 ";
     assert_eq!(rt; report.as_str(), wanted, "the report");
     assert_eq!(rt; cases.flaky.load(Ordering::SeqCst), 1, "the flaky cases");
+    Ok(())
+}
+
+/// Tests `Store::found_or_made` and `run_leaves`: a factory that fails is a failure like any other.
+#[test]
+fn no_case_runs_after_a_factory_failed(rt: HostRuntime) -> Result<(), Fail> {
+    let key = a_key(rt.alloc()).ok_or("no key")?;
+    let cases = Cases {
+        alloc: rt.alloc(),
+        key: &key,
+        can_make: false,
+        attempts: &[],
+        has_failed: AtomicBool::new(false),
+        flaky: AtomicU64::new(0),
+    };
+    let report = report_on(&rt, rt.alloc(), &["1+1", "2+2"], &cases)?;
+    let wanted = "[engine:x] successful closed 0
+[engine:x]/[class:Sums] successful closed 0
+[engine:x]/[class:Sums]/[case:1%2B1] failed closed 0: no port
+[engine:x]/[class:Sums]/[case:2%2B2] aborted closed 0: a test before has failed
+tests 2 successful 0 aborted 1 failed 1 skipped 0
+computed 0 found 0 closed 0 close faults 0
+";
+    assert_eq!(rt; report.as_str(), wanted, "the report");
     Ok(())
 }

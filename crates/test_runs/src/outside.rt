@@ -3,8 +3,7 @@ ghost use Rattle.std.specs.Prelude.{◌≡◌, ◌<◌, All, length};
 ghost use Rattle.ext_store.specs.Stores.{IsLaneOf, closers_below};
 ghost use Rattle.ext_engine.specs.TreeRun.{IsUsable};
 
-use crate::opening::{OpenedApart, open_apart, same};
-use crate::server::server_key;
+use crate::opening::{OpenedApart, a_key, open_apart, same};
 use ext_closing::CloseAction;
 use ext_engine::{
     Call, Callbacks, EngineFault, Kind, Mode, OpenGate, Opened, Outcome, Suite, Verdict, is_leaf,
@@ -45,7 +44,8 @@ impl CloseAction<Page> for LetGo {
     }
 }
 
-/// Nodes whose calls do nothing. Those with nothing below them are tests, which may run beside one another.
+/// Nodes whose calls do nothing. Those with nothing below them are tests, which may run beside one
+/// another.
 #[derive(Drop)]
 pub(crate) struct QuietSuite<'a> {
     pub(crate) tree: &'a Tree,
@@ -62,7 +62,7 @@ impl Callbacks for QuietSuite<'_> {
 
 impl<'a> Suite<Page> for QuietSuite<'a> {
     ghost use Rattle.std.specs.Prelude.{◌≡◌, []};
-    ghost use Rattle.test_engine.specs.Leaves.{leaves_with};
+    ghost use Rattle.test_runs.specs.Leaves.{leaves_with};
 
     type Action = LetGo;
 
@@ -177,9 +177,10 @@ fn refused<R: Threads + Wait + Sync + Abort>(
     }
 }
 
-/// Asserts that a run on two lanes is refused where a third one has put a value into this context, and that the refusal names it.
+/// Asserts that a run on two lanes is refused where a third one has put a value into this context,
+/// and that the refusal names it.
 fn value_is_unknown<R: Threads + Wait + Sync + Abort>(rt: &R, alloc: Global, context: ContextNo) {
-    let key = server_key(alloc).expect(rt, "a key");
+    let key = a_key(alloc).expect(rt, "a key");
     let contexts = &[
         "[engine:x]",
         "[engine:x]/[class:A]",

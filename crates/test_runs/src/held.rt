@@ -5,8 +5,7 @@ ghost use Rattle.ext_store.specs.Stores.{closers_below};
 ghost use Rattle.ext_engine.specs.TreeRun.{IsIdle, IsUsable};
 
 use crate::gates::reaches;
-use crate::opening::{OpenedApart, open_apart, same};
-use crate::server::server_key;
+use crate::opening::{OpenedApart, a_key, open_apart, same};
 use ext_closing::CloseAction;
 use ext_engine::{
     Call, Callbacks, Kind, Mode, OpenGate, Opened, Outcome, Suite, Verdict, is_leaf, leaf_laws,
@@ -53,7 +52,8 @@ impl Signs {
     }
 }
 
-/// What closes the value: it lets the other lane try, and fails where that one has not tried in time.
+/// What closes the value: it lets the other lane try, and fails where that one has not tried in
+/// time.
 #[derive(Drop)]
 struct LetTry<'a> {
     signs: &'a Signs,
@@ -93,7 +93,7 @@ impl Callbacks for TableSuite<'_> {
 impl<'a> Suite<Table> for TableSuite<'a> {
     ghost use Rattle.std.specs.Prelude.{◌≡◌, [], ◌∷◌};
     ghost use Rattle.ext_engine.specs.Leaves.{writes};
-    ghost use Rattle.test_engine.specs.Leaves.{leaves_with};
+    ghost use Rattle.test_runs.specs.Leaves.{leaves_with};
 
     type Action = LetTry<'a>;
 
@@ -204,7 +204,8 @@ fn refusal_of(locks: &Locks, lane: &mut LockLane, set: &LockSet) -> Option<LockR
     }
 }
 
-/// Once the test's context is being closed, tries to read by the lock. Answers why it can't, or `None`.
+/// Once the test's context is being closed, tries to read by the lock. Answers why it can't, or
+/// `None`.
 fn try_read(locks: &Locks, lane: &mut LockLane, signs: &Signs) -> Option<LockRefusal>
     requires { IsIdle locks.now lane.old }
 {
@@ -287,7 +288,7 @@ fn lock_is_held<R: Threads + Wait + Sync + Abort>(rt: &R, alloc: Global, key: &K
 /// Tests `run_tree`.
 #[test]
 fn test_locks_are_held_until_its_context_is_closed(rt: HostRuntime) {
-    let key = server_key(rt.alloc()).expect(&rt, "a key");
+    let key = a_key(rt.alloc()).expect(&rt, "a key");
     let signs = Signs::new();
     lock_is_held(&rt, rt.alloc(), &key, &signs);
 }

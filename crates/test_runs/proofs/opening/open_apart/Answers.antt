@@ -1,6 +1,6 @@
 use Rattle.std.proofs.Common.{rules, ◌≤◌, length}
-use Rattle.test_engine.proofs.Spare.{one_less}
-use Rattle.test_engine.proofs.opening.open_apart.Goals as goal
+use Rattle.test_runs.proofs.Spare.{one_less}
+use Rattle.test_runs.proofs.opening.open_apart.Goals as goal
 
 pub returns-clause-usable : goal.returns-clause-usable
 returns-clause-usable g c =
