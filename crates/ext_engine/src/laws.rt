@@ -10,9 +10,9 @@ use ext_store::StoreValue;
 /// Proves the laws of runs of trees, for any suite of this type. In a run each node runs at most
 /// once, and no node runs that isn't at or below the one that was to be run. A node is skipped
 /// exactly where one above it did not run the nodes below it, or where the suite leaves it out.
-/// There is one result a node, in order. The lanes stay those of the store, and no lock lane holds anything afterwards. A run ends
-/// early for want of memory, or where a context can't be closed. In the latter case, where no node
-/// runs beside others, no lane knows the value that remained in it.
+/// There is one result a node, in order. The lanes stay those of the store, and no lock lane holds
+/// anything afterwards. A run ends early for want of memory, or where a context can't be closed. In
+/// the latter case, where no node runs beside others, no lane knows the value that remained in it.
 ///
 /// JUnit 5 User Guide, section "Relative Execution Order of User Code and Extensions"; when a node
 /// is skipped is an own rule.

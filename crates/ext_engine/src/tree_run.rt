@@ -42,9 +42,8 @@ const LEVELS: usize = 16;
 /// lent them, and they are given back once its context is closed. The calls of a node are made on
 /// the first lane of its share. A node is skipped exactly where a node above it did not run its
 /// children, or where the suite leaves out the node or one above it: then nothing of it is called,
-/// and its context is not closed. `gate` is told when each
-/// concurrent child begins and when it has ended, by its index among those of its container, and
-/// nothing of the root and of other children.
+/// and its context is not closed. `gate` is told when each concurrent child begins and when it has
+/// ended, by its index among those of its container, and nothing of the root and of other children.
 ///
 /// There are 1 to 32 lanes of the store and as many of the locks, which hold nothing. The closers
 /// are those of all contexts, in order. The locks have every name that a node asks for, and no node
