@@ -116,6 +116,11 @@ def main(program, _words):
     most = tests(65_535)
     for words in both:
         cases.run(f"65,536 nodes, {' '.join(words)}", ["run", *words], most, tests_report(65_535))
+    repeated = '[[node]]\nid = "[a:b]"\nmode = "concurrent"\ntest = ["put a x", "want a x", "compute b y up 1"]\nrepeat = 65535\n'
+    ids = ["[a:b]"] + [f"[a:b]/[test-template-invocation:#{number}]" for number in range(1, 65_536)]
+    for words in [*both, ["--large", "--lanes", "1"], ["--large", "--lanes", "16"]]:
+        cases.run(f"a test 65,535 times, {' '.join(words)}", ["run", *words], repeated, nodes_report(ids, 65_535).replace("computed 0 found 0", "computed 1 found 65534"))
+    cases.run("a test 65,535 times, and another", ["run", "--large"], repeated + '[[node]]\nid = "[a:b]/[c:d]"\n', "plan: P7")
     cases.run("67,108,864 bytes", ["check", "--large"], filled(most, LIMIT), "ok, 65536 nodes, 65535 tests, 2 of 64 keys\n")
     cases.run("67,108,865 bytes", ["check", "--large"], filled(most, LIMIT + 1), "plan too long")
     cases.run("65,537 nodes", ["run", "--large"], tests(65_536), "plan: P7")

@@ -46,6 +46,8 @@ def node_of(chance, node_id, depth, is_test):
         lines.append(f"after_each = {[steps_of(chance, depth, 1)]}")
     if is_test:
         lines.append(f"test = {steps_of(chance, depth, 2)}")
+        if chance.random() < 0.2:
+            lines.append(f"repeat = {chance.randint(1, 3)}")
     elif chance.random() < 0.4:
         lines.append(f"before_all = {[steps_of(chance, depth, 2)]}")
     return lines

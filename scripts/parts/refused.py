@@ -19,6 +19,7 @@ def node(fields):
 A = key('label = "a"')
 ROOT = node('id = "[a:b]"')
 CHILD = node('id = "[a:b]/[c:d]"')
+REPETITION = node('id = "[a:b]/[test-template-invocation:#1]"')
 
 
 def root(fields):
@@ -29,6 +30,14 @@ def root(fields):
 def test(steps):
     """A plan whose root is a test of these steps, as TOML writes them."""
     return root(f"test = [{steps}]")
+
+
+def nodes_of(ids):
+    return "".join(node(f'id = "{id}"') for id in ids)
+
+
+def deep(count):
+    return ["/".join(["[a:b]"] * depth) for depth in range(1, count + 1)]
 
 
 # Each field, with the place of a fault in it, and the values that it may have. All other values are of another type.
@@ -42,6 +51,7 @@ FIELDS = [
     ("namespace", " key 0", ["[]", '["x"]']),
     ("id", " node 0", ['"x"', '"[a:b]"']),
     ("test", " node 0", ["[]", '["x"]']),
+    ("repeat", " node 0", ["1", "0x1"]),
     ("mode", " node 0", ['"x"', '"[a:b]"']),
     ("isolated", " node 0", ["true"]),
     ("locks", " node 0", ["[]", '["x"]']),
@@ -196,6 +206,12 @@ PLANS = [
     ("plan: P4 node 0", node('id = "[a:b]"\n[node.test]')),
     ("plan: P4 node 0", node("test = []")),
     ("plan: P4 node 1", ROOT + node("mode = 1\ntest = []")),
+    ("plan: P4 node 0", root("repeat = 2")),
+    ("plan: P4 node 0", root("test = []\nrepeat = 0")),
+    ("plan: P4 node 0", root("test = []\nrepeat = -1")),
+    ("plan: P4 node 0", root("test = []\nrepeat = 65536")),
+    ("plan: P4 node 0", root("test = []\nrepeat = 9223372036854775807")),
+    ("plan: P4 node 0", root("repeat = 0\nbefore_all = []") + node("x = 1")),
     # Labels and namespaces.
     ("plan: P5 key 0", key('label = ""')),
     ("plan: P5 key 0", key('label = "a b"')),
@@ -224,6 +240,20 @@ PLANS = [
     ("plan: P7", ROOT + node('id = "[a:b]/[c:%3A]"') + node('id = "[a:b]/[c:%3A]"')),
     ("plan: P7", ROOT + node('id = "[a:c]/[c:d]"')),
     ("plan: P7", ROOT + CHILD + node('id = "[a:b]/[d:c]/[e:f]"')),
+    # Repeated tests: ids of 17 segments, more than 256 nodes, ids that a repetition has, and nodes below one. The number of a
+    # fault is that of the table.
+    ("plan: P6 node 15", nodes_of(deep(16)) + "test = []\nrepeat = 1\n"),
+    ("plan: P7", root("test = []\nrepeat = 256")),
+    ("plan: P7", root("test = []\nrepeat = 65535") + REPETITION),
+    ("plan: P7", "".join(node(f'id = "[a:b]/[c:{number}]"\ntest = []\nrepeat = 65535') for number in range(10_000))),
+    ("plan: P7", root("test = []\nrepeat = 1") + REPETITION),
+    ("plan: P7", ROOT + node('id = "[a:b]/[test-template-invocation:#1]/[c:d]"')),
+    ("plan: P10 node 0", root("test = []\nrepeat = 1") + node('id = "[a:b]/[test-template-invocation:#1]/[c:d]"')),
+    ("plan: P9 node 0", root('test = []\nmode = "fast"\nrepeat = 3')),
+    ("plan: P8 node 0", root('test = ["none a up 2"]\nrepeat = 3')),
+    ("plan: P8 node 0", root('test = []\nrepeat = 3\nbefore_all = [["none a up 1"]]')),
+    ("plan: P8 node 0", root('test = []\nrepeat = 3\nbefore_each = [["none a up 2"]]')),
+    ("plan: P8 node 1", root("test = []\nrepeat = 100") + node('id = "[a:b]/[c:d]"\ntest = ["no step"]')),
     # Tests that have what a test may not.
     ("plan: P10 node 0", node('id = "[a:b]"\ntest = []') + CHILD),
     ("plan: P10 node 0", node('id = "[a:b]"\ntest = ["no step"]') + CHILD),
@@ -356,14 +386,6 @@ def flat(count):
     return ["[a:b]"] + [f"[a:b]/[c:{number}]" for number in range(1, count)]
 
 
-def nodes_of(ids):
-    return "".join(node(f'id = "{id}"') for id in ids)
-
-
-def deep(count):
-    return ["/".join(["[a:b]"] * depth) for depth in range(1, count + 1)]
-
-
 def locks(count):
     return node('id = "[a:b]"\nlocks = [' + ", ".join(f'"READ n{number}"' for number in range(count)) + "]")
 
@@ -416,6 +438,16 @@ LIMITS = [
     ("64 keys, one with two labels", many_keys(64) + SEVENTH_AGAIN + ROOT, nodes_report(["[a:b]"])),
     ("65 keys, one by its namespace", many_keys(64) + SEVENTH_IN_A_NAMESPACE + ROOT, "plan: P11"),
     ("64 keys, and a step of another", many_keys(64) + ROOT + 'test = ["none other"]\n', nodes_report(["[a:b]"], 1)),
+    (
+        "256 nodes, of which 255 are repetitions",
+        node('id = "[a:b]"\ntest = ["none a up 1"]\nrepeat = 255'),
+        nodes_report(["[a:b]"] + [f"[a:b]/[test-template-invocation:#{number}]" for number in range(1, 256)], 255),
+    ),
+    (
+        "a repetition of 16 segments",
+        nodes_of(deep(15)) + 'test = ["none a up 15"]\nrepeat = 1\n',
+        nodes_report(deep(15) + [deep(15)[-1] + "/[test-template-invocation:#1]"], 1),
+    ),
     ("65 keys, and no step", many_keys(65) + ROOT + 'test = ["no step"]', "plan: P8 node 0"),
     ("64 undeclared keys", undeclared(64), nodes_report(["[a:b]"], 1)),
     ("64 undeclared keys and a declared one", A + undeclared(64, "none a"), directory_full("none a")),

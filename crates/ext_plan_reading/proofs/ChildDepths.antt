@@ -17,8 +17,12 @@ use Rattle.ext_plan.specs.ReadPlans.{IsAtOrBelow}
 use Rattle.ext_plan_reading.specs.declared.nodes.NodeSketch.{NodeSketch}
 use Rattle.ext_plan_reading.specs.Depths.{Outline, is_at_or_below, with_depth, least_test_depth}
 use Rattle.ext_plan_reading.specs.InnerSketches.{sketch_view, words_view}
-use Rattle.ext_plan_reading.specs.NodeReading.{Sketch, ids_of, outline_of, outlines_of}
+use Rattle.ext_plan_reading.specs.NodeReading.{Sketch, ids_of, outlines_of}
 use Rattle.ext_plan_reading.proofs.TestDepths.{told_below, at_most, least_from, least_is_below}
+
+-- a node's id, and whether it is a test
+abbrev outline_of : Sketch → Outline
+outline_of sketch = (sketch.id, is_some sketch.test)
 
 -- ---- nodes below others
 

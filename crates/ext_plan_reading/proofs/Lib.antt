@@ -1,3 +1,4 @@
+pub mod AllFaults
 pub mod CallbackReading
 pub mod ChildDepths
 pub mod FieldNames
@@ -10,9 +11,11 @@ pub mod NeverNotUtf8
 pub mod NodeReading
 pub mod Parents
 pub mod ReadPlans
+pub mod Repetitions
 pub mod StepReading
 pub mod StepWords
 pub mod TestDepths
+pub mod TopReading
 pub mod TreeTests
 pub mod Turns
 pub use Rattle.ext_plan.proofs.NodeIds

@@ -1,7 +1,7 @@
 -- Reading a text never gives the fault `NotUtf8`: each part has other faults.
-use Rattle.std.proofs.Common.{◌≢◌, ℕ, Bool, true, false, ◌&&◌, not, List, [], ◌∷◌, ◌++◌, length, Option, Some, None, option_and_then, codes, Result, Ok, Err, refl}
-use Rattle.std.specs.Prelude.{nat_lt, nat_le}
-use Rattle.toml.specs.Data.{Data, Members, get_member, as_bool, as_integer, as_str}
+use Rattle.std.proofs.Common.{◌≢◌, ℕ, Bool, true, false, ◌&&◌, ◌||◌, not, List, [], ◌∷◌, ◌++◌, length, Option, Some, None, option_map, codes, Result, Ok, Err, refl}
+use Rattle.std.specs.Prelude.{is_some, nat_lt, nat_le}
+use Rattle.toml.specs.Data.{Data, Members, get_member, as_bool, as_str, as_table}
 use Rattle.ext_ids.specs.declared.fault.IdFault.{IdFault}
 use Rattle.ext_ids.specs.Grammar.{Pair}
 use Rattle.ext_ids.specs.Reading.{read_id}
@@ -18,14 +18,14 @@ use Rattle.ext_plan_reading.specs.declared.fault.PlanFault.{PlanFault}
 use Rattle.ext_plan_reading.specs.declared.fault.PlanFault.TheVariants as faults
 use Rattle.ext_plan_reading.specs.declared.fault.Place.TheVariants as places
 use Rattle.ext_plan_reading.specs.Faults.{some_or, check, Gives, ◌>>=◌}
-use Rattle.ext_plan_reading.specs.Fields.{has_only, text_at, texts_in, tables_in, text_or_none, texts_or_none, text_lists_in, text_lists_or_none, tables_or_none, truth_or_false, key_places_or_64, places_for_keys}
+use Rattle.ext_plan_reading.specs.Fields.{has_only, text_at, texts_in, array_of, places_in, repeats_in, field_or, optional}
 use Rattle.ext_plan_reading.specs.CallbackReading.{CallbackTexts, callback_texts_at, callbacks_after, callbacks_at, node_callbacks_at}
 use Rattle.ext_plan_reading.specs.Depths.{least_test_depth}
 use Rattle.ext_plan_reading.specs.ModeReading.{mode_at, mode_of}
 use Rattle.ext_lifecycle.specs.declared.mode.Mode.TheVariants as modes
 use Rattle.ext_plan_reading.specs.LockReading.{lock_at, lock_of, locks_after, locks_at}
 use Rattle.ext_plan_reading.specs.KeyReading.{key_fields, has_parts, key_at, keys_after}
-use Rattle.ext_plan_reading.specs.NodeReading.{Sketch, node_fields, id_or, sketch_at, sketches_after, ids_of, outlines_of, has_children, is_bad_test, test_at, node_at, nodes_after, nodes_of_tables}
+use Rattle.ext_plan_reading.specs.NodeReading.{Sketch, node_fields, id_or, sketch_at, sketches_after, ids_of, outlines_of, has_children, is_bad_test, test_at, node_at, nodes_after, with_repetitions, nodes_of_tables}
 use Rattle.ext_plan_reading.specs.StepReading.{step_of, step_at, steps_after, steps_at}
 use Rattle.ext_plan_reading.specs.Reading.{top_fields, plan_of, plan_of_tables}
 
@@ -76,25 +76,12 @@ checked e false other h = other h
 
 -- ---- fields that may be left out
 
-text_other : (e : PlanFault) (found : Option Data) → IsOther {A = ℕ} (Err e) → IsOther (text_or_none e found)
-text_other e None other = value None
-text_other e (Some found) other = then_other (some_or e (as_str found)) _ (or_fault e _ (same_other e other)) (λ text. value _)
+field_other : {A : Type 0} (default : A) (held : Data → Option A) (e : PlanFault) (found : Option Data) → IsOther {A = ℕ} (Err e) → IsOther (field_or default held e found)
+field_other default held e None other = value default
+field_other default held e (Some found) other = or_fault e (held found) (same_other e other)
 
-truth_other : (e : PlanFault) (found : Option Data) → IsOther {A = ℕ} (Err e) → IsOther (truth_or_false e found)
-truth_other e None other = value false
-truth_other e (Some found) other = or_fault e (as_bool found) (same_other e other)
-
-places_other : (e : PlanFault) (found : Option Data) → IsOther {A = ℕ} (Err e) → IsOther (key_places_or_64 e found)
-places_other e None other = value 64
-places_other e (Some found) other = or_fault e (option_and_then places_for_keys (as_integer found)) other
-
-texts_other : (e : PlanFault) (found : Option Data) → IsOther {A = ℕ} (Err e) → IsOther (texts_or_none e found)
-texts_other e None other = value None
-texts_other e (Some found) other = then_other (some_or e (texts_in found)) _ (or_fault e _ (same_other e other)) (λ texts. value _)
-
-lists_other : (e : PlanFault) (found : Option Data) → IsOther {A = ℕ} (Err e) → IsOther (text_lists_or_none e found)
-lists_other e None other = value None
-lists_other e (Some found) other = then_other (some_or e (text_lists_in found)) _ (or_fault e _ (same_other e other)) (λ lists. value _)
+optional_other : {A : Type 0} (held : Data → Option A) (e : PlanFault) (found : Option Data) → IsOther {A = ℕ} (Err e) → IsOther (optional held e found)
+optional_other held e found other = field_other None (λ value. option_map Some (held value)) e found other
 
 -- ---- keys
 
@@ -103,8 +90,8 @@ unfolding key_at
 key_other number labels fields =
     then_other (check (faults.UnknownField (places.Key number)) (has_only key_fields fields)) _ (checked _ _ (λ h. absurd cc)) (λ _.
     then_other (some_or (faults.BadField (places.Key number)) (text_at (codes "label") fields)) _ (or_fault _ _ (λ h. absurd cc)) (λ label.
-    then_other (text_or_none (faults.BadField (places.Key number)) (get_member (codes "name") fields)) _ (text_other (faults.BadField (places.Key number)) (get_member (codes "name") fields) (λ h. absurd cc)) (λ name.
-    then_other (texts_or_none (faults.BadField (places.Key number)) (get_member (codes "namespace") fields)) _ (texts_other (faults.BadField (places.Key number)) (get_member (codes "namespace") fields) (λ h. absurd cc)) (λ namespace.
+    then_other (optional as_str (faults.BadField (places.Key number)) (get_member (codes "name") fields)) _ (optional_other as_str (faults.BadField (places.Key number)) (get_member (codes "name") fields) (λ h. absurd cc)) (λ name.
+    then_other (optional texts_in (faults.BadField (places.Key number)) (get_member (codes "namespace") fields)) _ (optional_other texts_in (faults.BadField (places.Key number)) (get_member (codes "namespace") fields) (λ h. absurd cc)) (λ namespace.
     then_other (check (faults.BadLabel number) (is_word label && has_parts namespace && not (is_label labels label))) _ (checked _ _ (λ h. absurd cc)) (λ _. value _)))))
 
 keys_other : (before : List KeyText) (tables : List Members) → IsOther (keys_after before tables)
@@ -121,22 +108,25 @@ id_other node (Err e) h = absurd cc
 callback_texts_other : (node : ℕ) (fields : Members) → IsOther (callback_texts_at node fields)
 unfolding callback_texts_at
 callback_texts_other node fields =
-    then_other (text_lists_or_none (faults.BadField (places.Node node)) (get_member (codes "before_all") fields)) _ (lists_other (faults.BadField (places.Node node)) (get_member (codes "before_all") fields) (λ h. absurd cc)) (λ before_all.
-    then_other (text_lists_or_none (faults.BadField (places.Node node)) (get_member (codes "after_all") fields)) _ (lists_other (faults.BadField (places.Node node)) (get_member (codes "after_all") fields) (λ h. absurd cc)) (λ after_all.
-    then_other (text_lists_or_none (faults.BadField (places.Node node)) (get_member (codes "before_each") fields)) _ (lists_other (faults.BadField (places.Node node)) (get_member (codes "before_each") fields) (λ h. absurd cc)) (λ before_each.
-    then_other (text_lists_or_none (faults.BadField (places.Node node)) (get_member (codes "after_each") fields)) _ (lists_other (faults.BadField (places.Node node)) (get_member (codes "after_each") fields) (λ h. absurd cc)) (λ after_each. value _))))
+    then_other (optional (array_of texts_in) (faults.BadField (places.Node node)) (get_member (codes "before_all") fields)) _ (optional_other (array_of texts_in) (faults.BadField (places.Node node)) (get_member (codes "before_all") fields) (λ h. absurd cc)) (λ before_all.
+    then_other (optional (array_of texts_in) (faults.BadField (places.Node node)) (get_member (codes "after_all") fields)) _ (optional_other (array_of texts_in) (faults.BadField (places.Node node)) (get_member (codes "after_all") fields) (λ h. absurd cc)) (λ after_all.
+    then_other (optional (array_of texts_in) (faults.BadField (places.Node node)) (get_member (codes "before_each") fields)) _ (optional_other (array_of texts_in) (faults.BadField (places.Node node)) (get_member (codes "before_each") fields) (λ h. absurd cc)) (λ before_each.
+    then_other (optional (array_of texts_in) (faults.BadField (places.Node node)) (get_member (codes "after_each") fields)) _ (optional_other (array_of texts_in) (faults.BadField (places.Node node)) (get_member (codes "after_each") fields) (λ h. absurd cc)) (λ after_each. value _))))
 
 sketch_other : (node : ℕ) (fields : Members) → IsOther (sketch_at node fields)
 unfolding sketch_at
 sketch_other node fields =
     then_other (check (faults.UnknownField (places.Node node)) (has_only node_fields fields)) _ (checked _ _ (λ h. absurd cc)) (λ _.
     then_other (some_or (faults.BadField (places.Node node)) (text_at (codes "id") fields)) _ (or_fault _ _ (λ h. absurd cc)) (λ text.
-    then_other (text_or_none (faults.BadField (places.Node node)) (get_member (codes "mode") fields)) _ (text_other (faults.BadField (places.Node node)) (get_member (codes "mode") fields) (λ h. absurd cc)) (λ mode.
-    then_other (truth_or_false (faults.BadField (places.Node node)) (get_member (codes "isolated") fields)) _ (truth_other (faults.BadField (places.Node node)) (get_member (codes "isolated") fields) (λ h. absurd cc)) (λ isolated.
-    then_other (texts_or_none (faults.BadField (places.Node node)) (get_member (codes "locks") fields)) _ (texts_other (faults.BadField (places.Node node)) (get_member (codes "locks") fields) (λ h. absurd cc)) (λ locks.
+    then_other (optional as_str (faults.BadField (places.Node node)) (get_member (codes "mode") fields)) _ (optional_other as_str (faults.BadField (places.Node node)) (get_member (codes "mode") fields) (λ h. absurd cc)) (λ mode.
+    then_other (field_or false as_bool (faults.BadField (places.Node node)) (get_member (codes "isolated") fields)) _ (field_other false as_bool (faults.BadField (places.Node node)) (get_member (codes "isolated") fields) (λ h. absurd cc)) (λ isolated.
+    then_other (optional texts_in (faults.BadField (places.Node node)) (get_member (codes "locks") fields)) _ (optional_other texts_in (faults.BadField (places.Node node)) (get_member (codes "locks") fields) (λ h. absurd cc)) (λ locks.
     then_other (callback_texts_at node fields) _ (callback_texts_other node fields) (λ callbacks.
-    then_other (texts_or_none (faults.BadField (places.Node node)) (get_member (codes "test") fields)) _ (texts_other (faults.BadField (places.Node node)) (get_member (codes "test") fields) (λ h. absurd cc)) (λ test.
-    then_other (id_or (faults.BadId node) (read_id text)) _ (id_other node (read_id text)) (λ id. value _))))))))
+    then_other (optional texts_in (faults.BadField (places.Node node)) (get_member (codes "test") fields)) _ (optional_other texts_in (faults.BadField (places.Node node)) (get_member (codes "test") fields) (λ h. absurd cc)) (λ test.
+    then_other (optional repeats_in (faults.BadField (places.Node node)) (get_member (codes "repeat") fields)) _ (optional_other repeats_in (faults.BadField (places.Node node)) (get_member (codes "repeat") fields) (λ h. absurd cc)) (λ repeat.
+    then_other (check (faults.BadField (places.Node node)) (not (is_some repeat && not (is_some test)))) _ (checked _ _ (λ h. absurd cc)) (λ _.
+    then_other (id_or (faults.BadId node) (read_id text)) _ (id_other node (read_id text)) (λ id.
+    then_other (check (faults.BadId node) (not (is_some repeat && nat_le 16 (length id)))) _ (checked _ _ (λ h. absurd cc)) (λ _. value _)))))))))))
 
 sketches_other : (before : List Sketch) (tables : List Members) → IsOther (sketches_after before tables)
 unfolding sketches_after
@@ -197,9 +187,10 @@ all_callbacks_other labels own least node texts =
     then_other (callbacks_at labels least node texts.before_each) _ (few_other labels least node texts.before_each) (λ before_each.
     then_other (callbacks_at labels least node texts.after_each) _ (few_other labels least node texts.after_each) (λ after_each. value _))))
 
-node_other : (labels : List (List ℕ)) (node : ℕ) (parent : Bool) (least : ℕ) (sketch : Sketch) → IsOther (node_at labels node parent least sketch)
+node_other : (labels : List (List ℕ)) (parent : Bool) (least : ℕ) (sketch : Sketch) → IsOther (node_at labels parent least sketch)
 unfolding node_at
-node_other labels node parent least sketch =
+node_other labels parent least sketch =
+    let node = sketch.table in
     then_other (check (faults.BadTest node) (not (is_bad_test parent sketch))) _ (checked _ _ (λ h. absurd cc)) (λ _.
     then_other (mode_at node sketch.mode) _ (mode_other node sketch.mode) (λ mode.
     then_other (locks_at node sketch.locks) _ (all_locks_other node sketch.locks) (λ locks.
@@ -210,28 +201,24 @@ nodes_other : (labels : List (List ℕ)) (all : List Sketch) (before : List Node
 unfolding nodes_after
 nodes_other labels all before [] = value before
 nodes_other labels all before (sketch ∷ more) =
-    then_other (node_at labels (length before) (has_children (ids_of all) (length before)) (least_test_depth (outlines_of all) sketch.id) sketch) _ (node_other labels _ _ _ sketch) (λ node. nodes_other labels all (before ++ node ∷ []) more)
+    then_other (node_at labels (has_children (ids_of all) (length before)) (least_test_depth (outlines_of all) sketch.id) sketch) _ (node_other labels _ _ sketch) (λ node. nodes_other labels all (before ++ node ∷ []) more)
 
 all_nodes_other : (size : Size) (labels : List (List ℕ)) (tables : List Members) → IsOther (nodes_of_tables size labels tables)
 unfolding nodes_of_tables
 all_nodes_other size labels tables =
     then_other (sketches_after [] tables) _ (sketches_other [] tables) (λ sketches.
-    then_other (check faults.BadTree (is_tree (most_contexts size) (ids_of sketches))) _ (checked _ _ (λ h. absurd cc)) (λ _. nodes_other _ _ [] sketches))
+    then_other (check faults.BadTree (is_tree (most_contexts size) (ids_of (with_repetitions sketches)))) _ (checked _ _ (λ h. absurd cc)) (λ _. nodes_other _ _ [] (with_repetitions sketches)))
 
 -- ---- plans
-
-tables_other : (found : Option Data) → IsOther (tables_or_none (faults.BadField places.Whole) found)
-tables_other None = value []
-tables_other (Some found) = or_fault _ (tables_in found) (λ h. absurd cc)
 
 plan_other : (size : Size) (top : Members) → IsOther (plan_of size top)
 unfolding plan_of plan_of_tables
 plan_other size top =
     then_other (check (faults.UnknownField places.Whole) (has_only top_fields top)) _ (checked _ _ (λ h. absurd cc)) (λ _.
-    then_other (truth_or_false (faults.BadField places.Whole) (get_member (codes "keep_faults") top)) _ (truth_other (faults.BadField places.Whole) (get_member (codes "keep_faults") top) (λ h. absurd cc)) (λ keep_faults.
-    then_other (key_places_or_64 (faults.BadField places.Whole) (get_member (codes "keys") top)) _ (places_other (faults.BadField places.Whole) (get_member (codes "keys") top) (λ h. absurd cc)) (λ key_places.
-    then_other (tables_or_none (faults.BadField places.Whole) (get_member (codes "key") top)) _ (tables_other (get_member (codes "key") top)) (λ key_tables.
-    then_other (tables_or_none (faults.BadField places.Whole) (get_member (codes "node") top)) _ (tables_other (get_member (codes "node") top)) (λ node_tables.
+    then_other (field_or false as_bool (faults.BadField places.Whole) (get_member (codes "keep_faults") top)) _ (field_other false as_bool (faults.BadField places.Whole) (get_member (codes "keep_faults") top) (λ h. absurd cc)) (λ keep_faults.
+    then_other (field_or 64 places_in (faults.BadField places.Whole) (get_member (codes "keys") top)) _ (field_other 64 places_in (faults.BadField places.Whole) (get_member (codes "keys") top) (λ h. absurd cc)) (λ key_places.
+    then_other (field_or [] (array_of as_table) (faults.BadField places.Whole) (get_member (codes "key") top)) _ (field_other [] (array_of as_table) (faults.BadField places.Whole) (get_member (codes "key") top) (λ h. absurd cc)) (λ key_tables.
+    then_other (field_or [] (array_of as_table) (faults.BadField places.Whole) (get_member (codes "node") top)) _ (field_other [] (array_of as_table) (faults.BadField places.Whole) (get_member (codes "node") top) (λ h. absurd cc)) (λ node_tables.
     then_other (keys_after [] key_tables) _ (keys_other [] key_tables) (λ keys.
     then_other (nodes_of_tables size (labels_of keys) node_tables) _ (all_nodes_other size _ node_tables) (λ nodes.
     then_other (check faults.TooMany (nat_le (length (different_keys keys)) key_places)) _ (checked _ _ (λ h. absurd cc)) (λ _.

@@ -15,7 +15,7 @@ use Rattle.ext_plan_reading.specs.Depths.{Outline, least_test_depth}
 use Rattle.ext_plan_reading.specs.Faults.{check}
 use Rattle.ext_plan_reading.specs.LockReading.{locks_at}
 use Rattle.ext_plan_reading.specs.ModeReading.{mode_at}
-use Rattle.ext_plan_reading.specs.NodeReading.{Sketch, ids_of, outline_of, outlines_of, has_children, is_bad_test, test_at, node_at, nodes_after}
+use Rattle.ext_plan_reading.specs.NodeReading.{Sketch, ids_of, outlines_of, has_children, is_bad_test, test_at, node_at, nodes_after}
 use Rattle.ext_plan_reading.specs.StepReading.{steps_at}
 use Rattle.ext_plan_reading.proofs.CallbackReading.{FieldFits, callbacks_read}
 use Rattle.ext_plan_reading.proofs.Gave.{ok_value, both_gave, passed}
@@ -82,9 +82,10 @@ pub if_is_test : (test : Option (List StepText)) (P : Type 0) → (is_some test 
 if_is_test None P p = tt
 if_is_test (Some steps) P p = p refl
 
-node_is_read : (labels : List (List ℕ)) (number : ℕ) (parent : Bool) (least : ℕ) (sketch : Sketch) (node : NodeText) → node_at labels number parent least sketch ≡ Ok node → IsRead (length labels) least parent sketch node
+node_is_read : (labels : List (List ℕ)) (parent : Bool) (least : ℕ) (sketch : Sketch) (node : NodeText) → node_at labels parent least sketch ≡ Ok node → IsRead (length labels) least parent sketch node
 unfolding node_at
-node_is_read labels number parent least sketch node h =
+node_is_read labels parent least sketch node h =
+    let number = sketch.table in
     let good = both_gave (check (faults.BadTest number) (not (is_bad_test parent sketch))) _ _ h in
     let mode = both_gave (mode_at number sketch.mode) _ _ good.2 in
     let locks = both_gave (locks_at number sketch.locks) _ _ mode.2 in
@@ -150,7 +151,7 @@ pub record AreRead (labels : ℕ) (all : List Sketch) (before : List NodeText) (
   pub fit : All (FitsIn labels (outlines_of all)) nodes
   pub alone : AreAlone (ids_of all) nodes
 
-same_outline : (node : NodeText) (sketch : Sketch) → node.id ≡ sketch.id → is_some node.test ≡ is_some sketch.test → outline_of_node node ≡ outline_of sketch
+same_outline : (node : NodeText) (sketch : Sketch) → node.id ≡ sketch.id → is_some node.test ≡ is_some sketch.test → outline_of_node node ≡ (sketch.id, is_some sketch.test)
 same_outline node sketch id test = λ i. (id i, test i)
 
 pub nodes_are_read : (labels : List (List ℕ)) (all : List Sketch) (before : List NodeText) (sketches : List Sketch) (nodes : List NodeText)
@@ -161,15 +162,15 @@ nodes_are_read labels all before [] nodes fit alone h =
 nodes_are_read labels all before (sketch ∷ more) nodes fit alone h =
     let least = least_test_depth (outlines_of all) sketch.id in
     let parent = has_children (ids_of all) (length before) in
-    let node = both_gave (node_at labels (length before) parent least sketch) _ _ h in
-    let read = node_is_read labels (length before) parent least sketch node.0 node.1 in
+    let node = both_gave (node_at labels parent least sketch) _ _ h in
+    let read = node_is_read labels parent least sketch node.0 node.1 in
     let fits : FitsIn (length labels) (outlines_of all) node.0 = subst (λ id. NodeFits (length labels) (least_test_depth (outlines_of all) id) node.0) (sym read.id) read.fits in
     let pushed_fit = All-push (FitsIn (length labels) (outlines_of all)) before node.0 fit fits in
     let rest = nodes_are_read labels all (before ++ node.0 ∷ []) more nodes pushed_fit (alone_push (ids_of all) before node.0 alone read.alone) node.2 in
     let outline = same_outline node.0 sketch read.id read.is_test in
     let pushed = map-push outline_of_node before node.0 ∙ ap (λ o. outlines_of_nodes before ++ o ∷ []) outline in
     record {
-      of_sketches = rest.of_sketches ∙ ap (λ xs. xs ++ outlines_of more) pushed ∙ append_assoc (outlines_of_nodes before) (outline_of sketch ∷ []) (outlines_of more);
+      of_sketches = rest.of_sketches ∙ ap (λ xs. xs ++ outlines_of more) pushed ∙ append_assoc (outlines_of_nodes before) ((sketch.id, is_some sketch.test) ∷ []) (outlines_of more);
       fit = rest.fit;
       alone = rest.alone;
     }

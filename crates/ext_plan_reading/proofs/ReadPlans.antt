@@ -1,11 +1,11 @@
 -- What holds of plans that were read, from the definition of reading.
-use Rattle.std.proofs.Common.{◌≡◌, ◌<◌, ◌≤◌, ℕ, true, get_or, map, List, [], length, Option, Some, None, Result, Ok, Err, IfOk, All, IfSome, arith, refl, ap, sym, subst, ◌∙◌}
+use Rattle.std.proofs.Common.{◌≡◌, ◌<◌, ◌≤◌, ℕ, true, false, get_or, map, List, [], length, Option, Some, None, Result, Ok, Err, IfOk, All, IfSome, arith, refl, ap, sym, subst, ◌∙◌}
 use Rattle.std.specs.Prelude.{nat_le, codes, is_some}
 use Rattle.std.proofs.lemmas.Simd.{map-map}
 use Rattle.std.proofs.lemmas.Bool.{leb-true}
 use Rattle.std.proofs.lemmas.List.{get_or-map, length-map}
 use Rattle.std.proofs.lemmas.List.Elements.{All-nil}
-use Rattle.toml.specs.Data.{Members, get_member}
+use Rattle.toml.specs.Data.{Members, get_member, as_bool, as_table}
 use Rattle.ext_lifecycle.specs.declared.call.Kind.{Kind}
 use Rattle.ext_lifecycle.specs.declared.call.Kind.TheVariants as kinds
 use Rattle.ext_model.specs.Sizes.{most_contexts}
@@ -24,9 +24,9 @@ use Rattle.ext_plan_reading.specs.declared.fault.PlanFault.TheVariants as faults
 use Rattle.ext_plan_reading.specs.declared.fault.Place.TheVariants as places
 use Rattle.ext_plan_reading.specs.Depths.{Outline, least_test_depth}
 use Rattle.ext_plan_reading.specs.Faults.{check, Gives}
-use Rattle.ext_plan_reading.specs.Fields.{has_only, key_places_or_64, tables_or_none, truth_or_false}
+use Rattle.ext_plan_reading.specs.Fields.{has_only, array_of, places_in, field_or}
 use Rattle.ext_plan_reading.specs.KeyReading.{keys_after}
-use Rattle.ext_plan_reading.specs.NodeReading.{ids_of, outlines_of, has_children, sketches_after, nodes_of_tables}
+use Rattle.ext_plan_reading.specs.NodeReading.{ids_of, outlines_of, has_children, sketches_after, with_repetitions, nodes_of_tables}
 use Rattle.ext_plan_reading.specs.Reading.{top_fields, plan_of, plan_of_tables}
 use Rattle.ext_plan_reading.proofs.ChildDepths.{ids_in-sketches}
 use Rattle.ext_plan_reading.proofs.Gave.{ok_value, both_gave, passed}
@@ -109,28 +109,29 @@ is_read : (size : Size) (top : Members) (plan : PlanText) → plan_of size top �
 unfolding plan_of plan_of_tables nodes_of_tables
 is_read size top plan h =
     let fields = both_gave (check (faults.UnknownField places.Whole) (has_only top_fields top)) _ _ h in
-    let keep_faults = both_gave (truth_or_false (faults.BadField places.Whole) (get_member (codes "keep_faults") top)) _ _ fields.2 in
-    let key_places = both_gave (key_places_or_64 (faults.BadField places.Whole) (get_member (codes "keys") top)) _ _ keep_faults.2 in
-    let key_tables = both_gave (tables_or_none (faults.BadField places.Whole) (get_member (codes "key") top)) _ _ key_places.2 in
-    let node_tables = both_gave (tables_or_none (faults.BadField places.Whole) (get_member (codes "node") top)) _ _ key_tables.2 in
+    let keep_faults = both_gave (field_or false as_bool (faults.BadField places.Whole) (get_member (codes "keep_faults") top)) _ _ fields.2 in
+    let key_places = both_gave (field_or 64 places_in (faults.BadField places.Whole) (get_member (codes "keys") top)) _ _ keep_faults.2 in
+    let key_tables = both_gave (field_or [] (array_of as_table) (faults.BadField places.Whole) (get_member (codes "key") top)) _ _ key_places.2 in
+    let node_tables = both_gave (field_or [] (array_of as_table) (faults.BadField places.Whole) (get_member (codes "node") top)) _ _ key_tables.2 in
     let keys = both_gave (keys_after [] key_tables.0) _ _ node_tables.2 in
     let nodes = both_gave (nodes_of_tables size (labels_of keys.0) node_tables.0) _ _ keys.2 in
     let sketches = both_gave (sketches_after [] node_tables.0) _ _ nodes.1 in
-    let told = both_gave (check faults.BadTree (is_tree (most_contexts size) (ids_of sketches.0))) _ _ sketches.2 in
-    let tree = tree_within size (ids_of sketches.0) (passed _ (is_tree (most_contexts size) (ids_of sketches.0)) told.0 told.1) in
+    let all = with_repetitions sketches.0 in
+    let told = both_gave (check faults.BadTree (is_tree (most_contexts size) (ids_of all))) _ _ sketches.2 in
+    let tree = tree_within size (ids_of all) (passed _ (is_tree (most_contexts size) (ids_of all)) told.0 told.1) in
     let few = both_gave (check faults.TooMany (nat_le (length (different_keys keys.0)) key_places.0)) _ _ nodes.2 in
     let few_locks = both_gave (check faults.TooMany (nat_le (length (lock_names nodes.0)) lock_limit)) _ _ few.2 in
     let blocks = are_blocks (faults.BadField places.Whole) (get_member (codes "keys") top) key_places.0 key_places.1 in
     let own = keys_are_own [] key_tables.0 keys.0 keys.1 no_keys in
-    let read = nodes_are_read (labels_of keys.0) sketches.0 [] sketches.0 nodes.0 (All-nil (FitsIn (length (labels_of keys.0)) (outlines_of sketches.0))) (λ k less d. absurd (omega (arith, less))) told.2 in
+    let read = nodes_are_read (labels_of keys.0) all [] all nodes.0 (All-nil (FitsIn (length (labels_of keys.0)) (outlines_of all))) (λ k less d. absurd (omega (arith, less))) told.2 in
     let count : length (labels_of keys.0) ≡ length keys.0 = length-map keys.0 (λ k. k.label) in
     let fit : All (FitsIn (length keys.0) (outlines_of_nodes nodes.0)) nodes.0 =
-    subst (λ outlines. All (FitsIn (length keys.0) outlines) nodes.0) (sym read.of_sketches) (subst (λ n. All (FitsIn n (outlines_of sketches.0)) nodes.0) count read.fit) in
-    let ids : ids_of_nodes nodes.0 ≡ ids_of sketches.0 = sym (ids_in-nodes nodes.0) ∙ ap (map (λ o. o.0)) read.of_sketches ∙ ids_in-sketches sketches.0 in
+    subst (λ outlines. All (FitsIn (length keys.0) outlines) nodes.0) (sym read.of_sketches) (subst (λ n. All (FitsIn n (outlines_of all)) nodes.0) count read.fit) in
+    let ids : ids_of_nodes nodes.0 ≡ ids_of all = sym (ids_in-nodes nodes.0) ∙ ap (map (λ o. o.0)) read.of_sketches ∙ ids_in-sketches all in
     rw (← ok_value (record { keep_faults = keep_faults.0; key_places = key_places.0; size = size; keys = keys.0; nodes = nodes.0 }) plan _ refl few_locks.2) (record {
       runnable = record {
         tree = subst IsTree (sym ids) tree.tree;
-        tests = λ k less d. in_test _ (λ _. IsAlone (has_children (ids_of sketches.0) k) (get_or nodes.0 k d)) (λ _. children_of (ids_of_nodes nodes.0) k ≡ []) (λ steps alone. subst (λ ids. children_of ids k ≡ []) (sym ids) (childless (ids_of sketches.0) k alone.childless)) (read.alone k less d);
+        tests = λ k less d. in_test _ (λ _. IsAlone (has_children (ids_of all) k) (get_or nodes.0 k d)) (λ _. children_of (ids_of_nodes nodes.0) k ≡ []) (λ steps alone. subst (λ ids. children_of ids k ≡ []) (sym ids) (childless (ids_of all) k alone.childless)) (read.alone k less d);
         places = record { whole = blocks.whole; some = blocks.some; few = blocks.few };
         locks = leb-true _ _ (passed _ (nat_le (length (lock_names nodes.0)) lock_limit) few_locks.0 few_locks.1);
         namespaces = own.parts;
@@ -138,7 +139,7 @@ is_read size top plan h =
         few = λ k d less kind. few_of_kind _ _ _ (fit k d less) kind;
       };
       nodes = omega (arith, tree.few, length-map nodes.0 (λ n. n.id), ap length ids);
-      containers = λ k d less. in_test _ (λ _. IsAlone (has_children (ids_of sketches.0) k) (get_or nodes.0 k d)) (λ _. HasNoContainerCallbacks (get_or nodes.0 k d)) (λ steps alone. alone.callbacks) (read.alone k less d);
+      containers = λ k d less. in_test _ (λ _. IsAlone (has_children (ids_of all) k) (get_or nodes.0 k d)) (λ _. HasNoContainerCallbacks (get_or nodes.0 k d)) (λ steps alone. alone.callbacks) (read.alone k less d);
       different = leb-true _ _ (passed _ (nat_le (length (different_keys keys.0)) key_places.0) few.0 few.1);
       labels = record { words = own.words; different = own.different };
       keys = λ k d less. of_all_steps (All (NamesLabelBelow (length keys.0))) _ _ _ (fit k d less) (λ depth steps fits. fits.names);

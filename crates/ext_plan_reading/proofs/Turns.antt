@@ -102,7 +102,7 @@ callbacks_end labels depth node before = refl
 
 -- the node of a sketch, which stands behind those before it
 abbrev pub node_in : List (List ℕ) → List Sketch → List NodeText → Sketch → Result NodeText PlanFault
-node_in labels all before x = node_at labels (length before) (has_children (ids_of all) (length before)) (least_test_depth (outlines_of all) x.id) x
+node_in labels all before x = node_at labels (has_children (ids_of all) (length before)) (least_test_depth (outlines_of all) x.id) x
 
 pub nodes_go : (labels : List (List ℕ)) (all : List Sketch) (before : List NodeText) (x : Sketch) (more : List Sketch) (node : NodeText) → node_in labels all before x ≡ Ok node → nodes_after labels all before (x ∷ more) ≡ nodes_after labels all (before ++ node ∷ []) more
 unfolding nodes_after

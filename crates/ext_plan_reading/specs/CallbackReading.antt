@@ -8,7 +8,7 @@ use Rattle.ext_plan_reading.specs.declared.fault.PlanFault.{PlanFault}
 use Rattle.ext_plan_reading.specs.declared.fault.PlanFault.TheVariants as faults
 use Rattle.ext_plan_reading.specs.declared.fault.Place.TheVariants as places
 use Rattle.ext_plan_reading.specs.Faults.{check, ◌>>=◌}
-use Rattle.ext_plan_reading.specs.Fields.{text_lists_or_none}
+use Rattle.ext_plan_reading.specs.Fields.{texts_in, array_of, optional}
 use Rattle.ext_plan_reading.specs.StepReading.{steps_at}
 
 -- ---- as texts
@@ -23,10 +23,10 @@ pub record CallbackTexts : Type 0 where
 -- The callbacks in the table of the node with this number.
 unfoldable pub callback_texts_at : ℕ → Members → Result CallbackTexts PlanFault
 callback_texts_at node fields = do
-  before_all ← text_lists_or_none (faults.BadField (places.Node node)) (get_member (codes "before_all") fields)
-  after_all ← text_lists_or_none (faults.BadField (places.Node node)) (get_member (codes "after_all") fields)
-  before_each ← text_lists_or_none (faults.BadField (places.Node node)) (get_member (codes "before_each") fields)
-  after_each ← text_lists_or_none (faults.BadField (places.Node node)) (get_member (codes "after_each") fields)
+  before_all ← optional (array_of texts_in) (faults.BadField (places.Node node)) (get_member (codes "before_all") fields)
+  after_all ← optional (array_of texts_in) (faults.BadField (places.Node node)) (get_member (codes "after_all") fields)
+  before_each ← optional (array_of texts_in) (faults.BadField (places.Node node)) (get_member (codes "before_each") fields)
+  after_each ← optional (array_of texts_in) (faults.BadField (places.Node node)) (get_member (codes "after_each") fields)
   Ok (record { before_all = before_all; after_all = after_all; before_each = before_each; after_each = after_each })
 
 -- A field that no test may have is given, even as an empty array.
@@ -50,8 +50,7 @@ callbacks_after labels depth node before (texts ∷ more) = do
   steps ← steps_at labels depth node texts
   callbacks_after labels depth node (before ++ steps ∷ []) more
 
--- The callbacks of one field of the node, unless there are too many. The shortest path on which they run has `depth`
--- contexts.
+-- The callbacks of a field, unless there are too many. The shortest path on which they run has `depth` contexts.
 unfoldable pub callbacks_at : List (List ℕ) → ℕ → ℕ → Option (List (List (List ℕ)))
     → Result (List (List StepText)) PlanFault
 callbacks_at labels depth node None = Ok []
@@ -59,8 +58,7 @@ callbacks_at labels depth node (Some lists) = do
   _ ← check (faults.BadStep node) (nat_le (length lists) callback_limit)
   callbacks_after labels depth node [] lists
 
--- The callbacks of the node. `own` is the number of contexts on its path, `least` that of the shortest path of a test
--- at or below it.
+-- The callbacks of a node whose path has `own` contexts, and the shortest path of a test at or below it `least`.
 unfoldable pub node_callbacks_at : List (List ℕ) → ℕ → ℕ → ℕ → CallbackTexts → Result CallbackSteps PlanFault
 node_callbacks_at labels own least node texts = do
   before_all ← callbacks_at labels own node texts.before_all

@@ -1,14 +1,14 @@
 -- The keys of a plan. Each has a label, a word that no key before it has, and may have a name and a namespace.
 use Rattle.std.specs.Prelude.{ℕ, ◌==◌, Bool, true, not, ◌&&◌, codes, List, [], ◌∷◌, ◌++◌, length, position, Result, Ok, Option, Some, None, unwrap_or}
 use Rattle.std.specs.Str.{bytes_eq}
-use Rattle.toml.specs.Data.{Members, get_member}
+use Rattle.toml.specs.Data.{Members, get_member, as_str}
 use Rattle.ext_plan.specs.Labels.{labels_of, is_label, is_word}
 use Rattle.ext_plan.specs.Plans.{KeyText}
 use Rattle.ext_plan_reading.specs.declared.fault.PlanFault.{PlanFault}
 use Rattle.ext_plan_reading.specs.declared.fault.PlanFault.TheVariants as faults
 use Rattle.ext_plan_reading.specs.declared.fault.Place.TheVariants as places
 use Rattle.ext_plan_reading.specs.Faults.{some_or, check, ◌>>=◌}
-use Rattle.ext_plan_reading.specs.Fields.{has_only, text_at, text_or_none, texts_or_none}
+use Rattle.ext_plan_reading.specs.Fields.{has_only, text_at, texts_in, optional}
 
 abbrev pub key_fields : List (List ℕ)
 key_fields = codes "label" ∷ codes "name" ∷ codes "namespace" ∷ []
@@ -27,8 +27,8 @@ unfoldable pub key_at : ℕ → List (List ℕ) → Members → Result KeyText P
 key_at number labels fields = do
   _ ← check (faults.UnknownField (places.Key number)) (has_only key_fields fields)
   label ← some_or (faults.BadField (places.Key number)) (text_at (codes "label") fields)
-  name ← text_or_none (faults.BadField (places.Key number)) (get_member (codes "name") fields)
-  namespace ← texts_or_none (faults.BadField (places.Key number)) (get_member (codes "namespace") fields)
+  name ← optional as_str (faults.BadField (places.Key number)) (get_member (codes "name") fields)
+  namespace ← optional texts_in (faults.BadField (places.Key number)) (get_member (codes "namespace") fields)
   _ ← check (faults.BadLabel number) (is_word label && has_parts namespace && not (is_label labels label))
   Ok (record { label = label; name = unwrap_or name label; namespace = namespace })
 

@@ -1,3 +1,4 @@
+pub mod AllFaults
 pub mod CallbackReading
 pub mod Depths
 pub mod Explaining
@@ -6,12 +7,14 @@ pub mod FaultPlaces
 pub mod Faults
 pub mod Fields
 pub mod InnerSketches
+pub mod InnerTop
 pub mod KeyReading
 pub mod LockReading
 pub mod ModeReading
 pub mod NodeReading
 pub mod Reading
 pub mod StepReading
+pub mod TopReading
 pub use Rattle.ext_plan.specs.Plans
 pub use Rattle.ext_plan.specs.ReadPlans
 pub use Rattle.ext_plan.specs.declared.plan.PlanNode

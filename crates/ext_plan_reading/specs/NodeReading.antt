@@ -1,7 +1,8 @@
 -- The nodes of a plan: first their fields and ids; then, if the ids form a tree, their modes, their locks and the steps
 -- of their callbacks and tests.
-use Rattle.std.specs.Prelude.{ℕ, Bool, not, ◌&&◌, ◌||◌, ◌==◌, codes, List, [], ◌∷◌, ◌++◌, length, map, Option, Some, None, is_some, Result, Ok, Err}
-use Rattle.toml.specs.Data.{Members, get_member}
+use Rattle.std.specs.Prelude.{ℕ, zero, suc, nat_le, Bool, false, not, ◌&&◌, ◌||◌, ◌==◌, codes, List, [], ◌∷◌, ◌++◌, length, map, flat_map, Option, Some, None, is_some, Result, Ok, Err}
+use Rattle.std.specs.Fmt.{decimal}
+use Rattle.toml.specs.Data.{Members, get_member, as_bool, as_str}
 use Rattle.ext_ids.specs.declared.fault.IdFault.{IdFault}
 use Rattle.ext_ids.specs.Grammar.{Pair}
 use Rattle.ext_ids.specs.Reading.{read_id}
@@ -14,7 +15,7 @@ use Rattle.ext_plan_reading.specs.declared.fault.PlanFault.{PlanFault}
 use Rattle.ext_plan_reading.specs.declared.fault.PlanFault.TheVariants as faults
 use Rattle.ext_plan_reading.specs.declared.fault.Place.TheVariants as places
 use Rattle.ext_plan_reading.specs.Faults.{some_or, check, ◌>>=◌}
-use Rattle.ext_plan_reading.specs.Fields.{has_only, text_at, text_or_none, texts_or_none, truth_or_false}
+use Rattle.ext_plan_reading.specs.Fields.{has_only, text_at, texts_in, repeats_in, field_or, optional}
 use Rattle.ext_plan_reading.specs.CallbackReading.{CallbackTexts, callback_texts_at, are_of_container, node_callbacks_at}
 use Rattle.ext_plan_reading.specs.Depths.{Outline, least_test_depth}
 use Rattle.ext_plan_reading.specs.LockReading.{locks_at}
@@ -23,35 +24,49 @@ use Rattle.ext_plan_reading.specs.StepReading.{steps_at}
 
 abbrev pub node_fields : List (List ℕ)
 node_fields =
-    codes "id" ∷ codes "test" ∷ codes "mode" ∷ codes "isolated" ∷ codes "locks" ∷ codes "before_all" ∷ codes "after_all"
-    ∷ codes "before_each" ∷ codes "after_each" ∷ []
+    codes "id" ∷ codes "test" ∷ codes "repeat" ∷ codes "mode" ∷ codes "isolated" ∷ codes "locks" ∷ codes "before_all"
+    ∷ codes "after_all" ∷ codes "before_each" ∷ codes "after_each" ∷ []
 
--- A node whose fields have their types, with its mode, its locks and its steps still as texts.
+-- A node of the table of this number: its fields have their types, and its mode, its locks and its steps are texts.
 pub record Sketch : Type 0 where
+  pub table : ℕ
   pub id : List Pair
   pub mode : Option (List ℕ)
   pub isolated : Bool
   pub locks : Option (List (List ℕ))
   pub callbacks : CallbackTexts
   pub test : Option (List (List ℕ))
+  pub repeat : Option ℕ
 
 -- The segments of an id, or this fault if the text is none.
 abbrev pub id_or : PlanFault → Result (List Pair) IdFault → Result (List Pair) PlanFault
 id_or e (Ok id) = Ok id
 id_or e (Err _) = Err e
 
--- The node of a table; `node` is its number.
+-- The node of a table; `node` is its number. Only tests are repeated, and only where an id can have a segment more.
 unfoldable pub sketch_at : ℕ → Members → Result Sketch PlanFault
 sketch_at node fields = do
   _ ← check (faults.UnknownField (places.Node node)) (has_only node_fields fields)
   text ← some_or (faults.BadField (places.Node node)) (text_at (codes "id") fields)
-  mode ← text_or_none (faults.BadField (places.Node node)) (get_member (codes "mode") fields)
-  isolated ← truth_or_false (faults.BadField (places.Node node)) (get_member (codes "isolated") fields)
-  locks ← texts_or_none (faults.BadField (places.Node node)) (get_member (codes "locks") fields)
+  mode ← optional as_str (faults.BadField (places.Node node)) (get_member (codes "mode") fields)
+  isolated ← field_or false as_bool (faults.BadField (places.Node node)) (get_member (codes "isolated") fields)
+  locks ← optional texts_in (faults.BadField (places.Node node)) (get_member (codes "locks") fields)
   callbacks ← callback_texts_at node fields
-  test ← texts_or_none (faults.BadField (places.Node node)) (get_member (codes "test") fields)
+  test ← optional texts_in (faults.BadField (places.Node node)) (get_member (codes "test") fields)
+  repeat ← optional repeats_in (faults.BadField (places.Node node)) (get_member (codes "repeat") fields)
+  _ ← check (faults.BadField (places.Node node)) (not (is_some repeat && not (is_some test)))
   id ← id_or (faults.BadId node) (read_id text)
-  Ok (record { id = id; mode = mode; isolated = isolated; locks = locks; callbacks = callbacks; test = test })
+  _ ← check (faults.BadId node) (not (is_some repeat && nat_le 16 (length id)))
+  Ok (record {
+    table = node;
+    id = id;
+    mode = mode;
+    isolated = isolated;
+    locks = locks;
+    callbacks = callbacks;
+    test = test;
+    repeat = repeat;
+  })
 
 -- These nodes, followed by those of the tables.
 unfoldable pub sketches_after : List Sketch → List Members → Result (List Sketch) PlanFault
@@ -60,19 +75,40 @@ sketches_after before (fields ∷ more) = do
   sketch ← sketch_at (length before) fields
   sketches_after (before ++ sketch ∷ []) more
 
+-- ---- repeated tests
+
+-- A repetition of a test, by its number, as JUnit names it. Its container has the locks and callbacks of the table.
+abbrev pub repetition : Sketch → ℕ → Sketch
+repetition test number = record test {
+  id = test.id ++ (codes "test-template-invocation", codes "#" ++ decimal number) ∷ [];
+  isolated = false;
+  locks = None;
+  callbacks = record { before_all = None; after_all = None; before_each = None; after_each = None };
+}
+
+-- The first repetitions of a test, so many.
+abbrev pub repetitions : Sketch → ℕ → List Sketch
+repetitions test zero = []
+repetitions test (suc number) = repetitions test number ++ repetition test (suc number) ∷ []
+
+-- The nodes of a table with this `repeat`: a test that is repeated is a container, with its repetitions behind it.
+abbrev pub repeated : Sketch → Option ℕ → List Sketch
+repeated sketch None = sketch ∷ []
+repeated sketch (Some count) = record sketch { test = None } ∷ repetitions sketch count
+
+-- All nodes that the tables stand for.
+abbrev pub with_repetitions : List Sketch → List Sketch
+with_repetitions sketches = flat_map (λ s. repeated s s.repeat) sketches
+
 -- ---- callbacks and tests
 
 abbrev pub ids_of : List Sketch → List Id
 ids_of sketches = map (λ s. s.id) sketches
 
--- A node's id, and whether it is a test.
-abbrev pub outline_of : Sketch → Outline
-outline_of sketch = (sketch.id, is_some sketch.test)
-
+-- The nodes' ids, and which of them are tests.
 abbrev pub outlines_of : List Sketch → List Outline
-outlines_of sketches = map outline_of sketches
+outlines_of sketches = map (λ s. (s.id, is_some s.test)) sketches
 
--- The node of the tree has children.
 abbrev pub has_children : List Id → ℕ → Bool
 has_children ids node = not (length (children_of ids node) == 0)
 
@@ -88,23 +124,23 @@ test_at labels depth node (Some texts) = do
   Ok (Some steps)
 
 -- The node of a sketch. `parent` says whether it has children; `least` is the least depth of a test at or below it.
-unfoldable pub node_at : List (List ℕ) → ℕ → Bool → ℕ → Sketch → Result NodeText PlanFault
-node_at labels node parent least sketch = do
-  _ ← check (faults.BadTest node) (not (is_bad_test parent sketch))
-  mode ← mode_at node sketch.mode
-  locks ← locks_at node sketch.locks
-  callbacks ← node_callbacks_at labels (length sketch.id) least node sketch.callbacks
-  test ← test_at labels (length sketch.id) node sketch.test
+unfoldable pub node_at : List (List ℕ) → Bool → ℕ → Sketch → Result NodeText PlanFault
+node_at labels parent least sketch = do
+  _ ← check (faults.BadTest sketch.table) (not (is_bad_test parent sketch))
+  mode ← mode_at sketch.table sketch.mode
+  locks ← locks_at sketch.table sketch.locks
+  callbacks ← node_callbacks_at labels (length sketch.id) least sketch.table sketch.callbacks
+  test ← test_at labels (length sketch.id) sketch.table sketch.test
   Ok (record {
     id = sketch.id;
     mode = mode;
     isolated = sketch.isolated;
     locks = locks;
+    test = test;
     before_all = callbacks.before_all;
     after_all = callbacks.after_all;
     before_each = callbacks.before_each;
     after_each = callbacks.after_each;
-    test = test;
   })
 
 -- These nodes, followed by those of the sketches; `all` are the sketches of all nodes.
@@ -112,7 +148,7 @@ unfoldable pub nodes_after : List (List ℕ) → List Sketch → List NodeText �
     → Result (List NodeText) PlanFault
 nodes_after labels all before [] = Ok before
 nodes_after labels all before (sketch ∷ more) = do
-  node ← node_at labels (length before) (has_children (ids_of all) (length before))
+  node ← node_at labels (has_children (ids_of all) (length before))
       (least_test_depth (outlines_of all) sketch.id) sketch
   nodes_after labels all (before ++ node ∷ []) more
 
@@ -120,5 +156,6 @@ nodes_after labels all before (sketch ∷ more) = do
 unfoldable pub nodes_of_tables : Size → List (List ℕ) → List Members → Result (List NodeText) PlanFault
 nodes_of_tables size labels tables = do
   sketches ← sketches_after [] tables
-  _ ← check faults.BadTree (is_tree (most_contexts size) (ids_of sketches))
-  nodes_after labels sketches [] sketches
+  all ← Ok (with_repetitions sketches)
+  _ ← check faults.BadTree (is_tree (most_contexts size) (ids_of all))
+  nodes_after labels all [] all

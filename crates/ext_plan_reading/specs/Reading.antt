@@ -1,6 +1,6 @@
 -- Which texts are plans, and with which keys and nodes: the text's TOML document, read in order up to the first fault.
-use Rattle.std.specs.Prelude.{ℕ, nat_le, Bool, codes, List, [], ◌∷◌, length, Result, Ok}
-use Rattle.toml.specs.Data.{Members, get_member}
+use Rattle.std.specs.Prelude.{ℕ, nat_le, Bool, false, codes, List, [], ◌∷◌, length, Result, Ok}
+use Rattle.toml.specs.Data.{Members, get_member, as_bool, as_table}
 use Rattle.toml.specs.Parse.{parse_document}
 use Rattle.ext_model.specs.declared.size.Size.{Size}
 use Rattle.ext_plan.specs.Plans.{PlanText}
@@ -11,15 +11,14 @@ use Rattle.ext_plan_reading.specs.declared.fault.PlanFault.{PlanFault}
 use Rattle.ext_plan_reading.specs.declared.fault.PlanFault.TheVariants as faults
 use Rattle.ext_plan_reading.specs.declared.fault.Place.TheVariants as places
 use Rattle.ext_plan_reading.specs.Faults.{some_or, check, ◌>>=◌}
-use Rattle.ext_plan_reading.specs.Fields.{has_only, key_places_or_64, tables_or_none, truth_or_false}
+use Rattle.ext_plan_reading.specs.Fields.{has_only, array_of, places_in, field_or}
 use Rattle.ext_plan_reading.specs.KeyReading.{keys_after}
 use Rattle.ext_plan_reading.specs.NodeReading.{nodes_of_tables}
 
 abbrev pub top_fields : List (List ℕ)
 top_fields = codes "keep_faults" ∷ codes "keys" ∷ codes "key" ∷ codes "node" ∷ []
 
--- The plan of this size with these tables of keys and nodes, whose store keeps faults or not and has this many places
--- for keys.
+-- The plan of this size with these tables, whose store keeps faults or not and has so many places for keys.
 unfoldable pub plan_of_tables : Size → Bool → ℕ → List Members → List Members → Result PlanText PlanFault
 plan_of_tables size keep_faults key_places key_tables node_tables = do
   keys ← keys_after [] key_tables
@@ -32,10 +31,10 @@ plan_of_tables size keep_faults key_places key_tables node_tables = do
 unfoldable pub plan_of : Size → Members → Result PlanText PlanFault
 plan_of size top = do
   _ ← check (faults.UnknownField places.Whole) (has_only top_fields top)
-  keep_faults ← truth_or_false (faults.BadField places.Whole) (get_member (codes "keep_faults") top)
-  key_places ← key_places_or_64 (faults.BadField places.Whole) (get_member (codes "keys") top)
-  key_tables ← tables_or_none (faults.BadField places.Whole) (get_member (codes "key") top)
-  node_tables ← tables_or_none (faults.BadField places.Whole) (get_member (codes "node") top)
+  keep_faults ← field_or false as_bool (faults.BadField places.Whole) (get_member (codes "keep_faults") top)
+  key_places ← field_or 64 places_in (faults.BadField places.Whole) (get_member (codes "keys") top)
+  key_tables ← field_or [] (array_of as_table) (faults.BadField places.Whole) (get_member (codes "key") top)
+  node_tables ← field_or [] (array_of as_table) (faults.BadField places.Whole) (get_member (codes "node") top)
   plan_of_tables size keep_faults key_places key_tables node_tables
 
 -- The plan of a text, which may be as large as this.

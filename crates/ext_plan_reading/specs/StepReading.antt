@@ -85,8 +85,7 @@ step_of labels text =
     let words = slice_split (λ b. b == 32) text in
     if list_any (λ word. length word == 0) words then None else step_of_words labels words
 
--- The step of a text in the node with this number. It runs on paths of at least `depth` contexts, and may not go up
--- past the root.
+-- The step of a text. It runs on paths of at least `depth` contexts, and may not go up past the root.
 unfoldable pub step_at : List (List ℕ) → ℕ → ℕ → List ℕ → Result StepText PlanFault
 step_at labels depth node text = do
   step ← some_or (faults.BadStep node) (step_of labels text)

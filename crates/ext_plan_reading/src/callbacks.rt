@@ -1,5 +1,5 @@
 //! The callbacks of a plan's nodes.
-ghost use Rattle.std.specs.Prelude.{◌≡◌, [], map, option_map};
+ghost use Rattle.std.specs.Prelude.{◌≡◌, [], map, None, option_map};
 ghost use Rattle.toml.specs.View.{table_view};
 ghost use Rattle.ext_plan.specs.Plans.{callbacks_view};
 ghost use Rattle.ext_plan_reading.specs.CallbackReading.{are_of_container, callback_texts_at, callbacks_after, callbacks_at, node_callbacks_at};
@@ -53,6 +53,18 @@ impl<'a> CallbackSketch<'a> {
             before_each,
             after_each,
         })
+    }
+
+    /// No callbacks.
+    pub fn none() -> CallbackSketch<'a>
+        ensures { callback_texts_view result ≡ record { before_all = None; after_all = None; before_each = None; after_each = None } }
+    {
+        CallbackSketch {
+            before_all: None,
+            after_all: None,
+            before_each: None,
+            after_each: None,
+        }
     }
 
     /// For each kind, in reading order: its field, the `depth` with which its steps are read, and

@@ -32,9 +32,9 @@ use words::said;
 /// where the table of the key or node begins, if the table has a header of its own, and the node's
 /// id, if it has one. The contract covers only the place that the fault names.
 ///
-/// The fault is the answer of `read_plan_within` to this text and size, or `NotUtf8` if the bytes
-/// are no text. For any other fault the line says that another one comes before, or that there is
-/// no such fault.
+/// The fault is one of `all_faults` of this text and size, such as the answer of
+/// `read_plan_within`; or `NotUtf8` if the bytes are no text. For any other fault the line says
+/// that another one comes before, or that there is no such fault.
 ///
 /// Takes memory for the line, and for what `read_plan_within` takes it for; fails with `AllocError`
 /// only if that is refused.

@@ -7,7 +7,7 @@ use std::alloc::{AllocError, AllocFailed};
 use std::fmt;
 use thiserror::Error;
 
-/// Where in a plan a fault is. Keys and nodes are numbered from 0 in the order of the plan.
+/// Where in a plan a fault is. Keys and nodes are numbered from 0 in the order of their tables.
 ///
 /// It is printed after a fault's code: nothing for the plan as a whole, else ` key 1` or ` node 2`.
 #[derive(Clone, Copy, Debug, PartialEq, Eq)]
@@ -46,7 +46,7 @@ impl fmt::Display for Place {
 /// 7. `TooMany`.
 ///
 /// `Memory` takes the place of any of them if memory was refused. The number in a variant is that
-/// of the key or the node, from 0. A fault is printed as its line on standard error, such as
+/// of the key or the node, from 0, and a repetition has that of its test's table. A fault is printed as its line on standard error, such as
 /// `plan: P5 key 1`.
 #[derive(Clone, Copy, Debug, PartialEq, Eq, Error)]
 pub enum PlanFault {
@@ -56,18 +56,20 @@ pub enum PlanFault {
     /// P2: the text is no TOML document.
     NotToml,
     /// P3: there is a field other than `keep_faults`, `keys`, `key` and `node` at the top, `label`,
-    /// `name` and `namespace` in a key, or `id`, `test`, `mode`, `isolated`, `locks`, `before_all`,
-    /// `after_all`, `before_each` and `after_each` in a node.
+    /// `name` and `namespace` in a key, or `id`, `test`, `repeat`, `mode`, `isolated`, `locks`,
+    /// `before_all`, `after_all`, `before_each` and `after_each` in a node.
     UnknownField(Place),
     /// P4: `key` or `node` is no array of tables; `label` or `id` is missing or no text; `name` or
     /// `mode` is no text; `namespace`, `test` or `locks` is no array of texts; `keep_faults` or
     /// `isolated` is neither true nor false; `keys` is no whole number from 1 to 1,024;
-    /// `before_all`, `after_all`, `before_each` or `after_each` is no array of arrays of texts.
+    /// `before_all`, `after_all`, `before_each` or `after_each` is no array of arrays of texts;
+    /// `repeat` is no whole number from 1 to 65,535, or stands without `test`.
     BadField(Place),
     /// P5: a key's label is empty, has a space or is that of a key before it, or its namespace is
     /// an empty array.
     BadLabel(usize),
-    /// P6: the id of a node is no unique id, or has more than 16 segments.
+    /// P6: the id of a node is no unique id, or has more than 16 segments, of which a test that is
+    /// repeated leaves one to its repetitions.
     BadId(usize),
     /// P7: the ids do not form a tree. There is none, or more than a plan of its size may have
     /// (`Size::contexts`); the first has more than one segment; or another one is repeated, has one

@@ -1,11 +1,11 @@
 //! The fields of a TOML table.
-ghost use Rattle.std.specs.Prelude.{◌≡◌, ◌≤◌, [], false, not, is_some, map, option_map, IfOk, IfSome};
+ghost use Rattle.std.specs.Prelude.{◌≡◌, ◌≤◌, [], None, false, not, is_some, map, option_and_then, option_map, IfOk, IfSome};
 ghost use Rattle.std.specs.Str.{bytes_eq};
 ghost use Rattle.std.specs.List.{list_any};
 ghost use Rattle.toml.specs.View.{view, table_view, items_view};
-ghost use Rattle.toml.specs.Data.{get_member};
+ghost use Rattle.toml.specs.Data.{as_bool, as_integer, as_str, as_table, get_member};
 ghost use Rattle.ext_plan_reading.specs.Faults.{Gives};
-ghost use Rattle.ext_plan_reading.specs.Fields.{has_only, text_at, texts_in, tables_in, texts_after, tables_after, text_or_none, texts_or_none, text_lists_in, text_lists_after, text_lists_or_none, tables_or_none, truth_or_false, key_places_or_64, places_for_keys};
+ghost use Rattle.ext_plan_reading.specs.Fields.{has_only, text_at, texts_in, array_of, all_after, field_or, optional, places_in, repeats_in, up_to};
 ghost use Rattle.ext_plan_reading.specs.InnerSketches.{GivesAll, lists_view};
 
 use crate::fault::PlanFault;
@@ -61,7 +61,7 @@ pub(crate) fn text_if_given<'a>(
     name: &str,
     fault: PlanFault,
 ) -> Result<Option<&'a str>, PlanFault>
-    ensures { Gives (option_map (λ s. s.now)) result (text_or_none fault (get_member name.now (table_view table.now))) }
+    ensures { Gives (option_map (λ s. s.now)) result (optional as_str fault (get_member name.now (table_view table.now))) }
 {
     match field(table, name) {
         None => Ok(None),
@@ -75,7 +75,7 @@ pub(crate) fn text_if_given<'a>(
 /// The truth value under a name, false if the name is left out; the fault if something else is
 /// there.
 pub(crate) fn truth_at(table: &Table, name: &str, fault: PlanFault) -> Result<bool, PlanFault>
-    ensures { Gives (λ b. b) result (truth_or_false fault (get_member name.now (table_view table.now))) }
+    ensures { Gives (λ b. b) result (field_or false as_bool fault (get_member name.now (table_view table.now))) }
 {
     match field(table, name) {
         None => Ok(false),
@@ -89,26 +89,54 @@ pub(crate) fn truth_at(table: &Table, name: &str, fault: PlanFault) -> Result<bo
 /// The places for the number of keys under a name, 64 if the name is left out; the fault if another
 /// number or type is there.
 pub(crate) fn key_places_at(table: &Table, name: &str, fault: PlanFault) -> Result<usize, PlanFault>
-    ensures places { Gives (λ places. places) result (key_places_or_64 fault (get_member name.now (table_view table.now))) }
+    ensures places { Gives (λ places. places) result (field_or 64 places_in fault (get_member name.now (table_view table.now))) }
     ensures few { IfOk result (λ places. places ≤ 1024) }
 {
     match field(table, name) {
         None => Ok(64),
-        Some(value) => match value.as_integer() {
+        Some(value) => match number_up_to(1_024, value) {
             None => Err(fault),
-            Some(keys) => places_for_keys(keys).ok_or(fault),
+            Some(keys) => Ok((keys + 31) / 32 * 32),
         },
     }
 }
 
-/// The places for so many keys, in whole blocks of 32, if they are from 1 to 1,024.
-fn places_for_keys(keys: i64) -> Option<usize>
-    ensures places { result ≡ places_for_keys keys }
-    ensures few { IfSome result (λ places. places ≤ 1024) }
+/// The whole number of a value, if it is from 1 to `most`.
+fn number_up_to(most: usize, value: &Value) -> Option<usize>
+    ensures number { result ≡ option_and_then (up_to most) (as_integer (view value.now)) }
+    ensures few { IfSome result (λ number. number ≤ most) }
 {
-    match usize::try_from(keys) {
-        Ok(keys) if 1 <= keys && keys <= 1024 => Some((keys + 31) / 32 * 32),
+    match value.as_integer() {
+        None => None,
+        Some(number) => up_to(most, number),
+    }
+}
+
+fn up_to(most: usize, number: i64) -> Option<usize>
+    ensures number { result ≡ up_to most number }
+    ensures few { IfSome result (λ number. number ≤ most) }
+{
+    match usize::try_from(number) {
+        Ok(number) if 1 <= number && number <= most => Some(number),
         _ => None,
+    }
+}
+
+/// How often a test is repeated, as the name says, if it is given; the fault if something else than
+/// a whole number from 1 to 65,535 is there.
+pub(crate) fn repeats_at(
+    table: &Table,
+    name: &str,
+    fault: PlanFault,
+) -> Result<Option<usize>, PlanFault>
+    ensures { Gives (λ times. times) result (optional repeats_in fault (get_member name.now (table_view table.now))) }
+{
+    match field(table, name) {
+        None => Ok(None),
+        Some(value) => match number_up_to(65_535, value) {
+            None => Err(fault),
+            Some(times) => Ok(Some(times)),
+        },
     }
 }
 
@@ -119,7 +147,7 @@ pub(crate) fn texts_at<'a>(
     name: &str,
     fault: PlanFault,
 ) -> Result<Option<Vec<&'a str>>, PlanFault>
-    ensures { Gives (option_map (λ v. map (λ t. t.now) v.items)) result (texts_or_none fault (get_member name.now (table_view table.now))) }
+    ensures { Gives (option_map (λ v. map (λ t. t.now) v.items)) result (optional texts_in fault (get_member name.now (table_view table.now))) }
 {
     match field(table, name) {
         None => Ok(None),
@@ -137,7 +165,7 @@ pub(crate) fn text_lists_at<'a>(
     name: &str,
     fault: PlanFault,
 ) -> Result<Option<Vec<Vec<&'a str>>>, PlanFault>
-    ensures { Gives (option_map lists_view) result (text_lists_or_none fault (get_member name.now (table_view table.now))) }
+    ensures { Gives (option_map lists_view) result (optional (array_of texts_in) fault (get_member name.now (table_view table.now))) }
 {
     match field(table, name) {
         None => Ok(None),
@@ -155,7 +183,7 @@ pub(crate) fn tables_at<'a>(
     name: &str,
     fault: PlanFault,
 ) -> Result<Vec<&'a Table>, PlanFault>
-    ensures { Gives (λ v. map (λ t. table_view t.now) v.items) result (tables_or_none fault (get_member name.now (table_view table.now))) }
+    ensures { Gives (λ v. map (λ t. table_view t.now) v.items) result (field_or [] (array_of as_table) fault (get_member name.now (table_view table.now))) }
 {
     match field(table, name) {
         None => Ok(Vec::new(alloc)),
@@ -181,7 +209,7 @@ fn text_lists_in<'a>(
     alloc: Global,
     value: &'a Value,
 ) -> Result<Option<Vec<Vec<&'a str>>>, PlanFault>
-    ensures { GivesAll (option_map lists_view) result (text_lists_in (view value.now)) }
+    ensures { GivesAll (option_map lists_view) result (array_of texts_in (view value.now)) }
 {
     match value {
         Value::Array(items) => text_lists_of(alloc, items.as_slice()),
@@ -191,7 +219,7 @@ fn text_lists_in<'a>(
 
 /// The tables of a value, if it is an array of tables.
 fn tables_in<'a>(alloc: Global, value: &'a Value) -> Result<Option<Vec<&'a Table>>, PlanFault>
-    ensures { GivesAll (option_map (λ v. map (λ t. table_view t.now) v.items)) result (tables_in (view value.now)) }
+    ensures { GivesAll (option_map (λ v. map (λ t. table_view t.now) v.items)) result (array_of as_table (view value.now)) }
 {
     match value {
         Value::Array(items) => tables_of(alloc, items.as_slice()),
@@ -201,7 +229,7 @@ fn tables_in<'a>(alloc: Global, value: &'a Value) -> Result<Option<Vec<&'a Table
 
 /// The items as texts, if each is one.
 fn texts_of<'a>(alloc: Global, items: &'a [Value]) -> Result<Option<Vec<&'a str>>, PlanFault>
-    ensures { GivesAll (option_map (λ v. map (λ t. t.now) v.items)) result (texts_after [] (items_view items.now)) }
+    ensures { GivesAll (option_map (λ v. map (λ t. t.now) v.items)) result (all_after as_str [] (items_view items.now)) }
 {
     let mut texts = Vec::new(alloc);
     for item in items {
@@ -218,7 +246,7 @@ fn text_lists_of<'a>(
     alloc: Global,
     items: &'a [Value],
 ) -> Result<Option<Vec<Vec<&'a str>>>, PlanFault>
-    ensures { GivesAll (option_map lists_view) result (text_lists_after [] (items_view items.now)) }
+    ensures { GivesAll (option_map lists_view) result (all_after texts_in [] (items_view items.now)) }
 {
     let mut lists = Vec::new(alloc);
     for item in items {
@@ -232,7 +260,7 @@ fn text_lists_of<'a>(
 
 /// The items as tables, if each is one.
 fn tables_of<'a>(alloc: Global, items: &'a [Value]) -> Result<Option<Vec<&'a Table>>, PlanFault>
-    ensures { GivesAll (option_map (λ v. map (λ t. table_view t.now) v.items)) result (tables_after [] (items_view items.now)) }
+    ensures { GivesAll (option_map (λ v. map (λ t. table_view t.now) v.items)) result (all_after as_table [] (items_view items.now)) }
 {
     let mut tables = Vec::new(alloc);
     for item in items {

@@ -1,11 +1,12 @@
 //! The keys of a plan.
-ghost use Rattle.std.specs.Prelude.{◌≡◌, [], ◌++◌, ◌∷◌, All, map, option_map, IfOk, string_bytes};
+ghost use Rattle.std.specs.Prelude.{◌≡◌, ◌≢◌, [], ◌++◌, ◌∷◌, All, map, option_map, IfErr, IfOk, string_bytes};
 ghost use Rattle.toml.specs.View.{table_view};
 ghost use Rattle.ext_plan.specs.Plans.{texts_view, key_view, keys_view};
 ghost use Rattle.ext_plan.specs.StoreKeys.{HasParts};
 ghost use Rattle.ext_plan.specs.Labels.{is_word, labels_of};
 ghost use Rattle.ext_plan_reading.specs.Faults.{Gives};
 ghost use Rattle.ext_plan_reading.specs.KeyReading.{has_parts, key_at, keys_after};
+ghost use Rattle.ext_plan_reading.specs.declared.fault.PlanFault.TheVariants.{Memory};
 
 use crate::fault::{Place, PlanFault};
 use crate::fields::{has_only, text_at, text_if_given, texts_at};
@@ -41,7 +42,7 @@ pub(crate) fn keys_of<'a>(alloc: Global, tables: &[&'a Table]) -> Result<Keys<'a
 
 /// The key in a table, whose label it adds to the labels. `number` is the key's index in the plan.
 #[tactic(auto, unfolding(crate::specs::KeyReading::key_at))]
-fn key_of<'a>(
+pub(crate) fn key_of<'a>(
     alloc: Global,
     labels: &mut Labels<'a>,
     number: usize,
@@ -49,6 +50,7 @@ fn key_of<'a>(
 ) -> Result<PlanKey, PlanFault>
     ensures exact { Gives key_view result (key_at number labels.old (table_view table.now)) }
     ensures labels { IfOk result (λ key. labels.new ≡ labels.old ++ string_bytes key.label ∷ []) }
+    ensures unchanged { IfErr result (λ e. e ≢ Memory → labels.new ≡ labels.old) }
     ensures parts { IfOk result (λ key. HasParts (key_view key)) }
 {
     if !has_only(&KEY_FIELDS, table) {

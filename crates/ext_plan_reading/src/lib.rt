@@ -1,8 +1,9 @@
 //! Reads plans of test runs from TOML documents, or reports the first fault of the text.
 //!
 //! `read_plan` and `read_plan_within` read, `Plan` is the result, and `PlanFault` is why a text was
-//! refused. `explain` explains such a fault, and `explain_id` the fault of an id. What a plan is
-//! stands in `ext_plan`, whose types of a plan's data this crate exports too.
+//! refused. `all_faults` finds all faults of a text, `explain` explains one, and `explain_id` the
+//! fault of an id. What a plan is stands in `ext_plan`, whose types of a plan's data this crate
+//! exports too.
 //!
 //! JUnit has no plans.
 #![tactic(auto)]
@@ -18,14 +19,17 @@ mod locks;
 mod modes;
 mod nodes;
 mod read;
+mod repeats;
+mod stages;
 mod steps;
+mod top;
 
 pub use explaining::{explain, explain_id};
 pub use ext_plan::{LabelNo, Plan, PlanKey, PlanLock, PlanNode, Step, StepKey};
 pub use fault::{Place, PlanFault};
-pub(crate) use fields::{TOP_FIELDS, has_only, key_places_at, tables_at, truth_at};
 pub(crate) use keys::{Keys, keys_of};
 pub(crate) use labels::Labels;
 pub(crate) use locks::locks_are_few;
 pub(crate) use nodes::nodes_of_tables;
 pub use read::{read_plan, read_plan_within};
+pub use stages::all_faults;

@@ -1,21 +1,22 @@
 //! The nodes of a plan.
-ghost use Rattle.std.specs.Prelude.{◌≡◌, ◌≤◌, [], length, map, option_map, IfOk};
+ghost use Rattle.std.specs.Prelude.{◌≡◌, ◌≤◌, [], All, length, map, option_map, IfOk};
 ghost use Rattle.toml.specs.View.{table_view};
 ghost use Rattle.ext_ids.specs.Reading.{read_id};
 ghost use Rattle.ext_model.specs.Sizes.{most_contexts};
 ghost use Rattle.ext_tree.specs.Decided.{is_tree};
 ghost use Rattle.ext_plan.specs.Plans.{node_view, nodes_view, steps_view};
-ghost use Rattle.ext_plan_reading.specs.InnerSketches.{sketch_view};
+ghost use Rattle.ext_plan_reading.specs.InnerSketches.{HasRoom, nodes_of_sketches, sketch_view};
 ghost use Rattle.ext_plan_reading.specs.Faults.{check, Gives};
 ghost use Rattle.ext_plan_reading.specs.NodeReading.{id_or, sketch_at, sketches_after, ids_of, is_bad_test, test_at, node_at, nodes_after, nodes_of_tables};
 
 use crate::callbacks::CallbackSketch;
 use crate::depths::least_test_depth;
 use crate::fault::{Place, PlanFault};
-use crate::fields::{has_only, text_at, text_if_given, texts_at, truth_at};
+use crate::fields::{has_only, repeats_at, text_at, text_if_given, texts_at, truth_at};
 use crate::labels::Labels;
 use crate::locks::locks_of;
 use crate::modes::mode_at;
+use crate::repeats::with_repetitions;
 use crate::steps::steps_of;
 use ext_ids::{IdFault, UniqueId};
 use ext_model::Size;
@@ -25,9 +26,10 @@ use std::alloc::{AllocError, Global};
 use toml::Table;
 
 /// The names of the fields of a node.
-pub(crate) const NODE_FIELDS: [&str; 9] = [
+pub(crate) const NODE_FIELDS: [&str; 10] = [
     "id",
     "test",
+    "repeat",
     "mode",
     "isolated",
     "locks",
@@ -38,15 +40,17 @@ pub(crate) const NODE_FIELDS: [&str; 9] = [
 ];
 
 /// A node after the first pass: its fields have their types and its id is valid; its mode, locks
-/// and steps are still texts.
+/// and steps are still texts. `table` is the number of the table that it comes from.
 #[derive(Drop)]
 pub(crate) struct NodeSketch<'a> {
+    pub table: usize,
     pub id: UniqueId,
     pub mode: Option<&'a str>,
-    isolated: bool,
+    pub isolated: bool,
     pub locks: Option<Vec<&'a str>>,
     pub callbacks: CallbackSketch<'a>,
     pub test: Option<Vec<&'a str>>,
+    pub repeat: Option<usize>,
 }
 
 /// The nodes in the tables, in order, of a plan of this size.
@@ -61,8 +65,22 @@ pub(crate) fn nodes_of_tables(
     ensures few { IfOk result (λ v. length v.items ≤ most_contexts size) }
 {
     let sketches = sketches_of(alloc, tables)?;
-    let tree = tree_of(alloc, size, sketches.as_slice())?;
-    nodes_of(alloc, labels, &tree, sketches.as_slice())
+    let sketches = with_repetitions(alloc, size.contexts(), sketches)?;
+    nodes_of(alloc, size, labels, sketches.as_slice())
+}
+
+/// The nodes of these sketches, in order, of a plan of this size.
+fn nodes_of(
+    alloc: Global,
+    size: Size,
+    labels: &Labels<'_>,
+    sketches: &[NodeSketch<'_>],
+) -> Result<Vec<PlanNode>, PlanFault>
+    ensures exact { Gives (λ v. nodes_view v.items) result (nodes_of_sketches size labels.now (map sketch_view sketches.now)) }
+    ensures few { IfOk result (λ v. length v.items ≤ most_contexts size) }
+{
+    let tree = tree_of(alloc, size, sketches)?;
+    nodes_in_order(alloc, labels, &tree, sketches)
 }
 
 /// The first pass over the tables of the nodes, in order.
@@ -70,7 +88,8 @@ pub(crate) fn sketches_of<'a>(
     alloc: Global,
     tables: &[&'a Table],
 ) -> Result<Vec<NodeSketch<'a>>, PlanFault>
-    ensures { Gives (λ v. map sketch_view v.items) result (sketches_after [] (map (λ t. table_view t.now) tables.now)) }
+    ensures exact { Gives (λ v. map sketch_view v.items) result (sketches_after [] (map (λ t. table_view t.now) tables.now)) }
+    ensures room { IfOk result (λ v. All HasRoom (map sketch_view v.items)) }
 {
     let mut sketches = Vec::new(alloc);
     for table in tables {
@@ -80,9 +99,13 @@ pub(crate) fn sketches_of<'a>(
     Ok(sketches)
 }
 
-/// The first pass over a node's table. `node` is the node's index in the plan.
+/// The first pass over a node's table. `node` is the table's index in the plan.
 #[tactic(auto, unfolding(crate::specs::NodeReading::sketch_at))]
-fn sketch_of<'a>(alloc: Global, node: usize, table: &'a Table) -> Result<NodeSketch<'a>, PlanFault>
+pub(crate) fn sketch_of<'a>(
+    alloc: Global,
+    node: usize,
+    table: &'a Table,
+) -> Result<NodeSketch<'a>, PlanFault>
     ensures { Gives sketch_view result (sketch_at node (table_view table.now)) }
 {
     if !has_only(&NODE_FIELDS, table) {
@@ -97,14 +120,23 @@ fn sketch_of<'a>(alloc: Global, node: usize, table: &'a Table) -> Result<NodeSke
     let locks = texts_at(alloc, table, "locks", fault)?;
     let callbacks = CallbackSketch::of(alloc, node, table)?;
     let test = texts_at(alloc, table, "test", fault)?;
+    let repeat = repeats_at(table, "repeat", fault)?;
+    if repeat.is_some() && !test.is_some() {
+        return Err(fault);
+    }
     let id = id_of(alloc, node, text)?;
+    if repeat.is_some() && id.len() >= 16 {
+        return Err(PlanFault::BadId(node));
+    }
     Ok(NodeSketch {
+        table: node,
         id,
         mode,
         isolated,
         locks,
         callbacks,
         test,
+        repeat,
     })
 }
 
@@ -153,7 +185,7 @@ pub(crate) fn ids_of(
 }
 
 /// The second pass over the nodes, in order. `tree` has to be the tree of their ids.
-fn nodes_of(
+fn nodes_in_order(
     alloc: Global,
     labels: &Labels<'_>,
     tree: &Tree,
@@ -168,7 +200,7 @@ fn nodes_of(
         let number = nodes.len();
         let is_parent = !tree.children(number).is_empty();
         let least = least_test_depth(tree, sketches, number);
-        let node = node_of(alloc, labels, number, is_parent, least, sketch)?;
+        let node = node_of(alloc, labels, is_parent, least, sketch)?;
         nodes.push(node)?;
     }
     Ok(nodes)
@@ -178,16 +210,16 @@ fn nodes_of(
 /// it. A test that has children or callbacks round them is refused before its mode and locks are
 /// read, and these before its steps.
 #[tactic(auto, unfolding(crate::specs::NodeReading::node_at))]
-fn node_of(
+pub(crate) fn node_of(
     alloc: Global,
     labels: &Labels<'_>,
-    node: usize,
     is_parent: bool,
     least: usize,
     sketch: &NodeSketch<'_>,
 ) -> Result<PlanNode, PlanFault>
-    ensures { Gives node_view result (node_at labels.now node is_parent least (sketch_view sketch.now)) }
+    ensures { Gives node_view result (node_at labels.now is_parent least (sketch_view sketch.now)) }
 {
+    let node = sketch.table;
     if is_bad_test(is_parent, sketch) {
         return Err(PlanFault::BadTest(node));
     }

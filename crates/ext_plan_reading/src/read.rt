@@ -7,10 +7,8 @@ ghost use Rattle.ext_plan.specs.ReadPlans.{IsReadPlan};
 ghost use Rattle.ext_plan_reading.specs.Faults.{Gives};
 ghost use Rattle.ext_plan_reading.specs.Reading.{plan_of, plan_of_tables, plan_of_text};
 
-use crate::{
-    Place, PlanFault, TOP_FIELDS, has_only, key_places_at, keys_of, locks_are_few, nodes_of_tables,
-    tables_at, truth_at,
-};
+use crate::top::top_of;
+use crate::{PlanFault, keys_of, locks_are_few, nodes_of_tables};
 use ext_model::Size;
 use ext_plan::{Plan, keys_are_few};
 use std::alloc::Global;
@@ -26,14 +24,20 @@ use toml::Table;
 /// Each `key` has a `label`. It may have a `name`, which replaces the label, and a `namespace`, an
 /// array of texts with at least one. No more keys are different than steps can name.
 ///
-/// Each `node` has an `id` and, if it is a test, `test`, an array of steps. It may have `mode`,
-/// which is `concurrent` or by default `same_thread`; `isolated`, true or by default false;
+/// Each `node` has an `id` and, if it is a test, `test`, an array of steps. It may have `repeat`, as
+/// below; `mode`, which is `concurrent` or by default `same_thread`; `isolated`, true or by default false;
 /// `locks`, an array of texts `READ NAME` or `READ_WRITE NAME`, with at most 63 different names in
 /// the plan; and `before_all`, `after_all`, `before_each` and `after_each`, each an array of at
 /// most 1,048,576 callbacks, which are arrays of steps. The ids form a tree
 /// (`ext_tree::Tree::build`): the first has one segment, and each other one comes after its parent.
-/// A test has no children, and neither `before_all` nor `after_all`, even as an empty array. A step
-/// is one of
+/// A test has no children, and neither `before_all` nor `after_all`, even as an empty array.
+///
+/// A test may have `repeat`, a number N from 1 to 65,535. Then it is read as a container that has all
+/// of its table but the steps, and behind it as N tests with these steps and its mode. Their ids are
+/// its own with `[test-template-invocation:#1]` and so on behind it, as those of JUnit's
+/// `@RepeatedTest`.
+///
+/// A step is one of
 ///
 /// ```text
 /// none KEY      put KEY TEXT      want KEY TEXT       computefail KEY TEXT      fail TEXT
@@ -83,31 +87,24 @@ pub fn read_plan_within(alloc: Global, text: &str, size: Size) -> Result<Plan, P
     }
 }
 
-#[tactic(auto, unfolding(crate::specs::Reading::plan_of))]
 fn plan_of(alloc: Global, top: &Table, size: Size) -> Result<Plan, PlanFault>
     ensures { Gives plan_view result (plan_of size (table_view top.now)) }
 {
-    if !has_only(&TOP_FIELDS, top) {
-        return Err(PlanFault::UnknownField(Place::Whole));
-    }
-    let keep_faults = truth_at(top, "keep_faults", PlanFault::BadField(Place::Whole))?;
-    let key_places = key_places_at(top, "keys", PlanFault::BadField(Place::Whole))?;
-    let key_tables = tables_at(alloc, top, "key", PlanFault::BadField(Place::Whole))?;
-    let node_tables = tables_at(alloc, top, "node", PlanFault::BadField(Place::Whole))?;
+    let fields = top_of(alloc, top)?;
     plan_of_tables(
         alloc,
         size,
-        keep_faults,
-        key_places,
-        key_tables.as_slice(),
-        node_tables.as_slice(),
+        fields.keep_faults,
+        fields.key_places,
+        fields.key_tables.as_slice(),
+        fields.node_tables.as_slice(),
     )
 }
 
 /// The plan of this size with the keys and nodes in these tables, with places for at most 1,024
 /// keys.
 #[tactic(auto, unfolding(crate::specs::Reading::plan_of_tables))]
-fn plan_of_tables(
+pub(crate) fn plan_of_tables(
     alloc: Global,
     size: Size,
     keep_faults: bool,

@@ -6,3 +6,4 @@ pub mod IdText
 pub mod Requests
 pub mod InnerFailures
 pub mod InnerOutputs
+pub mod PlanFaults

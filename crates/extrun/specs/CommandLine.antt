@@ -73,7 +73,8 @@ pub record IsRun (shape : Shape) : Type 0 where
 
 abbrev pub check : Shape
 check = command (codes "check")
-    (plan_file ∷ flag (codes "tree") ∷ flag (codes "races") ∷ flag (codes "large") ∷ flag (codes "explain") ∷ [])
+    (plan_file ∷ flag (codes "tree") ∷ flag (codes "races") ∷ flag (codes "all")
+    ∷ flag (codes "large") ∷ flag (codes "explain") ∷ [])
 
 abbrev pub id : Shape
 id = command (codes "id") (id_texts ∷ flag (codes "make") ∷ flag (codes "explain") ∷ [])

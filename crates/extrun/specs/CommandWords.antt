@@ -1,6 +1,6 @@
 -- What the words of a command line ask for, by the rows that clap found: the texts under the name of each option. Texts
 -- are lists of bytes.
-use Rattle.std.specs.Prelude.{◌≡◌, ◌≢◌, ◌↔◌, ◌<◌, ◌&&◌, ℕ, Bool, true, false, codes, List, [], ◌∷◌, map, Option, Some, None, IsTrue, if◌then◌else◌, option_map, string_bytes, unwrap_or}
+use Rattle.std.specs.Prelude.{◌≡◌, ◌≢◌, ◌↔◌, ◌<◌, ◌&&◌, ◌||◌, ℕ, Bool, true, false, codes, List, [], ◌∷◌, map, Option, Some, None, IsTrue, if◌then◌else◌, option_map, string_bytes, unwrap_or}
 use Rattle.std.specs.Str.Parse.{IsNumeral, digits_value, without_leading_plus}
 use Rattle.clap.specs.Walk.{Row, Text, all_of, first_of, one_of}
 use Rattle.ext_model.specs.declared.size.Size.{Size}
@@ -62,14 +62,20 @@ pub record AsksRunBy (rows : List Row) (options : Options) (progress failures : 
 abbrev pub AsksRun : List Row → Task → Type 0
 AsksRun rows (tasks.Run options progress failures) = AsksRunBy rows options progress failures
 AsksRun rows (tasks.Check size) = ⊥
+AsksRun rows (tasks.CheckAll size) = ⊥
 AsksRun rows (tasks.Draw size) = ⊥
 AsksRun rows (tasks.CheckRaces size) = ⊥
 
--- What `check` does by two of its flags: list the races of a plan of this size, draw it, or check it. The two flags
--- exclude each other.
-abbrev pub check_as : Bool → Bool → Size → Option Task
-check_as races tree size =
+-- To check a plan of this size with all faults, unless another flag is set.
+abbrev pub checks_all : Bool → Size → Option Task
+checks_all other size = if other then None else Some (tasks.CheckAll size)
+
+-- What `check` does by three of its flags: list the races of a plan of this size, draw it, or check it, with all faults
+-- or the first. Each flag excludes the others.
+abbrev pub check_as : Bool → Bool → Bool → Size → Option Task
+check_as races tree all size =
     if races && tree then None
+    else if all then checks_all (races || tree) size
     else if races then Some (tasks.CheckRaces size)
     else if tree then Some (tasks.Draw size)
     else Some (tasks.Check size)
@@ -91,15 +97,18 @@ abbrev pub AsksTask : List Row → Option Task → Request → Type 0
 AsksTask rows (Some task) request = AsksOfPlan rows (λ asked. asked ≡ task) request
 AsksTask rows None request = request ≡ requests.Refused
 
--- To list the plan's races if `--races` is set, to draw it if `--tree` is set, and otherwise to check it.
+-- To list the plan's races if `--races` is set, to draw it if `--tree` is set, and otherwise to check it, with all
+-- faults if `--all` is set.
 pub record AsksCheck (rows : List Row) (request : Request) : Type 0 where
   pub races : Bool
   pub tree : Bool
+  pub all : Bool
   pub size : Size
   pub told : IsFlag (one_of (codes "races") rows) races
   pub drawn : IsFlag (one_of (codes "tree") rows) tree
+  pub whole : IsFlag (one_of (codes "all") rows) all
   pub asked : IsSize rows size
-  pub asks : AsksTask rows (check_as races tree size) request
+  pub asks : AsksTask rows (check_as races tree all size) request
 
 -- ---- ids
 

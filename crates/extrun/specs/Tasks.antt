@@ -27,6 +27,8 @@ IsDone (tasks.Run options progress failures) input summary Written =
     AsksLanes options → IsReported options input summary Written
 IsDone (tasks.Check size) input summary Written = (line : List ℕ) × IsCountsOf (plan_of_input size input) line
     × Written line
+IsDone (tasks.CheckAll size) input summary Written = (line : List ℕ) × IsCountsOf (plan_of_input size input) line
+    × Written line
 IsDone (tasks.Draw size) input summary Written = (text : List ℕ) × IsTextOf drawing_of (plan_of_input size input) text
     × Written text
 IsDone (tasks.CheckRaces size) input summary Written = (text : List ℕ)
@@ -41,5 +43,6 @@ IsRefused options input fault = RefusedAs options fault (plan_of_input options.s
 abbrev pub IsUndone : Task → List ℕ → RunFault → Type 0
 IsUndone (tasks.Run options progress failures) input fault = AsksLanes options → IsRefused options input fault
 IsUndone (tasks.Check size) input fault = RefusedUnrun fault (plan_of_input size input)
+IsUndone (tasks.CheckAll size) input fault = RefusedUnrun fault (plan_of_input size input)
 IsUndone (tasks.Draw size) input fault = RefusedUnrun fault (plan_of_input size input)
 IsUndone (tasks.CheckRaces size) input fault = RefusedUnrun fault (plan_of_input size input)

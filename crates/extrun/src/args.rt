@@ -120,6 +120,16 @@ pub(crate) fn races_flag<'a>(alloc: Global) -> Arg<'a>
         .action(ArgAction::SetTrue)
 }
 
+pub(crate) fn all_flag<'a>(alloc: Global) -> Arg<'a>
+    ensures rule { rule_of result ≡ line.flag (codes "all") }
+    ensures local { result.global ≡ false }
+{
+    Arg::new(alloc, "all")
+        .long("all")
+        .help("Says all faults of a plan that is refused, up to 20, and not the first alone")
+        .action(ArgAction::SetTrue)
+}
+
 /// The flag `--large` of `run` and `check`.
 pub(crate) fn large_flag<'a>(alloc: Global) -> Arg<'a>
     ensures rule { rule_of result ≡ line.flag (codes "large") }

@@ -8,11 +8,12 @@ ghost use Rattle.clap.specs.Simple.{subcommand_rows_of};
 ghost use Rattle.clap.specs.Walk.{rows_of};
 ghost use Rattle.extrun.specs.CommandLine as line;
 ghost use Rattle.extrun.specs.CommandLine.{AsksBy, AsksNothing, IsCommandLine, IsRun};
-ghost use Rattle.extrun.specs.CommandWords.{AsksCheck, AsksCommand, AsksFor, AsksId, AsksOfPlan, AsksOfTexts, AsksRun, IsFlag, IsLaneCount, IsMakingOf, IsSize, check_as, form_of, size_of};
+ghost use Rattle.extrun.specs.CommandWords.{AsksCheck, AsksCommand, AsksFor, AsksId, AsksOfPlan, AsksOfTexts, AsksRun, IsFlag, IsLaneCount, IsMakingOf, IsSize, check_as, checks_all, form_of, size_of};
 
 use crate::args::{
-    draw_flag, explain_flag, explain_id_flag, failures_flag, id_texts, lanes_option, large_flag,
-    make_flag, plan_file, progress_flag, races_flag, report_option, report_tree_flag, store_option,
+    all_flag, draw_flag, explain_flag, explain_id_flag, failures_flag, id_texts, lanes_option,
+    large_flag, make_flag, plan_file, progress_flag, races_flag, report_option, report_tree_flag,
+    store_option,
 };
 use crate::help::{AFTER_HELP, VERSION};
 use clap::error::ErrorKind;
@@ -66,6 +67,8 @@ pub(crate) enum Task {
     },
     /// Writes how many nodes, tests and keys it has, if it is no larger than this.
     Check(Size),
+    /// The same, but if it is refused all its faults are printed.
+    CheckAll(Size),
     /// Draws its nodes as a tree, if it is no larger than this.
     Draw(Size),
     /// Writes its races, if it is no larger than this.
@@ -77,7 +80,8 @@ impl Task {
     pub(crate) fn size(self) -> Size {
         match self {
             Task::Run { options, .. } => options.size,
-            Task::Check(size) | Task::Draw(size) | Task::CheckRaces(size) => size,
+            Task::Check(size) | Task::CheckAll(size) => size,
+            Task::Draw(size) | Task::CheckRaces(size) => size,
         }
     }
 }
@@ -86,7 +90,7 @@ impl Task {
 ///
 /// - `run`, with `--lanes` of 1 to 16, `--store plain` or `cells`, `--report text`, `json` or
 ///   `junit` or else `--tree`, `--progress` and `--failures`;
-/// - `check`, with `--races` or `--tree`;
+/// - `check`, with `--races`, `--tree` or `--all`;
 /// - `id`, with one text and `--explain`, or with `--make` and parts.
 ///
 /// `run` and `check` take a file, `--large` and `--explain`. No word at all is `run` on 4 lanes
@@ -233,19 +237,24 @@ fn check_request<R: AllocGlobal + Eprint>(
 {
     let races = is_set(words, "races");
     let tree = is_set(words, "tree");
-    match check_as(races, tree, size_in(words)) {
+    let all = is_set(words, "all");
+    match check_as(races, tree, all, size_in(words)) {
         Some(task) => plan_request(rt.alloc(), task, words),
-        None => Ok(mistake(rt, "the argument '--tree' cannot be used with '--races'")),
+        None => Ok(mistake(rt, clash_of(races, tree))),
     }
 }
 
 /// The task of `check` for a plan of this size: with `--races` to write the plan's races, with
-/// `--tree` to draw it, else to count. The two flags exclude each other.
-fn check_as(races: bool, tree: bool, size: Size) -> Option<Task>
-    ensures { result ≡ check_as races tree size }
+/// `--tree` to draw it, else to count, with `--all` to print all faults. Each flag excludes the
+/// others.
+fn check_as(races: bool, tree: bool, all: bool, size: Size) -> Option<Task>
+    ensures { result ≡ check_as races tree all size }
 {
     if races && tree {
         return None;
+    }
+    if all {
+        return checks_all(races || tree, size);
     }
     if races {
         return Some(Task::CheckRaces(size));
@@ -254,6 +263,29 @@ fn check_as(races: bool, tree: bool, size: Size) -> Option<Task>
         Some(Task::Draw(size))
     } else {
         Some(Task::Check(size))
+    }
+}
+
+/// The task of `check --all`, unless there is another flag.
+fn checks_all(other: bool, size: Size) -> Option<Task>
+    ensures { result ≡ checks_all other size }
+{
+    if other {
+        None
+    } else {
+        Some(Task::CheckAll(size))
+    }
+}
+
+/// Says which two flags of `check` exclude each other, where `--all` is one of them unless the
+/// others are.
+fn clash_of(races: bool, tree: bool) -> &'static str {
+    if races && tree {
+        "the argument '--tree' cannot be used with '--races'"
+    } else if tree {
+        "the argument '--all' cannot be used with '--tree'"
+    } else {
+        "the argument '--all' cannot be used with '--races'"
     }
 }
 
@@ -466,6 +498,7 @@ fn check_command<'a>(alloc: Global) -> Result<Command<'a>, AllocError>
         .arg(plan_file(alloc))?
         .arg(draw_flag(alloc))?
         .arg(races_flag(alloc))?
+        .arg(all_flag(alloc))?
         .arg(large_flag(alloc))?
         .arg(explain_flag(alloc))
 }

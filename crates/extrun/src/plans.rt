@@ -6,10 +6,11 @@ ghost use Rattle.extrun.specs.Tasks.{IsDone, IsUndone};
 use crate::command::Task;
 use crate::failing::run_plan;
 use crate::progress::run_told;
+use crate::refusing::{explain_fault, tell_faults};
 use crate::telling::tell;
 use ext_run::{
-    NoListener, Options, PlanFault, RequestFault, RunFault, Size, Summary, check, check_races,
-    draw, explain, explain_keys, read_input,
+    NoListener, Options, RequestFault, RunFault, Size, Summary, check, check_races, draw,
+    explain_keys, read_input,
 };
 use std::fs;
 use std::io::{Input, Write};
@@ -70,7 +71,14 @@ where
 {
     let runs = matches!(task, Task::Run { .. });
     let size = task.size();
-    let outcome = told(rt, outcome_of_task(rt, input, writer, task));
+    let done = outcome_of_task(rt, input, writer, task);
+    if let Task::CheckAll(_) = task
+        && let Err(RunFault::Plan(fault)) = done
+    {
+        tell_faults(rt, input, size, fault, explained);
+        return Err(RequestFault::Run(RunFault::Plan(fault)));
+    }
+    let outcome = told(rt, done);
     if explained {
         match outcome {
             Err(RequestFault::Run(RunFault::Plan(fault))) => explain_fault(rt, input, size, fault),
@@ -79,13 +87,6 @@ where
         }
     }
     outcome
-}
-
-/// Prints what a fault of the plan in these bytes means.
-fn explain_fault(rt: &(impl AllocGlobal + Eprint), input: &[u8], size: Size, fault: PlanFault) {
-    if let Ok(line) = explain(rt.alloc(), input, size, fault) {
-        let _ = eprintln!(rt; "{}", line.as_str());
-    }
 }
 
 /// Prints why keys of the plan in these bytes have no place, if there are any.
@@ -129,7 +130,7 @@ fn outcome_of_task<R: Threads + Wait + Sync + Clock + AllocGlobal + Eprint, W: W
             }
             run_plan(rt, input, writer, options, &NoListener, failures)
         }
-        Task::Check(size) => {
+        Task::Check(size) | Task::CheckAll(size) => {
             check(rt.alloc(), &mut reader, writer, size)?;
             Ok(Summary::done())
         }

@@ -5,6 +5,8 @@
 #![tactic(auto)]
 
 #[cfg(test)]
+mod all_faults;
+#[cfg(test)]
 mod callbacks;
 #[cfg(test)]
 mod devices;
@@ -36,6 +38,8 @@ mod plans;
 mod races;
 #[cfg(test)]
 mod reading;
+#[cfg(test)]
+mod repeats;
 #[cfg(test)]
 mod reports;
 #[cfg(test)]

@@ -4,6 +4,8 @@
 #![tactic(auto)]
 
 #[cfg(test)]
+mod crowd;
+#[cfg(test)]
 mod gates;
 #[cfg(test)]
 mod held;

@@ -32,7 +32,7 @@ struct Cases<'a> {
 }
 
 /// The context above a test: that of its class.
-fn class_of<V>(store: &Store<V>, node: ContextNo) -> ContextNo
+pub(crate) fn class_of<V>(store: &Store<V>, node: ContextNo) -> ContextNo
     requires { node < length store.now.tree }
     ensures { result < length store.now.tree }
 {

@@ -29,10 +29,10 @@ struct Race {
 }
 
 /// What became of a close: how many values were closed, or its closer and why none was.
-type Closed = Result<u32, (Closer, CloseFault)>;
+pub(crate) type Closed = Result<u32, (Closer, CloseFault)>;
 
 /// Closes the class by this lane alone.
-fn close_alone(
+pub(crate) fn close_alone(
     alloc: Global,
     store: &Store<Letter>,
     closer: Closer,
@@ -175,7 +175,13 @@ fn settle<R: Abort>(
 }
 
 /// Has the lane name so many keys.
-fn name<R: Abort>(rt: &R, alloc: Global, store: &Store<Letter>, lane: &mut Lane<Letter>, count: u64)
+pub(crate) fn name<R: Abort>(
+    rt: &R,
+    alloc: Global,
+    store: &Store<Letter>,
+    lane: &mut Lane<Letter>,
+    count: u64,
+)
     requires { IsLaneOf store.now.id lane.old }
     ensures { IsLaneOf store.now.id lane.new }
 {

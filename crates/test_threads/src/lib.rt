@@ -6,6 +6,8 @@ mod calls;
 #[cfg(test)]
 mod closing;
 #[cfg(test)]
+mod ending;
+#[cfg(test)]
 mod failing;
 #[cfg(test)]
 mod gates;

@@ -27,7 +27,7 @@ const PUTS: u32 = 4_095;
 fn contexts(alloc: Global, case: Case) -> Option<Tree> {
     match case {
         Case::GetRoot16 => chain(alloc, 15),
-        Case::GetRootNumbered(classes) => wide(alloc, classes),
+        Case::GetRootNumbered(classes, _) => wide(alloc, classes),
         _ => chain(alloc, 2),
     }
 }
@@ -190,7 +190,7 @@ fn put_first(store: &Store<Payload>, lane: Lane<Payload>, job: Job<'_>) -> Resul
     let stored = match job.case {
         Case::GetAbsent3 => true,
         Case::GetOwn3 | Case::PutOver => put_one(store, &mut lane, deepest, job.key, 1),
-        Case::GetRootNumbered(_) => {
+        Case::GetRootNumbered(..) => {
             put_one(store, &mut lane, 0, job.key, 1) && put_in_each(store, &mut lane, job.other)
         }
         _ => put_one(store, &mut lane, 0, job.key, 1),
@@ -234,7 +234,7 @@ fn operate(
         Case::GetBesideSame if writes => put_over(store, lane, 0, key, 60_000),
         Case::GetRoot3Numbered => look_up_numbered(store, lane, deepest, key, LOOKS, false),
         Case::GetRoot3Shown => look_up_numbered(store, lane, deepest, key, LOOKS, true),
-        Case::GetRootNumbered(_) => look_up_in_turn(store, lane, key, 10 * LOOKS),
+        Case::GetRootNumbered(_, last) => look_up_in_turn(store, lane, key, last, 10 * LOOKS),
         Case::GetAbsent3 => look_up(store, lane, deepest, key, LOOKS, false),
         Case::PutOver => put_over(store, lane, deepest, key, PUTS),
         Case::PutRemove => put_and_remove(store, lane, deepest, key, PUTS),

@@ -14,9 +14,9 @@ pub(crate) enum Case {
     GetRoot3Numbered,
     /// The same, and the value that is found is shown.
     GetRoot3Shown,
-    /// A look-up of a value at the root by the key's number, from each context in turn of an engine
-    /// with so many classes, in all of which a value stands under another key.
-    GetRootNumbered(u32),
+    /// A look-up of a value at the root by the key's number, in an engine with so many classes, from
+    /// so many of its last contexts in turn. In all contexts a value stands under another key.
+    GetRootNumbered(u32, usize),
     /// A look-up that finds nothing in three contexts.
     GetAbsent3,
     /// A value kept and put over one that stands.
@@ -46,14 +46,21 @@ pub(crate) enum Case {
 }
 
 /// All cases under their words of the command line, in the order of the table.
-pub(crate) const CASES: [(&str, Case); 25] = [
+pub(crate) const CASES: [(&str, Case); 26] = [
     ("get-own-3", Case::GetOwn3),
     ("get-root-3", Case::GetRoot3),
     ("get-root-16", Case::GetRoot16),
     ("get-root-3-numbered", Case::GetRoot3Numbered),
     ("get-root-3-shown", Case::GetRoot3Shown),
-    ("get-root-numbered-256", Case::GetRootNumbered(255)),
-    ("get-root-numbered-65536", Case::GetRootNumbered(65_535)),
+    ("get-root-numbered-256", Case::GetRootNumbered(255, 256)),
+    (
+        "get-root-numbered-256-of-65536",
+        Case::GetRootNumbered(65_535, 256),
+    ),
+    (
+        "get-root-numbered-65536",
+        Case::GetRootNumbered(65_535, 65_536),
+    ),
     ("get-absent-3", Case::GetAbsent3),
     ("put-over", Case::PutOver),
     ("put-remove", Case::PutRemove),

@@ -20,9 +20,10 @@ on THREADS (1 to 16) lanes, and an operation is a test; in open-tree-255 what su
 is opened, which is the operation. Of these the processor time is that of all threads.
 
 Cases: get-own-3 get-root-3 get-root-16 get-root-3-numbered get-root-3-shown get-root-numbered-256
-get-root-numbered-65536 get-absent-3 put-over put-remove compute-fresh-and-close open-256x16
-open-65536x16 name-new close-256 tree-1 tree-16 tree-255 tree-4095 tree-65535 tree-255-busy
-open-tree-255 get-root-3-beside-other get-root-3-beside-same compute-hot
+get-root-numbered-256-of-65536 get-root-numbered-65536 get-absent-3 put-over put-remove
+compute-fresh-and-close open-256x16 open-65536x16 name-new close-256 tree-1 tree-16 tree-255
+tree-4095 tree-65535 tree-255-busy open-tree-255 get-root-3-beside-other get-root-3-beside-same
+compute-hot
 ";
 
 /// What the words ask for.

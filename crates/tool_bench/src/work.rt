@@ -33,12 +33,13 @@ pub(crate) fn look_up_numbered(
     counted(right, times)
 }
 
-/// Looks the key up by its number so often, from each context in turn. Each answer is that a value
-/// is there.
+/// Looks the key up by its number so often, from so many of the last contexts in turn. Each answer
+/// is that a value is there.
 pub(crate) fn look_up_in_turn(
     store: &Store<Payload>,
     lane: &mut Lane<Payload>,
     key: &Key,
+    contexts: usize,
     times: u32,
 ) -> Result<u64, BenchFault>
     requires lane { IsLaneOf store.now.id lane.old }
@@ -48,11 +49,12 @@ pub(crate) fn look_up_in_turn(
         return Err(BenchFault::Answer);
     };
     let last = store.tree().len() - 1;
+    let first = last.saturating_sub(contexts.saturating_sub(1));
     let (mut right, mut context) = (true, last);
     for _ in 0..times {
         let found = finds(store, lane, context, number, false);
         right = right && found;
-        context = if context == 0 { last } else { context - 1 };
+        context = if context <= first { last } else { context - 1 };
     }
     counted(right, times)
 }

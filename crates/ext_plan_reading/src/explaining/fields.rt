@@ -3,8 +3,8 @@ use crate::explaining::near::nearest;
 use crate::explaining::words::{quoted, said};
 use crate::fault::{Place, PlanFault};
 use crate::fields::{
-    TOP_FIELDS, first_other, key_places_at, tables_at, text_at, text_if_given, text_lists_at,
-    texts_at, truth_at,
+    TOP_FIELDS, first_other, key_places_at, repeats_at, tables_at, text_at, text_if_given,
+    text_lists_at, texts_at, truth_at,
 };
 use crate::keys::{KEY_FIELDS, has_parts, is_word};
 use crate::nodes::NODE_FIELDS;
@@ -21,6 +21,7 @@ enum FieldType {
     TextsIfGiven,
     TextListsIfGiven,
     TablesIfGiven,
+    RepeatsIfGiven,
 }
 
 /// The top fields, in reading order.
@@ -39,7 +40,7 @@ const KEY_TYPES: [(&str, FieldType); 3] = [
 ];
 
 /// The fields of a node, in reading order.
-const NODE_TYPES: [(&str, FieldType); 9] = [
+const NODE_TYPES: [(&str, FieldType); 10] = [
     ("id", FieldType::Text),
     ("mode", FieldType::TextIfGiven),
     ("isolated", FieldType::TruthIfGiven),
@@ -49,6 +50,7 @@ const NODE_TYPES: [(&str, FieldType); 9] = [
     ("before_each", FieldType::TextListsIfGiven),
     ("after_each", FieldType::TextListsIfGiven),
     ("test", FieldType::TextsIfGiven),
+    ("repeat", FieldType::RepeatsIfGiven),
 ];
 
 /// The table of a place, if the document has it.
@@ -130,8 +132,21 @@ pub(crate) fn bad_field(
     match place {
         Place::Whole => first_bad(alloc, table, &TOP_TYPES),
         Place::Key(_) => first_bad(alloc, table, &KEY_TYPES),
-        Place::Node(_) => first_bad(alloc, table, &NODE_TYPES),
+        Place::Node(_) => first_bad_of_node(alloc, table),
     }
+}
+
+/// Names the first field of a node that is missing or has another type, or says that what is to be
+/// repeated is no test.
+fn first_bad_of_node(alloc: Global, table: &Table) -> Result<Option<String>, PlanFault> {
+    let found = first_bad(alloc, table, &NODE_TYPES)?;
+    if found.is_none() && table.get("repeat").is_some() && table.get("test").is_none() {
+        return said(
+            alloc,
+            "its field \"repeat\" stands without a field \"test\"",
+        );
+    }
+    Ok(found)
 }
 
 /// Names the first of these fields that the table lacks, or that has another type there.
@@ -196,6 +211,7 @@ fn is_right(alloc: Global, table: &Table, name: &str, kind: FieldType) -> Result
         FieldType::TextsIfGiven => was_read(texts_at(alloc, table, name, fault)),
         FieldType::TextListsIfGiven => was_read(text_lists_at(alloc, table, name, fault)),
         FieldType::TablesIfGiven => was_read(tables_at(alloc, table, name, fault)),
+        FieldType::RepeatsIfGiven => was_read(repeats_at(table, name, fault)),
     }
 }
 
@@ -217,6 +233,7 @@ fn what_is_wrong(kind: FieldType) -> &'static str {
         FieldType::TextsIfGiven => " is no array of texts",
         FieldType::TextListsIfGiven => " is no array of arrays of texts",
         FieldType::TablesIfGiven => " is no array of tables",
+        FieldType::RepeatsIfGiven => " is no whole number from 1 to 65535",
     }
 }
 

@@ -1,7 +1,8 @@
 //! Explanations of faults in nodes, apart from their steps, and of trees and limits.
-ghost use Rattle.std.specs.Prelude.{◌≤◌, All, IfOk};
+ghost use Rattle.std.specs.Prelude.{◌≤◌, All, IfOk, map};
 ghost use Rattle.ext_plan.specs.Plans.{key_view, keys_view};
 ghost use Rattle.ext_plan.specs.StoreKeys.{HasParts};
+ghost use Rattle.ext_plan_reading.specs.InnerSketches.{HasRoom, sketch_view};
 
 use crate::explaining::fields::table_of;
 use crate::explaining::ids::words_of_id;
@@ -12,6 +13,7 @@ use crate::keys::{Keys, keys_of};
 use crate::locks::lock_at;
 use crate::modes::mode_at;
 use crate::nodes::{NodeSketch, ids_of, sketches_of};
+use crate::repeats::with_repetitions;
 use ext_ids::{IdFault, UniqueId};
 use ext_model::Size;
 use ext_plan::PlanKey;
@@ -27,13 +29,22 @@ pub(crate) fn keys_in<'a>(alloc: Global, top: &'a Table) -> Result<Keys<'a>, Pla
     keys_of(alloc, tables.as_slice())
 }
 
-/// The nodes of a document after the first pass.
-pub(crate) fn sketches_in<'a>(
-    alloc: Global,
-    top: &'a Table,
-) -> Result<Vec<NodeSketch<'a>>, PlanFault> {
+/// The tables of the nodes of a document after the first pass.
+fn sketches_in<'a>(alloc: Global, top: &'a Table) -> Result<Vec<NodeSketch<'a>>, PlanFault>
+    ensures { IfOk result (λ v. All HasRoom (map sketch_view v.items)) }
+{
     let tables = tables_at(alloc, top, "node", PlanFault::BadField(Place::Whole))?;
     sketches_of(alloc, tables.as_slice())
+}
+
+/// The nodes of a document after the first pass.
+pub(crate) fn nodes_in<'a>(
+    alloc: Global,
+    top: &'a Table,
+    size: Size,
+) -> Result<Vec<NodeSketch<'a>>, PlanFault> {
+    let sketches = sketches_in(alloc, top)?;
+    with_repetitions(alloc, size.contexts(), sketches)
 }
 
 pub(crate) fn bad_id(alloc: Global, top: &Table, node: usize) -> Result<Option<String>, PlanFault> {
@@ -42,12 +53,16 @@ pub(crate) fn bad_id(alloc: Global, top: &Table, node: usize) -> Result<Option<S
     };
     match text_at(table, "id") {
         None => Ok(None),
-        Some(text) => no_id(alloc, text),
+        Some(text) => no_id(alloc, table, text),
     }
 }
 
-fn no_id(alloc: Global, text: &str) -> Result<Option<String>, PlanFault> {
+/// Explains why a text is no id, or none of a test that is repeated.
+fn no_id(alloc: Global, table: &Table, text: &str) -> Result<Option<String>, PlanFault> {
     match UniqueId::parse(alloc, text) {
+        Ok(id) if id.len() == 16 && table.get("repeat").is_some() => {
+            said(alloc, "it is repeated, so its id may have 15 segments")
+        }
         Ok(_) => Ok(None),
         Err(IdFault::Memory) => Err(PlanFault::Memory),
         Err(fault) => bad_id_text(alloc, text, fault),
@@ -68,21 +83,35 @@ pub(crate) fn bad_nodes(
     size: Size,
     fault: PlanFault,
 ) -> Result<Option<String>, PlanFault> {
-    let sketches = sketches_in(alloc, top)?;
+    let count = node_count(sketches_in(alloc, top)?.as_slice());
+    if fault == PlanFault::BadTree && count > size.contexts() {
+        return too_many_nodes(alloc, size, count);
+    }
+    let sketches = nodes_in(alloc, top, size)?;
     match fault.place() {
         Place::Node(node) => bad_node(alloc, sketches.as_slice(), node, fault),
         _ => bad_tree(alloc, size, sketches.as_slice()),
     }
 }
 
-/// Explains the fault of a node's mode, locks or test.
+/// How many nodes these tables stand for.
+fn node_count(tables: &[NodeSketch<'_>]) -> usize {
+    let mut count: usize = 0;
+    for table in tables {
+        let repetitions = table.repeat.unwrap_or(0);
+        count = count.saturating_add(1).saturating_add(repetitions);
+    }
+    count
+}
+
+/// Explains the fault of the mode, locks or test in the table of this number.
 fn bad_node(
     alloc: Global,
     sketches: &[NodeSketch<'_>],
     node: usize,
     fault: PlanFault,
 ) -> Result<Option<String>, PlanFault> {
-    match sketches.get(node) {
+    match sketches.iter().find(|sketch| sketch.table == node) {
         None => Ok(None),
         Some(sketch) => match fault {
             PlanFault::BadTest(_) => said(alloc, unfit_for_test(sketch)),
@@ -169,7 +198,7 @@ fn too_many_nodes(alloc: Global, size: Size, nodes: usize) -> Result<Option<Stri
     Ok(Some(format!(in alloc; "it has {nodes} nodes, more than {most}{hint}")?))
 }
 
-/// Says something of a node, after the node's index and id.
+/// Says something of a node, after the index of its table and its id.
 fn named(
     alloc: Global,
     sketches: &[NodeSketch<'_>],
@@ -178,7 +207,7 @@ fn named(
 ) -> Result<Option<String>, PlanFault> {
     match sketches.get(node) {
         None => said(alloc, "it has no node"),
-        Some(sketch) => named_by(alloc, &sketch.id, node, why),
+        Some(sketch) => named_by(alloc, &sketch.id, sketch.table, why),
     }
 }
 
@@ -196,7 +225,9 @@ fn named_by(
 
 /// Explains why a node is no valid test.
 fn unfit_for_test(sketch: &NodeSketch<'_>) -> &'static str {
-    if sketch.callbacks.are_of_container() {
+    if sketch.repeat.is_some() {
+        "one of its repetitions has children"
+    } else if sketch.callbacks.are_of_container() {
         "it is a test, and has before_all or after_all"
     } else {
         "it is a test, and has children"

@@ -1,15 +1,18 @@
 //! Explanations of faults in steps.
-ghost use Rattle.std.specs.Prelude.{◌<◌, HoldsAt, IfOk, IfSome, IsErr, length};
+ghost use Rattle.std.specs.Prelude.{◌≡◌, ◌<◌, HoldsAt, IfOk, IfSome, IsErr, length, map};
+ghost use Rattle.ext_plan_reading.specs.InnerSketches.{sketch_view};
+ghost use Rattle.ext_plan_reading.specs.NodeReading.{ids_of};
 ghost use Rattle.ext_plan_reading.specs.StepReading.{step_at};
 
 use crate::depths::least_test_depth;
 use crate::explaining::near::nearest;
-use crate::explaining::nodes::{keys_in, sketches_in};
+use crate::explaining::nodes::{keys_in, nodes_in};
 use crate::fault::PlanFault;
 use crate::labels::Labels;
 use crate::nodes::{NodeSketch, tree_of};
 use crate::steps::{step_at, step_of, words_of};
 use ext_model::Size;
+use ext_tree::Tree;
 use std::alloc::{AllocError, Global};
 use toml::Table;
 
@@ -27,7 +30,8 @@ const STEP_WORDS: [&str; 10] = [
     "abort",
 ];
 
-/// Explains the first text of a node's callbacks and test that is no step there, in reading order.
+/// Explains the first text of the callbacks and the test in a node's table that is no step there, in
+/// reading order.
 pub(crate) fn bad_step(
     alloc: Global,
     top: &Table,
@@ -35,7 +39,7 @@ pub(crate) fn bad_step(
     node: usize,
 ) -> Result<Option<String>, PlanFault> {
     let keys = keys_in(alloc, top)?;
-    let sketches = sketches_in(alloc, top)?;
+    let sketches = nodes_in(alloc, top, size)?;
     bad_step_among(alloc, size, &keys.labels, sketches.as_slice(), node)
 }
 
@@ -45,18 +49,37 @@ fn bad_step_among(
     size: Size,
     labels: &Labels<'_>,
     sketches: &[NodeSketch<'_>],
-    node: usize,
+    table: usize,
 ) -> Result<Option<String>, PlanFault> {
-    let Some(sketch) = sketches.get(node) else {
-        return Ok(None);
-    };
-    let own = sketch.id.len();
     let tree = tree_of(alloc, size, sketches)?;
-    let least = least_test_depth(&tree, sketches, node);
+    for (node, sketch) in sketches.iter().enumerate() {
+        if sketch.table == table
+            && let Some(found) = bad_in_node(alloc, labels, &tree, sketches, node)?
+        {
+            return Ok(Some(found));
+        }
+    }
+    Ok(None)
+}
+
+/// Explains the first text of a node's callbacks and test that is no step there.
+fn bad_in_node(
+    alloc: Global,
+    labels: &Labels<'_>,
+    tree: &Tree,
+    sketches: &[NodeSketch<'_>],
+    node: usize,
+) -> Result<Option<String>, PlanFault>
+    requires tree { tree.now ≡ ids_of (map sketch_view sketches.now) }
+    requires within { node < length sketches.now }
+{
+    let sketch = &sketches[node];
+    let own = sketch.id.len();
+    let least = least_test_depth(tree, sketches, node);
     let lists = sketch.callbacks.in_order(own, least);
-    match bad_in_kinds(alloc, labels, node, &lists)? {
+    match bad_in_kinds(alloc, labels, sketch.table, &lists)? {
         Some(found) => Ok(Some(found)),
-        None => bad_in_test(alloc, labels, own, node, &sketch.test),
+        None => bad_in_test(alloc, labels, own, sketch.table, &sketch.test),
     }
 }
 

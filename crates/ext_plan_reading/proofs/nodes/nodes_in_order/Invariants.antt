@@ -2,7 +2,7 @@ use Rattle.std.proofs.Common.{◌≡◌, drop, map, length, []}
 use Rattle.ext_plan.specs.Plans.{nodes_view}
 use Rattle.ext_plan_reading.specs.InnerSketches.{sketch_view}
 use Rattle.ext_plan_reading.specs.NodeReading.{nodes_after}
-use Rattle.ext_plan_reading.proofs.nodes.nodes_of.Given as goal
+use Rattle.ext_plan_reading.proofs.nodes.nodes_in_order.Given as goal
 
 abbrev pub invariant-loop-sketch : goal.invariant-loop-sketch
 invariant-loop-sketch l = record {

@@ -9,7 +9,7 @@ use Rattle.ext_plan_reading.specs.NodeReading.{outlines_of}
 use Rattle.ext_plan_reading.proofs.ChildDepths.{id_here}
 use Rattle.ext_plan_reading.proofs.Turns.{nodes_end, Fails-whole}
 use Rattle.ext_plan_reading.proofs.Parents.{tree_go, tree_stop}
-use Rattle.ext_plan_reading.proofs.nodes.nodes_of.Goals as goal
+use Rattle.ext_plan_reading.proofs.nodes.nodes_in_order.Goals as goal
 
 pub returns-in_err-node-clause-exact : goal.returns-in_err-node-clause-exact
 returns-in_err-node-clause-exact c =
