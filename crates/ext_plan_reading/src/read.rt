@@ -58,8 +58,8 @@ use toml::Table;
 /// is never answered, since a `&str` is UTF-8.
 ///
 /// Takes memory for the document, the lists of its tables and texts, the set of labels, the tree of
-/// the ids, the different keys and the plan, all in proportion to the text. All but the plan's is
-/// given back.
+/// the ids, the different keys and the plan, all in proportion to the text with each repetition
+/// written out. All but the plan's is given back.
 pub fn read_plan(alloc: Global, text: &str) -> Result<Plan, PlanFault>
     ensures exact { Gives plan_view result (plan_of_text sizes.Usual text.now) }
     ensures utf8 { result ≢ Err PlanFault.NotUtf8 }
