@@ -143,7 +143,7 @@ pub look_point : (store : StoreView) (context key : ℕ) (path : List ℕ) (a b 
     → LookPoint store key path a.view b.view answer
 unfolding store_core.Gets
 look_point store context key path a b answer tree is gets =
-    let holds = gets.2.replied (λ e. absurd (cc e)) in
+    let holds = gets.2.looked.replied (λ e. absurd (cc e)) in
     let same : gets.0 ≡ path = one_path store.tree tree context gets.0 path gets.1 is in
     record {
       at = holds.point.0;

@@ -93,14 +93,14 @@ keep_fails store a b keep_fault.Unplaced fails = only_calls [] a.view b.view (Ke
 
 pub gets_only : (store : StoreView) (context key : ℕ) (a b : Lane) (result : Result Look Refusal) → Gets store context key a b result → Only [] a.view b.view
 unfolding shared.Gets
-gets_only store context key a b (Ok answer) gets = only_calls [] a.view b.view [] (gets.2.replied (λ is. absurd (cc is))).calls (All-nil (IsOn []))
-gets_only store context key a b (Err (refusal.Busy at)) gets = only_calls [] a.view b.view [] (gets.2.replied (λ is. absurd (cc is))).calls (All-nil (IsOn []))
-gets_only store context key a b (Err (refusal.Closed at)) gets = only_calls [] a.view b.view [] (gets.2.replied (λ is. absurd (cc is))).calls (All-nil (IsOn []))
-gets_only store context key a b (Err refusal.Contended) gets = only_calls [] a.view b.view [] (gets.2.overtaken refl).calls (All-nil (IsOn []))
-gets_only store context key a b (Err refusal.Exhausted) gets = only_calls [] a.view b.view [] (gets.2.replied (λ is. absurd (cc is))).calls (All-nil (IsOn []))
-gets_only store context key a b (Err refusal.DirectoryFull) gets = only_calls [] a.view b.view [] (gets.2.replied (λ is. absurd (cc is))).calls (All-nil (IsOn []))
-gets_only store context key a b (Err refusal.Unplaced) gets = only_calls [] a.view b.view [] (gets.2.replied (λ is. absurd (cc is))).calls (All-nil (IsOn []))
-gets_only store context key a b (Err refusal.Memory) gets = only_calls [] a.view b.view [] (gets.2.replied (λ is. absurd (cc is))).calls (All-nil (IsOn []))
+gets_only store context key a b (Ok answer) gets = only_calls [] a.view b.view [] (gets.2.looked.replied (λ is. absurd (cc is))).calls (All-nil (IsOn []))
+gets_only store context key a b (Err (refusal.Busy at)) gets = only_calls [] a.view b.view [] (gets.2.looked.replied (λ is. absurd (cc is))).calls (All-nil (IsOn []))
+gets_only store context key a b (Err (refusal.Closed at)) gets = only_calls [] a.view b.view [] (gets.2.looked.replied (λ is. absurd (cc is))).calls (All-nil (IsOn []))
+gets_only store context key a b (Err refusal.Contended) gets = only_calls [] a.view b.view [] (gets.2.looked.overtaken refl).calls (All-nil (IsOn []))
+gets_only store context key a b (Err refusal.Exhausted) gets = only_calls [] a.view b.view [] (gets.2.looked.replied (λ is. absurd (cc is))).calls (All-nil (IsOn []))
+gets_only store context key a b (Err refusal.DirectoryFull) gets = only_calls [] a.view b.view [] (gets.2.looked.replied (λ is. absurd (cc is))).calls (All-nil (IsOn []))
+gets_only store context key a b (Err refusal.Unplaced) gets = only_calls [] a.view b.view [] (gets.2.looked.replied (λ is. absurd (cc is))).calls (All-nil (IsOn []))
+gets_only store context key a b (Err refusal.Memory) gets = only_calls [] a.view b.view [] (gets.2.looked.replied (λ is. absurd (cc is))).calls (All-nil (IsOn []))
 
 -- ---- changes
 

@@ -257,7 +257,7 @@ module _ (plan : PlanText) (lanes : ℕ) (results : List (ResultOf Fault)) (run 
         → IsKeptByPlan plan name (stored_view value).text
     unfolding store_core.Gets
     found_kept context a at number gets value known =
-        let point = (gets.2.replied (λ is. absurd (cc is))).point in
+        let point = (gets.2.looked.replied (λ is. absurd (cc is))).point in
         let found : look_after (cell_in store key) gets.0 point.0 ≡ look.Found at number = cc point.2 in
         kept_at at number gets.0 point.0 point.1.1 found value known
 
@@ -265,7 +265,7 @@ module _ (plan : PlanText) (lanes : ℕ) (results : List (ResultOf Fault)) (run 
         → IsSeenOfPlan plan name (fault_seen fault)
     unfolding store_core.Gets
     fault_met context a at number gets fault known =
-        let point = (gets.2.replied (λ is. absurd (cc is))).point in
+        let point = (gets.2.looked.replied (λ is. absurd (cc is))).point in
         let met : look_after (cell_in store key) gets.0 point.0 ≡ look.Fault at number = cc point.2 in
         fault_at at number gets.0 point.0 point.1.1 met fault known
 

@@ -26,12 +26,12 @@ use Rattle.ext_parallel.specs.StoreCalls.{PlanLane}
 look_is_ok : (store : StoreView) (context key : ℕ) (before after : Lane) (why : Refusal) → Gets store context key before after (Err why) → IsDecided why → ⊥
 unfolding cells.Gets
 look_is_ok store context key before after (refusal.Busy at) looks decided = decided
-look_is_ok store context key before after (refusal.Closed at) looks decided = let h = looks.2.replied (λ e. cc) in cc (h.point.2)
+look_is_ok store context key before after (refusal.Closed at) looks decided = let h = looks.2.looked.replied (λ e. cc) in cc (h.point.2)
 look_is_ok store context key before after refusal.Contended looks decided = decided
-look_is_ok store context key before after refusal.Exhausted looks decided = let h = looks.2.replied (λ e. cc) in cc (h.point.2)
-look_is_ok store context key before after refusal.DirectoryFull looks decided = let h = looks.2.replied (λ e. cc) in cc (h.point.2)
-look_is_ok store context key before after refusal.Unplaced looks decided = let h = looks.2.replied (λ e. cc) in cc (h.point.2)
-look_is_ok store context key before after refusal.Memory looks decided = let h = looks.2.replied (λ e. cc) in cc (h.point.2)
+look_is_ok store context key before after refusal.Exhausted looks decided = let h = looks.2.looked.replied (λ e. cc) in cc (h.point.2)
+look_is_ok store context key before after refusal.DirectoryFull looks decided = let h = looks.2.looked.replied (λ e. cc) in cc (h.point.2)
+look_is_ok store context key before after refusal.Unplaced looks decided = let h = looks.2.looked.replied (λ e. cc) in cc (h.point.2)
+look_is_ok store context key before after refusal.Memory looks decided = let h = looks.2.looked.replied (λ e. cc) in cc (h.point.2)
 
 -- a look-up that is refused is refused for its key
 pub look_refused : (store : StoreView) (context : ℕ) (key : KeyValue) (a b : PlanLane) (why : Refusal)

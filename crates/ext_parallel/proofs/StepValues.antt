@@ -29,7 +29,7 @@ use Rattle.ext_parallel.proofs.Values.{Stored, calls_quiet, calls_stored, own_st
 
 pub gets_quiet : (store : StoreView) (context key : ℕ) (a b : Lane) (answer : Look) → Gets store context key a b (Ok answer) → own_stored b.view ≡ own_stored a.view
 unfolding shared.Gets
-gets_quiet store context key a b answer gets = calls_quiet a.view b.view [] (gets.2.replied (λ is. absurd (cc is))).calls refl
+gets_quiet store context key a b answer gets = calls_quiet a.view b.view [] (gets.2.looked.replied (λ is. absurd (cc is))).calls refl
 
 -- of a change that was not refused because others were in the way
 pub puts_values : (store : StoreView) (context key number : ℕ) (a b : Lane) (result : Result (Option ℕ) (ℕ × Refusal)) → Puts store context key number a b result → result ≢ Err (number, refusal.Contended)

@@ -24,7 +24,7 @@ use Rattle.ext_store_core.specs.ContextCalls.{ContextCells}
 use Rattle.ext_store.specs.Stores.{StoreId, StoreView, StoreLane, IsKeptBy, IsLaneOf, IsOnCells, cell_in, context_cells}
 use Rattle.ext_store.specs.LaneCalls.{Frame}
 use Rattle.ext_store.specs.Computing.{ClaimsAndLooks, given_up_events, Fills, Fails, IsUnkept, EndsFailed, HandsBack, IfComputed, IsFaultless, Uses, ComputesFrom, Computes, without_factory, with_factory}
-use Rattle.ext_store_core.specs.Claiming.{ClaimsFrom, ClaimsMissing}
+use Rattle.ext_store_core.specs.Claiming.{ClaimsAlong, ClaimsFrom, ClaimsMissing}
 use Rattle.ext_store_core.proofs.Parts.{happens_second, claims_first}
 use Rattle.ext_store_core.proofs.Claimed.{StoresNone, claim_acts}
 use Rattle.ext_store.proofs.Outdrawn.{outdrawn_second}
@@ -186,11 +186,16 @@ module _ {V : Type 0} (id : StoreId) (inside a b : StoreLane V) (is : inside ≡
       let ours : store.cells ≡ inside.cells.cells = own ∙ (sym mine.cells ∙ ap (λ (l : StoreLane V). l.cells.cells) (sym is)) in
       storing_frame acts none (subst (λ (z : CellsId). Calls z.limits inside.cells.view b.cells.view acts) ours calls)
 
-  -- as of the claim of a missing value
-  pub claim_frame : (store : ContextCells) → store.cells ≡ id.cells → (context key : ℕ) (r : Result ℕ Unused) → ClaimsMissing store context key inside.cells.view b.cells.view r → Frame id [] a b
-  claim_frame store own context key r m =
-      let made = claim_acts store context m.0 key inside.cells.view b.cells.view r m.2 in
+  -- as of the claim of a missing value along a path,
+  pub along_frame : (store : ContextCells) → store.cells ≡ id.cells → (path : List ℕ) (key : ℕ) (r : Result ℕ Unused) → ClaimsAlong store path key inside.cells.view b.cells.view r → Frame id [] a b
+  along_frame store own [] key r m = absurd m
+  along_frame store own (context ∷ rest) key r m =
+      let made = claim_acts store context rest key inside.cells.view b.cells.view r m in
       storing_there store own made.0 made.1 made.2
+
+  -- and along that of the context
+  pub claim_frame : (store : ContextCells) → store.cells ≡ id.cells → (context key : ℕ) (r : Result ℕ Unused) → ClaimsMissing store context key inside.cells.view b.cells.view r → Frame id [] a b
+  claim_frame store own context key r m = along_frame store own (context ∷ m.0) key r m.2
 
 -- A value was kept, which has a frame, and then its number was stored in a claimed cell: it is none that was kept before
 pub fill_frame : {V : Type 0} (id : StoreId) (a inside b c : StoreLane V) → inside ≡ b → Frame id [] a b → c.cells.cells ≡ inside.cells.cells → IsOnCells inside c

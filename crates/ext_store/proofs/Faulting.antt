@@ -26,7 +26,7 @@ use Rattle.ext_store.specs.declared.fault.KeepFault.TheVariants.{Memory, Unplace
 use Rattle.ext_store.specs.declared.computed.Compute.{Compute}
 use Rattle.ext_store.specs.Stores.{StoreView, StoreLane, IsKeptBy, IsLaneOf, StillKeeps, context_cells}
 use Rattle.ext_store.specs.LaneCalls.{Frame, KeepFails, KeepsFault, KeepsNoFault, KnowsUnkept}
-use Rattle.ext_store.specs.Computing.{ClaimsMissing, IsFaultless, IsFaultlessUnused, with_factory}
+use Rattle.ext_store.specs.Computing.{ClaimsAlong, ClaimsMissing, IsFaultless, IsFaultlessUnused, with_factory}
 use Rattle.ext_store.specs.InnerKeeping.{keep_fault, IsPlaced, PlacesDrawn}
 use Rattle.ext_store.proofs.Keeping.{quiet_keeps, unplaced_keeps, drew, drew_none}
 use Rattle.ext_store.proofs.NewDraws.{drawn_apart, draws_new, knows_undrawn}
@@ -137,10 +137,18 @@ unused_faultless store context ancestors key a b factory unused r is lawful from
 
 -- ---- what a begun compute says, whether the claim is won or not
 
+pub along_held : (store : StoreView) (path : List ℕ) (key : ℕ) (a b : LaneView) (r : Result ℕ Unused) → ClaimsAlong store path key a b r → IfOk r (IsHeld b)
+along_held store [] key a b r m = absurd m
+along_held store (context ∷ rest) key a b (Ok claim) m = m.1
+along_held store (context ∷ rest) key a b (Err unused) m = tt
+
+pub along_faultless : (store : StoreView) (path : List ℕ) (key : ℕ) (a b : LaneView) (r : Result ℕ Unused) → IsLegal store.id.cells.limits (seen_by b) → ClaimsAlong store path key a b r → IsFalse store.id.cells.limits.keep_faults → IfErr r IsFaultlessUnused
+along_faultless store [] key a b r lawful m off = absurd m
+along_faultless store (context ∷ rest) key a b (Ok claim) lawful m off = tt
+along_faultless store (context ∷ rest) key a b (Err unused) lawful m off = none_stands (context_cells store) context rest key a b unused lawful m off
+
 pub begun_held : (store : StoreView) (context key : ℕ) (a b : LaneView) (r : Result ℕ Unused) → ClaimsMissing store context key a b r → IfOk r (IsHeld b)
-begun_held store context key a b (Ok claim) m = m.2.1
-begun_held store context key a b (Err unused) m = tt
+begun_held store context key a b r m = along_held store (context ∷ m.0) key a b r m.2
 
 pub begun_faultless : (store : StoreView) (context key : ℕ) (a b : LaneView) (r : Result ℕ Unused) → IsLegal store.id.cells.limits (seen_by b) → ClaimsMissing store context key a b r → IsFalse store.id.cells.limits.keep_faults → IfErr r IsFaultlessUnused
-begun_faultless store context key a b (Ok claim) lawful m off = tt
-begun_faultless store context key a b (Err unused) lawful m off = none_stands (context_cells store) context m.0 key a b unused lawful m.2 off
+begun_faultless store context key a b r lawful m off = along_faultless store (context ∷ m.0) key a b r lawful m.2 off

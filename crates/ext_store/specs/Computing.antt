@@ -58,6 +58,11 @@ abbrev pub ClaimsMissing : StoreView → ℕ → ℕ → LaneView → LaneView �
 ClaimsMissing store context key before after result =
     claiming.ClaimsMissing (context_cells store) context key before after result
 
+-- The same along a path: the context that it begins with, and its ancestors.
+abbrev pub ClaimsAlong : StoreView → List ℕ → ℕ → LaneView → LaneView → Result ℕ Unused → Type 0
+ClaimsAlong store path key before after result =
+    claiming.ClaimsAlong (context_cells store) path key before after result
+
 -- ---- after the factory gave a value
 
 -- The lane draws the number and stores it in the claimed cell.

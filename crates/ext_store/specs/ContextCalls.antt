@@ -13,6 +13,13 @@ use Rattle.ext_store.specs.Stores.{StoreView, context_cells}
 abbrev pub Gets : StoreView → ℕ → ℕ → Lane → Lane → Result Look Refusal → Type 0
 Gets store context key before after result = cells.Gets (context_cells store) context key before after result
 
+-- The same along a path, and which paths a look-up may go along.
+abbrev pub GetsAlong : StoreView → List ℕ → ℕ → Lane → Lane → Result Look Refusal → Type 0
+GetsAlong store path key before after result = cells.GetsAlong (context_cells store) path key before after result
+
+abbrev pub IsTrail : StoreView → List ℕ → Type 0
+IsTrail store path = cells.IsTrail (context_cells store) path
+
 -- A put stores the number in the context, and answers the number that stood there.
 abbrev pub Puts : StoreView → ℕ → ℕ → ℕ → Lane → Lane → Result (Option ℕ) (ℕ × Refusal) → Type 0
 Puts store context key number before after result =

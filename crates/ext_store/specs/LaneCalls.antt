@@ -25,7 +25,7 @@ use Rattle.ext_model.specs.CallActs as model
 use Rattle.ext_store.specs.declared.fault.KeepFault.{KeepFault}
 use Rattle.ext_store.specs.declared.fault.KeepFault.TheVariants as fault
 pub use Rattle.ext_store_core.specs.ContextCalls.{HoldsAtPoint, IsFaultlessLook, reply_to, steps_of, result_at, with_kept, put_acts, remove_acts}
-pub use Rattle.ext_store.specs.ContextCalls.{Gets, Puts, Removes}
+pub use Rattle.ext_store.specs.ContextCalls.{Gets, GetsAlong, IsTrail, Puts, Removes}
 
 -- ---- the key of a call
 

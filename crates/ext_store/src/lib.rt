@@ -33,6 +33,7 @@
 //! Numbers, lanes, claims, closers, refusals and limits are own rules.
 #![tactic(auto)]
 
+mod along;
 mod begin;
 mod closer;
 mod compute;

@@ -9,7 +9,7 @@ use Rattle.ext_cells.specs.Lanes.{Lane}
 use Rattle.ext_cells.specs.CellCalls as cells
 use Rattle.ext_store_core.specs.declared.fault.Refusal.{Refusal}
 use Rattle.ext_store_core.specs.declared.fault.Refusal.TheVariants as refusal
-use Rattle.ext_store_core.specs.ContextCalls.{ContextCells, cell_in, steps_of, with_kept, put_acts, remove_acts, Gets, Puts, Removes}
+use Rattle.ext_store_core.specs.ContextCalls.{ContextCells, cell_in, steps_of, with_kept, put_acts, remove_acts, Gets, GetsAlong, Puts, Removes}
 use Rattle.ext_store_core.specs.InnerLooking.{Looks}
 use Rattle.ext_store_core.proofs.Replies.{other_why}
 
@@ -22,17 +22,21 @@ pub looks_quiet : (store : ContextCells) (path : List ℕ) (key : ℕ) (before a
 looks_quiet store path key before after (Ok look) l = l.calls
 looks_quiet store path key before after (Err why) l = l.1.calls
 
+module _ (store : ContextCells) (path : List ℕ) (key : ℕ) (before after : Lane) where
+  pub along_quiet : (r : Result Look Refusal) → GetsAlong store path key before after r → Calls before.cells.limits before.view after.view []
+  along_quiet (Ok look) g = (g.looked.replied (λ e. cc e)).calls
+  along_quiet (Err refusal.Contended) g = (g.looked.overtaken refl).calls
+  along_quiet (Err (refusal.Busy at)) g = (g.looked.replied (λ e. cc e)).calls
+  along_quiet (Err (refusal.Closed at)) g = (g.looked.replied (λ e. cc e)).calls
+  along_quiet (Err refusal.DirectoryFull) g = (g.looked.replied (λ e. cc e)).calls
+  along_quiet (Err refusal.Unplaced) g = (g.looked.replied (λ e. cc e)).calls
+  along_quiet (Err refusal.Memory) g = (g.looked.replied (λ e. cc e)).calls
+  along_quiet (Err refusal.Exhausted) g = (g.looked.replied (λ e. cc e)).calls
+
 module _ (store : ContextCells) (context key : ℕ) (before after : Lane) where
   pub gets_quiet : (r : Result Look Refusal) → Gets store context key before after r → Calls before.cells.limits before.view after.view []
   unfolding Gets
-  gets_quiet (Ok look) g = (g.2.replied (λ e. cc e)).calls
-  gets_quiet (Err refusal.Contended) g = (g.2.overtaken refl).calls
-  gets_quiet (Err (refusal.Busy at)) g = (g.2.replied (λ e. cc e)).calls
-  gets_quiet (Err (refusal.Closed at)) g = (g.2.replied (λ e. cc e)).calls
-  gets_quiet (Err refusal.DirectoryFull) g = (g.2.replied (λ e. cc e)).calls
-  gets_quiet (Err refusal.Unplaced) g = (g.2.replied (λ e. cc e)).calls
-  gets_quiet (Err refusal.Memory) g = (g.2.replied (λ e. cc e)).calls
-  gets_quiet (Err refusal.Exhausted) g = (g.2.replied (λ e. cc e)).calls
+  gets_quiet r g = along_quiet store g.0 key before after r g.2
 
   -- a put and a remove those that their results mean,
   pub put_calls : (number : ℕ) (r : Result (Option ℕ) Refusal) → Puts store context key number before after (with_kept number r) → Calls before.cells.limits before.view after.view (put_acts (cell_in store key context) number (with_kept number r))

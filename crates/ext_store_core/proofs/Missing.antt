@@ -8,13 +8,13 @@ use Rattle.ext_model.specs.declared.look.Look.{Look}
 use Rattle.ext_model.specs.declared.look.Look.TheVariants as look
 use Rattle.ext_model.specs.Events as events
 use Rattle.ext_model.specs.History.{History, Limits, slots_in, reply_after, version_of, IsLegal}
-use Rattle.ext_model.specs.CallActs.{Calls, HoldsAtPoint, IsOvertaken, IsHeld, look_after}
+use Rattle.ext_model.specs.CallActs.{LaneView, Calls, HoldsAtPoint, IsOvertaken, IsHeld, look_after}
 use Rattle.ext_history.proofs.Composed.{same_number, answer_first, quiet_point}
 use Rattle.ext_history.specs.Histories.{first_front, seen_by}
 use Rattle.ext_history.proofs.Crowded.{overtaken_crowded, crowded_by_first, crowded_by_second}
 use Rattle.ext_model.proofs.Composed.{calls_compose, later_answers}
 use Rattle.ext_model.proofs.Held.{claim_held}
-use Rattle.ext_tree.specs.Trees.{Id, IsPathOf}
+use Rattle.ext_tree.specs.Trees.{IsPathOf}
 use Rattle.ext_cells.specs.declared.claim.Claimed.{Claimed}
 use Rattle.ext_cells.specs.declared.claim.Claimed.TheVariants.{Won, Standing, Fault}
 use Rattle.ext_cells.specs.declared.refusal.CellRefusal.{CellRefusal}
@@ -26,10 +26,10 @@ use Rattle.ext_store_core.specs.declared.fault.Refusal.{Refusal}
 use Rattle.ext_store_core.specs.declared.fault.Refusal.TheVariants as refusal
 use Rattle.ext_store_core.specs.declared.claim.Unused.{Unused}
 use Rattle.ext_store_core.specs.declared.claim.Unused.TheVariants.{Found, FaultStands, Refused}
-use Rattle.ext_store_core.specs.ContextCalls.{ContextCells, cell_in}
+use Rattle.ext_store_core.specs.ContextCalls.{ContextCells, IsTrail, cell_in}
 use Rattle.ext_store_core.specs.InnerRefusals.{refusal_at}
-use Rattle.ext_store_core.specs.InnerLooking.{IsTrail, Looks, LooksAt}
-use Rattle.ext_store_core.specs.Claiming.{ClaimComesLast, LooksFirst, Claims, ClaimsAndLooks, Meets, IsRefused, Stands, ClaimsFrom, ClaimsMissing, unused_of}
+use Rattle.ext_store_core.specs.InnerLooking.{Looks, LooksAt}
+use Rattle.ext_store_core.specs.Claiming.{ClaimComesLast, LooksFirst, Claims, ClaimsAndLooks, Meets, IsRefused, Stands, ClaimsAlong, ClaimsFrom, ClaimsMissing, unused_of}
 use Rattle.ext_model.proofs.Versions.{versions}
 use Rattle.ext_store_core.proofs.Rises.{rises_first, rises_second, version_grows, versions_grow}
 use Rattle.ext_store_core.proofs.Parts.{looks_second, happens_alone, first_stays, claims_stay, claims_first}
@@ -41,28 +41,17 @@ in_the_way = cell.Contended
 
 -- ---- the path
 
-take_all : (xs : List ℕ) → take (length xs) xs ≡ xs
-take_all [] = refl
-take_all (x ∷ xs) = ap (λ z. x ∷ z) (take_all xs)
+-- what a claim along the path of the context says is what it says from the context
+pub missing_along : (store : ContextCells) (context key : ℕ) (path : List ℕ) (before after : LaneView) (r : Result ℕ Unused) → IsPathOf store.tree context path → ClaimsAlong store path key before after r
+    → ClaimsMissing store context key before after r
+missing_along store context key [] before after r is along = absurd is
+missing_along store context key (first ∷ rest) before after r is along = (
+  rest,
+  (refl, is.1),
+  subst (λ c. ClaimsFrom store c rest key before after r) is.0 along,
+)
 
--- the path without its first context
-rest_of : (path : List ℕ) → take (length path - 1) (drop 1 path) ≡ drop 1 path
-rest_of [] = refl
-rest_of (x ∷ xs) = let less : length (x ∷ xs) - 1 ≡ length xs = omega arith in ap (λ n. take n xs) less ∙ take_all xs
-
-path_parts : (tree : List Id) (context : ℕ) (path : List ℕ) → IsPathOf tree context path → path ≡ context ∷ drop 1 path
-path_parts tree context [] is = absurd is
-path_parts tree context (x ∷ xs) is = ap (λ z. z ∷ xs) is.0
-
--- a path is its context and then the rest
-path_whole : (tree : List Id) (context : ℕ) (path found : List ℕ) → found ≡ path → IsPathOf tree context path → found ≡ context ∷ take (length found - 1) (drop 1 found)
-path_whole tree context path found same is = path_parts tree context found (subst (IsPathOf tree context) (sym same) is) ∙ ap (λ z. context ∷ z) (sym (rest_of found))
-
-path_is : (tree told : List Id) (context : ℕ) (path found : List ℕ) → told ≡ tree → found ≡ path → IsPathOf told context path → IsPathOf tree context (context ∷ take (length found - 1) (drop 1 found))
-path_is tree told context path found one same is = subst (λ t. IsPathOf t context (context ∷ take (length found - 1) (drop 1 found))) one
-    (subst (IsPathOf told context) (sym same ∙ path_whole told context path found same is) is)
-
-trail_rest : (store : ContextCells) (context : ℕ) (rest : List ℕ) → IsTrail store (context ∷ rest) → IsTrail store rest
+pub trail_rest : (store : ContextCells) (context : ℕ) (rest : List ℕ) → IsTrail store (context ∷ rest) → IsTrail store rest
 trail_rest store context rest trail = let few = trail.few in record {
   few = omega (arith, few);
   within = All-tail (λ c. c < length store.tree) context rest trail.within;
@@ -263,47 +252,40 @@ module _ (store : ContextCells) (context key : ℕ) (rest : List ℕ) where
       given_up_look (Refused refusal.Memory) s = absurd s
       given_up_look (Refused refusal.Exhausted) s = absurd s
 
--- ---- all of them, for the path that the tree tells
+-- ---- all of them, along a path
 
-module _ (store : ContextCells) (context key : ℕ) (tree : List Id) (told path : List ℕ) (is_tree : tree ≡ store.tree) (is_told : path ≡ told) (is_path : IsPathOf tree context told) where
-  -- the ancestors
-  abbrev rest : List ℕ
-  rest = take (length path - 1) (drop 1 path)
+module _ (store : ContextCells) (context key : ℕ) (path rest : List ℕ) (whole : path ≡ context ∷ rest) where
+  along : (a b : Lane) (r : Result ℕ Unused) → ClaimsFrom store context rest key a.view b.view r → ClaimsAlong store path key a.view b.view r
+  along a b r from = subst (λ p. ClaimsAlong store p key a.view b.view r) (sym whole) from
 
-  whole : path ≡ context ∷ take (length path - 1) (drop 1 path)
-  whole = path_whole tree context told path is_told is_path
-
-  for_path : (a b : Lane) (r : Result ℕ Unused) → ClaimsFrom store context (take (length path - 1) (drop 1 path)) key a.view b.view r → ClaimsMissing store context key a.view b.view r
-  for_path a b r from = (rest, path_is store.tree tree context told path is_tree is_told is_path, from)
-
-  pub ancestors_are_trail : IsTrail store path → IsTrail store (take (length path - 1) (drop 1 path))
+  pub ancestors_are_trail : IsTrail store path → IsTrail store rest
   ancestors_are_trail trail = trail_rest store context rest (subst (IsTrail store) whole trail)
 
-  pub first_look_ends : (a b : Lane) (unused : Unused) → a.cells ≡ store.cells → Stands store path key a b (Some unused) → ClaimsMissing store context key a.view b.view (Err unused)
-  first_look_ends a b unused is s = for_path a b (Err unused) (first_look store context key rest a b is unused (subst (λ z. Stands store z key a b (Some unused)) whole s))
+  pub first_look_ends : (a b : Lane) (unused : Unused) → a.cells ≡ store.cells → Stands store path key a b (Some unused) → ClaimsAlong store path key a.view b.view (Err unused)
+  first_look_ends a b unused is s = along a b (Err unused) (first_look store context key rest a b is unused (subst (λ z. Stands store z key a b (Some unused)) whole s))
 
   module _ (a b c : Lane) (first : a.cells ≡ store.cells) (second : b.cells ≡ a.cells) (looked : Stands store path key a b None) (tries : ℕ) (same : tries ≡ store.tries) (cell : ℕ) (is_cell : cell ≡ cell_in store key context) where
     second' : b.cells ≡ store.cells
     second' = second ∙ first
 
-    looked' : Stands store (context ∷ take (length path - 1) (drop 1 path)) key a b None
+    looked' : Stands store (context ∷ rest) key a b None
     looked' = subst (λ z. Stands store z key a b None) whole looked
 
     here' : (r : Result Claimed CellRefusal) → cells.Answers tries b c (cells.claim_acts cell) (cells.claim_reply b cell) r → cells.Answers tries b c (cells.claim_acts (cell_in store key context)) (cells.claim_reply b (cell_in store key context)) r
     here' r = subst (λ n. cells.Answers tries b c (cells.claim_acts n) (cells.claim_reply b n) r) is_cell
 
-    pub standing_ends : (said : Claimed) (number : ℕ) → said ≡ Standing number → cells.Answers tries b c (cells.claim_acts cell) (cells.claim_reply b cell) (Ok said) → ClaimsMissing store context key a.view c.view (Err (Found context number))
+    pub standing_ends : (said : Claimed) (number : ℕ) → said ≡ Standing number → cells.Answers tries b c (cells.claim_acts cell) (cells.claim_reply b cell) (Ok said) → ClaimsAlong store path key a.view c.view (Err (Found context number))
     standing_ends said number is all =
-        for_path a c (Err (Found context number)) (standing store context key rest a b c first second' tries same looked' number (here' (Ok (Standing number)) (subst (λ z. cells.Answers tries b c (cells.claim_acts cell) (cells.claim_reply b cell) (Ok z)) is all)))
+        along a c (Err (Found context number)) (standing store context key rest a b c first second' tries same looked' number (here' (Ok (Standing number)) (subst (λ z. cells.Answers tries b c (cells.claim_acts cell) (cells.claim_reply b cell) (Ok z)) is all)))
 
-    pub fault_ends : (said : Claimed) (number : ℕ) → said ≡ Fault number → cells.Answers tries b c (cells.claim_acts cell) (cells.claim_reply b cell) (Ok said) → ClaimsMissing store context key a.view c.view (Err (FaultStands context number))
+    pub fault_ends : (said : Claimed) (number : ℕ) → said ≡ Fault number → cells.Answers tries b c (cells.claim_acts cell) (cells.claim_reply b cell) (Ok said) → ClaimsAlong store path key a.view c.view (Err (FaultStands context number))
     fault_ends said number is all =
-        for_path a c (Err (FaultStands context number)) (fault_standing store context key rest a b c first second' tries same looked' number (here' (Ok (Fault number)) (subst (λ z. cells.Answers tries b c (cells.claim_acts cell) (cells.claim_reply b cell) (Ok z)) is all)))
+        along a c (Err (FaultStands context number)) (fault_standing store context key rest a b c first second' tries same looked' number (here' (Ok (Fault number)) (subst (λ z. cells.Answers tries b c (cells.claim_acts cell) (cells.claim_reply b cell) (Ok z)) is all)))
 
     pub refusal_ends : (why : CellRefusal) (told_why : Refusal) → told_why ≡ refusal_at context why → cells.Answers tries b c (cells.claim_acts cell) (cells.claim_reply b cell) (Err why)
-        → (why ≡ in_the_way → cells.IsOvertakenAt tries b c (Claim cell)) → ClaimsMissing store context key a.view c.view (Err (Refused told_why))
+        → (why ≡ in_the_way → cells.IsOvertakenAt tries b c (Claim cell)) → ClaimsAlong store path key a.view c.view (Err (Refused told_why))
     refusal_ends why told_why is all last =
-        for_path a c (Err (Refused told_why)) (subst (λ w. ClaimsFrom store context rest key a.view c.view (Err (Refused w))) (sym is) (refused store context key rest a b c first second' tries same looked' why (here' (Err why) all) (subst (λ n. why ≡ in_the_way → cells.IsOvertakenAt tries b c (Claim n)) is_cell last)))
+        along a c (Err (Refused told_why)) (subst (λ w. ClaimsFrom store context rest key a.view c.view (Err (Refused w))) (sym is) (refused store context key rest a b c first second' tries same looked' why (here' (Err why) all) (subst (λ n. why ≡ in_the_way → cells.IsOvertakenAt tries b c (Claim n)) is_cell last)))
 
     -- where the claim is won
     module _ (third : c.cells ≡ b.cells) (said : Claimed) (claim : ℕ) (is : said ≡ Won claim) (all : cells.Answers tries b c (cells.claim_acts cell) (cells.claim_reply b cell) (Ok said)) (held : IfWon (Ok said) (λ k. (k ≡ cell) × IsHeld c.view k)) where
@@ -325,17 +307,17 @@ module _ (store : ContextCells) (context key : ℕ) (tree : List Id) (told path 
       calls : Calls store.cells.limits a.view c.view (Claim (cell_in store key context) ∷ [])
       calls = won_calls store context key rest a b c first second' tries same looked' claim all'
 
-      claims : Claims store.cells.limits store context (take (length path - 1) (drop 1 path)) key a.view c.view
+      claims : Claims store.cells.limits store context rest key a.view c.view
       claims = won_claims store context key rest a b c first second' tries same looked' claim all'
 
-      pub claim_stands : (d : Lane) (r : Option Unused) → IsLegal c.cells.limits (seen_by d.view) → Stands store (take (length path - 1) (drop 1 path)) key c d r → IsHeld d.view claim
+      pub claim_stands : (d : Lane) (r : Option Unused) → IsLegal c.cells.limits (seen_by d.view) → Stands store rest key c d r → IsHeld d.view claim
       claim_stands d r legal s = held_on store context key rest a c d third' calls claims claim r claim_is held_here legal s
 
-      pub second_look_ends : (d : Lane) → IsLegal c.cells.limits (seen_by d.view) → Stands store (take (length path - 1) (drop 1 path)) key c d None → ClaimsMissing store context key a.view d.view (Ok claim)
-      second_look_ends d legal s = for_path a d (Ok claim) (second_look store context key rest a c d third' calls claims claim claim_is held_here legal s)
+      pub second_look_ends : (d : Lane) → IsLegal c.cells.limits (seen_by d.view) → Stands store rest key c d None → ClaimsAlong store path key a.view d.view (Ok claim)
+      second_look_ends d legal s = along a d (Ok claim) (second_look store context key rest a c d third' calls claims claim claim_is held_here legal s)
 
-      pub given_up_ends : (d e : Lane) (unused : Unused) → d.cells ≡ c.cells → Calls d.cells.limits d.view e.view (Abandon claim ∷ []) → Stands store (take (length path - 1) (drop 1 path)) key c d (Some unused)
-          → ClaimsMissing store context key a.view e.view (Err unused)
+      pub given_up_ends : (d e : Lane) (unused : Unused) → d.cells ≡ c.cells → Calls d.cells.limits d.view e.view (Abandon claim ∷ []) → Stands store rest key c d (Some unused)
+          → ClaimsAlong store path key a.view e.view (Err unused)
       given_up_ends d e unused fourth ended s =
-          for_path a e (Err unused) (given_up_look store context key rest a c d third' calls claims e
+          along a e (Err unused) (given_up_look store context key rest a c d third' calls claims e
           (subst (λ (z : CellsId × ℕ). Calls z.0.limits d.view e.view (Abandon z.1 ∷ [])) (λ i. ((fourth ∙ third') i, claim_is i)) ended) unused s)

@@ -148,6 +148,12 @@ ClaimsFrom store context ancestors key before after (Err (FaultStands at number)
 ClaimsFrom store context ancestors key before after (Err (Refused why)) =
     IsRefused store.cells.limits store context ancestors key before after why
 
+-- The same along a path: the context that it begins with, and its ancestors.
+abbrev pub ClaimsAlong : ContextCells → List ℕ → ℕ → LaneView → LaneView → Result ℕ Unused → Type 0
+ClaimsAlong store [] key before after result = ⊥
+ClaimsAlong store (context ∷ ancestors) key before after result =
+    ClaimsFrom store context ancestors key before after result
+
 -- The same for the path of the context.
 abbrev pub ClaimsMissing : ContextCells → ℕ → ℕ → LaneView → LaneView → Result ℕ Unused → Type 0
 ClaimsMissing store context key before after result = (ancestors : List ℕ)

@@ -1,7 +1,7 @@
 -- What contracts see of the cells of a store, and what each call by the numbers of a context and a key promises of its
 -- result. The calls are `get`, `put` and `remove` of Javadoc `ExtensionContext.Store`. Numbers, refusals, points and
 -- seals are not from JUnit. `CallActs` of ext_model has the words for events, fronts and points.
-use Rattle.std.specs.Prelude.{ℕ, ◌≡◌, ◌+◌, ◌*◌, ◌%◌, ◌≤◌, List, [], length, map, ◌∷◌, nat_eq, Contains, Option, None, Some, Result, Ok, Err}
+use Rattle.std.specs.Prelude.{ℕ, ◌≡◌, ◌≢◌, ◌+◌, ◌*◌, ◌%◌, ◌<◌, ◌≤◌, List, [], length, map, ◌∷◌, nat_eq, All, AllPairs, Contains, Option, None, Some, Result, Ok, Err}
 use Rattle.std.specs.List.{IsDistinct}
 use Rattle.ext_model.specs.Closing.{IsSealedUnused}
 use Rattle.ext_model.specs.History.{Limits, History, reply_after}
@@ -43,6 +43,13 @@ pub record IsWell (tree : List Id) (keys : List ℕ) (limits : Limits) : Type 0 
 abbrev pub cell_in : ContextCells → ℕ → ℕ → ℕ
 cell_in store key context = context * length store.keys + key
 
+-- Contexts that a look-up may go along, the nearest first: at most 16 of the store, all different. A context's path in
+-- the tree is one; whoever opens a context during a run has another for it.
+pub record IsTrail (store : ContextCells) (path : List ℕ) : Type 0 where
+  pub few : length path ≤ 16
+  pub within : All (λ context. context < length store.tree) path
+  pub different : AllPairs (λ a b. a ≢ b) path
+
 -- ---- answers
 
 -- The result is the reply of one thread at a point of the call, and the lane's events are those that it means. Or it is
@@ -69,14 +76,19 @@ steps_of before after = length (call_fronts before.view after.view)
 abbrev pub look_acts : Result Look Refusal → List (Act ℕ)
 look_acts result = []
 
--- The result is the look-up from the context through its ancestors, nearest first, at one single point of the call. Or
--- other lanes were in the way on the path itself: at least `tries` events after the first front were on the key's cells
--- there.
+-- The result is the look-up along the path, nearest first, at one single point of the call. Or other lanes were in the
+-- way on the path itself: at least `tries` events after the first front were on the key's cells there.
+pub record GetsAlong (store : ContextCells) (path : List ℕ) (key : ℕ) (before after : Lane)
+    (result : Result Look Refusal) : Type 0 where
+  pub looked : Answers store (Err Contended) before after look_acts
+      (λ p. Ok (look_after (cell_in store key) path p)) result
+  pub in_the_way : result ≡ Err Contended
+      → IsOvertakenOn store.tries (map (cell_in store key) path) before.view after.view
+
+-- The same from the context through its ancestors.
 unfoldable pub Gets : ContextCells → ℕ → ℕ → Lane → Lane → Result Look Refusal → Type 0
 Gets store context key before after result =
-    (path : List ℕ) × IsPathOf store.tree context path
-    × Answers store (Err Contended) before after look_acts (λ p. Ok (look_after (cell_in store key) path p)) result
-    × (result ≡ Err Contended → IsOvertakenOn store.tries (map (cell_in store key) path) before.view after.view)
+    (path : List ℕ) × IsPathOf store.tree context path × GetsAlong store path key before after result
 
 -- What a look-up may answer in a store that keeps no faults.
 abbrev pub IsFaultlessLook : Look → Type 0

@@ -1,6 +1,6 @@
 -- What a look-up along a path promises, for the path of a context or of its ancestors alone. No public contract cites
 -- it.
-use Rattle.std.specs.Prelude.{ℕ, ◌≡◌, ◌≤◌, ◌<◌, ◌≢◌, List, [], length, All, AllPairs, map, Result, Ok, Err}
+use Rattle.std.specs.Prelude.{ℕ, ◌≡◌, ◌≤◌, List, [], length, map, Result, Ok, Err}
 use Rattle.ext_model.specs.declared.look.Look.{Look}
 use Rattle.ext_model.specs.History.{History}
 use Rattle.ext_history.specs.Histories.{IsStepped}
@@ -11,12 +11,6 @@ use Rattle.ext_cells.specs.CellCalls.{IsOvertakenOn}
 use Rattle.ext_store_core.specs.declared.fault.Refusal.{Refusal}
 use Rattle.ext_store_core.specs.declared.fault.Refusal.TheVariants.{Contended}
 use Rattle.ext_store_core.specs.ContextCalls.{ContextCells, cell_in}
-
--- At most 16 contexts of the store, all different.
-pub record IsTrail (store : ContextCells) (path : List ℕ) : Type 0 where
-  pub few : length path ≤ 16
-  pub within : All (λ context. context < length store.tree) path
-  pub different : AllPairs (λ a b. a ≢ b) path
 
 -- The look-up along the path at one single point of the call, which made no event. If there is a context to ask, the
 -- call made at least one step.

@@ -5,9 +5,8 @@ ghost use Rattle.ext_model.specs.History.{IsLegal};
 ghost use Rattle.ext_model.specs.CallActs.{IsHeld, MayStoreNow};
 ghost use Rattle.ext_model.specs.declared.event.Act.TheVariants as act_is;
 ghost use Rattle.ext_cells.specs.CellCalls.{EndsClaim};
-ghost use Rattle.ext_store_core.specs.ContextCalls.{steps_of};
-ghost use Rattle.ext_store_core.specs.InnerLooking.{IsTrail};
-ghost use Rattle.ext_store_core.specs.Claiming.{ClaimsMissing, Stands, unused_of};
+ghost use Rattle.ext_store_core.specs.ContextCalls.{IsTrail, steps_of};
+ghost use Rattle.ext_store_core.specs.Claiming.{ClaimsAlong, ClaimsMissing, Stands, unused_of};
 
 use crate::{Refusal, StoreCore};
 use ext_cells::{CellLane, Claim, Claimed};
@@ -90,7 +89,29 @@ impl StoreCore {
         ensures steps { MatchResult result (λ _. steps_of lane.old lane.new ≤ 33 * (self.now.tries + 1)) (λ _. steps_of lane.old lane.new ≤ 33 * (self.now.tries + 1) + 2) }
     {
         let path = self.tree.path(context);
-        let path = path.as_slice();
+        self.claim_along_quietly(lane, path.as_slice(), key)
+    }
+
+    /// Claims as `claim_quietly` does, for the first context of the path, with the others as its
+    /// ancestors. The path has at least one context, and `is_trail` tests the rest.
+    pub fn claim_along_quietly(
+        &self,
+        lane: &mut CellLane,
+        path: &[ContextNo],
+        key: KeyNo,
+    ) -> Result<Claim, Unused>
+        requires lane { lane.old.cells ≡ self.now.cells }
+        requires some { 1 ≤ length path.now }
+        requires path { IsTrail self.now path.now }
+        requires key { key < length self.now.keys }
+        ensures lane { lane.new.cells ≡ lane.old.cells }
+        ensures claim { ClaimsAlong self.now path.now key lane.old.view lane.new.view result }
+        ensures steps { MatchResult result (λ _. steps_of lane.old lane.new ≤ 33 * (self.now.tries + 1)) (λ _. steps_of lane.old lane.new ≤ 33 * (self.now.tries + 1) + 2) }
+    {
+        let Some((first, ancestors)) = path.split_first() else {
+            unreachable!()
+        };
+        let context = *first;
         if let Some(unused) = self.stands_along(lane, path, key) {
             return Err(unused);
         }
@@ -112,7 +133,7 @@ impl StoreCore {
         };
         // An ancestor may have got a value between the first look and the claim. The claim keeps
         // all other lanes off the context's own cell, so from here on only the ancestors matter.
-        match self.stands_along(lane, &path[1..], key) {
+        match self.stands_along(lane, ancestors, key) {
             None => Ok(claim),
             Some(unused) => {
                 self.abandon_quietly(lane, claim);

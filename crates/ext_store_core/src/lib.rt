@@ -22,6 +22,7 @@ mod fault;
 mod found;
 mod look;
 mod store_core;
+mod trail;
 mod waiting;
 
 pub use claim::Unused;

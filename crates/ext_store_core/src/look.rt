@@ -1,7 +1,7 @@
 //! The look-up of a key from a context through its ancestors.
 ghost use Rattle.std.specs.Prelude.{◌≡◌, ◌+◌, ◌*◌, ◌<◌, ◌≤◌, IfOk, IsFalse, length};
-ghost use Rattle.ext_store_core.specs.ContextCalls.{Gets, IsFaultlessLook, steps_of};
-ghost use Rattle.ext_store_core.specs.InnerLooking.{IsTrail, Looks};
+ghost use Rattle.ext_store_core.specs.ContextCalls.{Gets, GetsAlong, IsFaultlessLook, IsTrail, steps_of};
+ghost use Rattle.ext_store_core.specs.InnerLooking.{Looks};
 
 use crate::found::found_at;
 use crate::{Refusal, StoreCore};
@@ -28,7 +28,31 @@ impl StoreCore {
         ensures steps { steps_of lane.old lane.new ≤ 16 * (self.now.tries + 1) }
     {
         let path = self.tree.path(context);
-        let looked = self.look_along(lane, path.as_slice(), key);
+        self.get_along(lane, path.as_slice(), key)
+    }
+
+    /// Looks for the key in the contexts of the path, the first one first, at one point of the
+    /// call, as `get` does along the path of a context. The path has at least one context, and
+    /// `is_trail` tests the rest. Refused as `get` is.
+    ///
+    /// For contexts that are opened during a run: their path is what their opener says.
+    #[inline(always)]
+    pub fn get_along(
+        &self,
+        lane: &mut CellLane,
+        path: &[ContextNo],
+        key: KeyNo,
+    ) -> Result<Look, Refusal>
+        requires lane { lane.old.cells ≡ self.now.cells }
+        requires some { 1 ≤ length path.now }
+        requires path { IsTrail self.now path.now }
+        requires key { key < length self.now.keys }
+        ensures lane { lane.new.cells ≡ lane.old.cells }
+        ensures answer { GetsAlong self.now path.now key lane.old lane.new result }
+        ensures no_faults { IsFalse self.now.cells.limits.keep_faults → IfOk result IsFaultlessLook }
+        ensures steps { steps_of lane.old lane.new ≤ 16 * (self.now.tries + 1) }
+    {
+        let looked = self.look_along(lane, path, key);
         lane.recall();
         looked
     }

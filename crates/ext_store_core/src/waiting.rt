@@ -4,8 +4,8 @@ ghost use Rattle.std.specs.Prelude.{◌≡◌, ◌≢◌, ◌<◌, Err, IfErr, I
 ghost use Rattle.ext_model.specs.CallActs.{MayStoreNow};
 ghost use Rattle.ext_cells.specs.declared.refusal.CellRefusal.TheVariants as cell_refusal;
 ghost use Rattle.ext_cells.specs.CellCalls as cells;
-ghost use Rattle.ext_store_core.specs.ContextCalls.{Gets, IsFaultlessLook, Puts, Removes, with_kept};
-ghost use Rattle.ext_store_core.specs.InnerLooking.{IsTrail, LooksAt};
+ghost use Rattle.ext_store_core.specs.ContextCalls.{Gets, IsFaultlessLook, IsTrail, Puts, Removes, with_kept};
+ghost use Rattle.ext_store_core.specs.InnerLooking.{LooksAt};
 ghost use Rattle.ext_store_core.specs.Waiting.{announced_after, ClaimsAfterWaits, IsDecided, IsDecidedLook, IsDecidedUnused};
 
 use crate::found::unless_busy;

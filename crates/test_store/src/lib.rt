@@ -4,6 +4,8 @@
 #![tactic(auto)]
 
 #[cfg(test)]
+mod along;
+#[cfg(test)]
 mod asked;
 #[cfg(test)]
 mod calls;

@@ -14,7 +14,7 @@ unfolding Gets
 returns-clause-answer g c =
     let some : 1 ≤ length c.as_slice.result.now = (let l = ap length c.as_slice.ensures.contexts in let s = c.path-path.ensures.some in omega (arith, l, s)) in
     let path : IsPathOf c.args.self.now.tree c.args.context c.as_slice.result.now = search rules in
-    (c.as_slice.result.now, path, looks_answer c.args.self.now c.as_slice.result.now c.args.key c.args.lane.now c.wait_along-looked.new.lane (Ok c.wait_along-looked.result) some c.wait_along-looked.ensures.look, λ e. absurd (cc e))
+    (c.as_slice.result.now, path, record { looked = looks_answer c.args.self.now c.as_slice.result.now c.args.key c.args.lane.now c.wait_along-looked.new.lane (Ok c.wait_along-looked.result) some c.wait_along-looked.ensures.look; in_the_way = λ e. absurd (cc e) })
 
 pub returns-clause-lane : goal.returns-clause-lane
 returns-clause-lane g c = c.wait_along-looked.ensures.lane
