@@ -106,8 +106,8 @@ impl Scenario for Paths {
         &self,
         rt: &R,
         store: &Store<Letter>,
-        _first: &mut Lane<Letter>,
-        _second: &mut Lane<Letter>,
+        first: &mut Lane<Letter>,
+        second: &mut Lane<Letter>,
         _a: &Key,
         _d: &Key,
     )
@@ -115,6 +115,7 @@ impl Scenario for Paths {
         requires second { IsLaneOf store.now.id second.old }
         requires contexts { 2 < length store.now.tree }
     {
+        same(rt, (first.number(), second.number()), (0, 1), "the lanes");
         let trails: [&[ContextNo]; 4] = [&[], &[2, 1, 0], &[0, 2], &[1]];
         for path in trails {
             same(rt, store.is_trail(path), true, "contexts of the store");
