@@ -5,7 +5,7 @@ use Rattle.std.proofs.lemmas.List.{ext_get_or}
 use Rattle.std.specs.Prelude.{Option, Result, IfSome, IsSome, IsTrue, is_some, slice_index_or, true, false}
 use Rattle.std.specs.Arc.{arc_value}
 use Rattle.ext_model.specs.declared.event.Act.TheVariants.{Abandon}
-use Rattle.ext_model.specs.CallActs.{Calls}
+use Rattle.ext_model.specs.CallActs.{Calls, LaneView}
 use Rattle.ext_model.specs.declared.look.Look.{Look}
 use Rattle.ext_model.specs.declared.look.Look.TheVariants as look
 use Rattle.ext_model.specs.declared.look.Fault.{Fault}
@@ -18,10 +18,10 @@ use Rattle.ext_model.specs.declared.closed.Closed.{Closed}
 use Rattle.ext_store_core.specs.declared.fault.Refusal.{Refusal}
 use Rattle.ext_store_core.specs.declared.claim.Unused.{Unused}
 use Rattle.ext_store_core.specs.declared.claim.Unused.TheVariants as unused
-use Rattle.ext_store.specs.Computing.{ClaimsMissing, IsUnkept}
+use Rattle.ext_store.specs.Computing.{IsUnkept}
 use Rattle.ext_store.specs.declared.fault.KeepFault.TheVariants as keep
 use Rattle.ext_store.specs.Stores.{CloserView, StoreLane}
-use Rattle.ext_store.specs.LaneCalls.{Gets, KeepsAs, Puts, Removes}
+use Rattle.ext_store.specs.LaneCalls.{KeepsAs, Puts, Removes}
 use Rattle.ext_c.specs.declared.code.Code.{Code}
 use Rattle.ext_c.specs.declared.code.Code.TheVariants as code
 use Rattle.ext_c.specs.declared.handle.Handle.{Handle}
@@ -34,7 +34,7 @@ use Rattle.ext_c.specs.Codes.{code_number}
 use Rattle.ext_c.specs.Faults.{IsFaultOf}
 use Rattle.ext_c.specs.Slots.{OnSlot}
 use Rattle.ext_c.specs.Writing.{WritesNext}
-use Rattle.ext_c.specs.Answers.{BeginSays, FailSays, GetSays, NotAsked, PutSays, RemoveSays, TellsFault, TellsFound, TellsLook, TellsPut, TellsRemove, TellsStanding, TellsStood, TellsUnused, TellsValue, store_of}
+use Rattle.ext_c.specs.Answers.{ClaimSays, FailSays, LookSays, NotAsked, NotAskedAlong, PutSays, RemoveSays, TellsFault, TellsFound, TellsLook, TellsPut, TellsRemove, TellsStanding, TellsStood, TellsUnused, TellsValue, store_of}
 
 -- ---- told of a lane that knows the same
 
@@ -122,33 +122,38 @@ has_none seat e = of_none seat.claim e
 pub has_claim : (context key : ℕ) (seat : Seat) → is_some seat.claim ≡ true → NotAsked context key seat code.Claiming
 has_claim context key seat e = let own = of_some seat.claim e in NotAsked.claiming own.0 own.1
 
+pub has_claim_along : (path : List ℕ) (key : ℕ) (seat : Seat) → is_some seat.claim ≡ true → NotAskedAlong path key seat code.Claiming
+has_claim_along path key seat e = let own = of_some seat.claim e in NotAskedAlong.claiming own.0 own.1
+
 -- a lane that has just got one
-pub begin_run : (context key : ℕ) (before after : Seat) (was : ExtValue) (m : Option ℕ) → before.claim ≡ None → after.claim ≡ m → IsSome m
-    → IfSome m (λ claim. ClaimsMissing (store_of before) context key before.lane.cells.view after.lane.cells.view (Ok claim)) → BeginSays context key before after was was code.Run
-begin_run context key before after was None idle e some claims = absurd (cc)
-begin_run context key before after was (Some claim) idle e some claims = BeginSays.claimed idle claim claims e refl refl
+pub begin_run : (IsBarred : Code → Type 0) (Claims : LaneView → LaneView → Result ℕ Unused → Type 0) (before after : Seat) (was : ExtValue) (m : Option ℕ) → before.claim ≡ None → after.claim ≡ m → IsSome m
+    → IfSome m (λ claim. Claims before.lane.cells.view after.lane.cells.view (Ok claim)) → ClaimSays IsBarred Claims before after was was code.Run
+begin_run IsBarred Claims before after was None idle e some claims = absurd (cc)
+begin_run IsBarred Claims before after was (Some claim) idle e some claims = ClaimSays.claimed idle claim claims e refl refl
 
 -- ---- the calls
 
-module _ (context key : ℕ) (before mid after : Seat) (known : mid.lane.known ≡ before.lane.known) (faults : mid.lane.faults ≡ before.lane.faults)
+module _ (before mid after : Seat) (known : mid.lane.known ≡ before.lane.known) (faults : mid.lane.faults ≡ before.lane.faults)
     (still : after.lane.cells ≡ mid.lane.cells) (idle : before.claim ≡ None) (was told : ExtValue) (said : Code) where
-  pub get_said : (looked : Result Look Refusal) → Gets (store_of before) context key before.lane.cells mid.lane.cells looked → TellsLook looked mid.lane after.lane was told said
-      → GetSays context key before after was told said
-  get_said looked gets tells =
-      GetSays.asked idle looked (subst (λ (l : Lane). Gets (store_of before) context key before.lane.cells l looked) (sym still) gets)
+  pub look_said : (IsBarred : Code → Type 0) (Looks : Lane → Lane → Result Look Refusal → Type 0) (looked : Result Look Refusal) → Looks before.lane.cells mid.lane.cells looked
+      → TellsLook looked mid.lane after.lane was told said → LookSays IsBarred Looks before after was told said
+  look_said IsBarred Looks looked looks tells =
+      LookSays.asked idle looked (subst (λ (l : Lane). Looks before.lane.cells l looked) (sym still) looks)
       (look_as before.lane mid.lane after.lane known faults told was looked said tells)
 
+  pub claim_said : (IsBarred : Code → Type 0) (Claims : LaneView → LaneView → Result ℕ Unused → Type 0) (why : Unused) → Claims before.lane.cells.view mid.lane.cells.view (Err why)
+      → TellsUnused why mid.lane after.lane was told said → after.claim ≡ None → ClaimSays IsBarred Claims before after was told said
+  claim_said IsBarred Claims why claims tells unclaimed =
+      ClaimSays.unclaimed idle why (subst (λ (l : Lane). Claims before.lane.cells.view l.view (Err why)) (sym still) claims)
+      (unused_as before.lane mid.lane after.lane known faults told was why said tells) unclaimed
+
+module _ (context key : ℕ) (before mid after : Seat) (known : mid.lane.known ≡ before.lane.known) (faults : mid.lane.faults ≡ before.lane.faults)
+    (still : after.lane.cells ≡ mid.lane.cells) (idle : before.claim ≡ None) (was told : ExtValue) (said : Code) where
   pub remove_said : (result : Result (Option ℕ) Refusal) → Removes (store_of before) context key before.lane.cells mid.lane.cells result
       → TellsRemove context result mid.lane after.lane was told said → RemoveSays context key before after was told said
   remove_said result removes tells =
       RemoveSays.asked idle result (subst (λ (l : Lane). Removes (store_of before) context key before.lane.cells l result) (sym still) removes)
       (remove_as before.lane mid.lane after.lane known faults told was context result said tells)
-
-  pub begin_said : (why : Unused) → ClaimsMissing (store_of before) context key before.lane.cells.view mid.lane.cells.view (Err why)
-      → TellsUnused why mid.lane after.lane was told said → after.claim ≡ None → BeginSays context key before after was told said
-  begin_said why claims tells unclaimed =
-      BeginSays.unclaimed idle why (subst (λ (l : Lane). ClaimsMissing (store_of before) context key before.lane.cells.view l.view (Err why)) (sym still) claims)
-      (unused_as before.lane mid.lane after.lane known faults told was why said tells) unclaimed
 
 pub put_said : (context key : ℕ) (handle : Handle) (before kept put after : Seat) (was told : ExtValue) (said : Code) (number : ℕ) (result : Result (Option ℕ) (ℕ × Refusal))
     → before.claim ≡ None → kept.store ≡ before.store → KeepsAs handle before.lane kept.lane number → Puts (store_of kept) context key number kept.lane.cells put.lane.cells result

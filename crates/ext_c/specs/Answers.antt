@@ -10,15 +10,17 @@ use Rattle.ext_model.specs.declared.look.Look.TheVariants as look
 use Rattle.ext_model.specs.declared.event.Act.TheVariants as act_is
 use Rattle.ext_tree.specs.Keys.{KeyValue, IsKeyNumber}
 use Rattle.ext_values.specs.Known.{Learns, known_at}
+use Rattle.ext_cells.specs.Lanes.{Lane}
 use Rattle.ext_cells.specs.CellCalls.{EndsClaim}
+use Rattle.ext_model.specs.CallActs.{LaneView}
 use Rattle.ext_store_core.specs.declared.fault.Refusal.{Refusal}
 use Rattle.ext_store_core.specs.declared.fault.Refusal.TheVariants as refusal
 use Rattle.ext_store_core.specs.declared.claim.Unused.{Unused}
 use Rattle.ext_store_core.specs.declared.claim.Unused.TheVariants as unused
-use Rattle.ext_store.specs.Computing.{ClaimsMissing}
+use Rattle.ext_store.specs.Computing.{ClaimsAlong, ClaimsMissing}
 use Rattle.ext_store.specs.declared.fault.KeepFault.{KeepFault}
 use Rattle.ext_store.specs.Stores.{StoreView, StoreLane}
-use Rattle.ext_store.specs.LaneCalls.{Gets, IsKeyRefused, KeepsAs, KeepsNothing, Puts, Removes}
+use Rattle.ext_store.specs.LaneCalls.{Gets, GetsAlong, IsTrail, IsKeyRefused, KeepsAs, KeepsNothing, Puts, Removes}
 use Rattle.ext_store.specs.Computing.{Fails, Fills, IsUnkept}
 use Rattle.ext_store.specs.Waiting.{IsDecidedFault}
 use Rattle.ext_c.specs.declared.code.Code.{Code}
@@ -103,6 +105,14 @@ pub data NotAsked (context key : ℕ) (seat : Seat) : Code → Type 0 where
   no_context : seat.claim ≡ None → length (store_of seat).tree ≤ context → NotAsked context key seat code.BadContext
   no_key : seat.claim ≡ None → length (store_of seat).id.keys ≤ key → NotAsked context key seat code.BadKey
 
+-- The same along a path: the lane has a claim, there is no such path, or there is no such key. A path has at least one
+-- context.
+pub data NotAskedAlong (path : List ℕ) (key : ℕ) (seat : Seat) : Code → Type 0 where
+  claiming : (claim : ℕ) → seat.claim ≡ Some claim → NotAskedAlong path key seat code.Claiming
+  no_path : seat.claim ≡ None → (1 ≤ length path → IsTrail (store_of seat) path → ⊥)
+      → NotAskedAlong path key seat code.BadContext
+  no_key : seat.claim ≡ None → length (store_of seat).id.keys ≤ key → NotAskedAlong path key seat code.BadKey
+
 -- ---- get
 
 -- The code and what is written out, by the store's answer to a look-up.
@@ -114,13 +124,21 @@ TellsLook (Ok (look.Busy at)) before after was found said = (said ≡ code.Busy)
 TellsLook (Ok (look.Closed at)) before after was found said = (said ≡ code.Closed) × (found ≡ at_context at was)
 TellsLook (Err why) before after was found said = (said ≡ refusal_code why) × (found ≡ was)
 
--- The store looked, and this call answers what it found.
-pub data GetSays (context key : ℕ) (before after : Seat) (was found : ExtValue) (said : Code) : Type 0 where
-  not_asked : NotAsked context key before said → after ≡ before → found ≡ was
-      → GetSays context key before after was found said
-  asked : before.claim ≡ None → (looked : Result Look Refusal)
-      → Gets (store_of before) context key before.lane.cells after.lane.cells looked
-      → TellsLook looked before.lane after.lane was found said → GetSays context key before after was found said
+-- The store is not asked, for this reason; or it looked like this, and the call answers what it found.
+pub data LookSays (IsBarred : Code → Type 0) (Looks : Lane → Lane → Result Look Refusal → Type 0)
+    (before after : Seat) (was found : ExtValue) (said : Code) : Type 0 where
+  not_asked : IsBarred said → after ≡ before → found ≡ was → LookSays IsBarred Looks before after was found said
+  asked : before.claim ≡ None → (looked : Result Look Refusal) → Looks before.lane.cells after.lane.cells looked
+      → TellsLook looked before.lane after.lane was found said → LookSays IsBarred Looks before after was found said
+
+-- It looks from the context, or along the path.
+abbrev pub GetSays : ℕ → ℕ → Seat → Seat → ExtValue → ExtValue → Code → Type 0
+GetSays context key before after was found said =
+    LookSays (NotAsked context key before) (Gets (store_of before) context key) before after was found said
+
+abbrev pub GetAlongSays : List ℕ → ℕ → Seat → Seat → ExtValue → ExtValue → Code → Type 0
+GetAlongSays path key before after was found said =
+    LookSays (NotAskedAlong path key before) (GetsAlong (store_of before) path key) before after was found said
 
 -- ---- put and remove
 
@@ -179,17 +197,25 @@ TellsUnused (unused.Found at number) before after was found said = TellsFound at
 TellsUnused (unused.FaultStands at number) before after was found said = TellsStanding at number before after found said
 TellsUnused (unused.Refused why) before after was found said = (said ≡ refusal_code why) × (found ≡ at_decided why was)
 
--- The lane has claimed the place, or the call answers why it has not.
-pub data BeginSays (context key : ℕ) (before after : Seat) (was found : ExtValue) (said : Code) : Type 0 where
-  not_asked : NotAsked context key before said → after ≡ before → found ≡ was
-      → BeginSays context key before after was found said
-  claimed : before.claim ≡ None → (claim : ℕ)
-      → ClaimsMissing (store_of before) context key before.lane.cells.view after.lane.cells.view (Ok claim)
-      → after.claim ≡ Some claim → found ≡ was → said ≡ code.Run → BeginSays context key before after was found said
-  unclaimed : before.claim ≡ None → (why : Unused)
-      → ClaimsMissing (store_of before) context key before.lane.cells.view after.lane.cells.view (Err why)
+-- The store is not asked, for this reason; or the lane has claimed the place like this; or the call answers why not.
+pub data ClaimSays (IsBarred : Code → Type 0) (Claims : LaneView → LaneView → Result ℕ Unused → Type 0)
+    (before after : Seat) (was found : ExtValue) (said : Code) : Type 0 where
+  not_asked : IsBarred said → after ≡ before → found ≡ was → ClaimSays IsBarred Claims before after was found said
+  claimed : before.claim ≡ None → (claim : ℕ) → Claims before.lane.cells.view after.lane.cells.view (Ok claim)
+      → after.claim ≡ Some claim → found ≡ was → said ≡ code.Run
+      → ClaimSays IsBarred Claims before after was found said
+  unclaimed : before.claim ≡ None → (why : Unused) → Claims before.lane.cells.view after.lane.cells.view (Err why)
       → TellsUnused why before.lane after.lane was found said → after.claim ≡ None
-      → BeginSays context key before after was found said
+      → ClaimSays IsBarred Claims before after was found said
+
+-- It looks from the context, or along the path.
+abbrev pub BeginSays : ℕ → ℕ → Seat → Seat → ExtValue → ExtValue → Code → Type 0
+BeginSays context key before after was found said =
+    ClaimSays (NotAsked context key before) (ClaimsMissing (store_of before) context key) before after was found said
+
+abbrev pub BeginAlongSays : List ℕ → ℕ → Seat → Seat → ExtValue → ExtValue → Code → Type 0
+BeginAlongSays path key before after was found said =
+    ClaimSays (NotAskedAlong path key before) (ClaimsAlong (store_of before) path key) before after was found said
 
 -- The handle is kept and its number stands in the claimed cell; or it is not kept, and the claim is given up. That
 -- other lanes were in the way is no reason: while the claim stands the lane draws again.

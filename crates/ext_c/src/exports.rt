@@ -1,7 +1,7 @@
 //! What C calls. `bindings/c` has the header.
 ghost use Rattle.std.specs.Prelude.{◌≡◌, ◌≢◌};
 ghost use Rattle.ext_c.specs.declared.code.Code.TheVariants as code;
-ghost use Rattle.ext_c.specs.Answers.{AbandonSays, BeginSays, FailSays, FillSays, GetSays, NamesKey, PutSays, RemoveSays};
+ghost use Rattle.ext_c.specs.Answers.{AbandonSays, BeginAlongSays, BeginSays, FailSays, FillSays, GetAlongSays, GetSays, NamesKey, PutSays, RemoveSays};
 ghost use Rattle.ext_c.specs.Closing.{CloseSays};
 ghost use Rattle.ext_c.specs.Opening.{LeaveSays, OpenSays};
 ghost use Rattle.ext_c.specs.Slots.{ByCode, HasNoClaim, KeepsClaim, OnSlot, StaysButClosers, StaysSo};
@@ -165,6 +165,28 @@ pub extern "C" fn ext_get(
     code.number()
 }
 
+/// Looks as `ext_get` does, but in the contexts of the path, the first one first: 1 to 16 contexts
+/// of the store, none twice. For a context that is opened during the run: it is one in reserve, and
+/// its path is itself and then that of its parent. Not asked of the store as `ext_get` is, and as
+/// `BadContext` if that is no path.
+#[unsafe(no_mangle)]
+pub extern "C" fn ext_get_along(
+    alloc: Global,
+    slot: &mut ExtSlot,
+    path: &[usize],
+    key: usize,
+    found: &mut ExtValue,
+) -> u32
+    ensures says { OnSlot KeepsClaim (found.new ≡ found.old) (λ before after. GetAlongSays path.now key before after found.old found.new) slot.old slot.new result }
+{
+    let Some(mut seat) = slot.take(alloc) else {
+        return Code::NoLane.number();
+    };
+    let code = seat.get_along(path, key, found);
+    slot.give(seat);
+    code.number()
+}
+
 /// Takes what stands under the key in the context itself, without closing it.
 #[unsafe(no_mangle)]
 pub extern "C" fn ext_remove(
@@ -200,6 +222,26 @@ pub extern "C" fn ext_begin(
         return Code::NoLane.number();
     };
     let code = seat.begin(context, key, found);
+    slot.give(seat);
+    code.number()
+}
+
+/// Begins a compute as `ext_begin` does, but in the first context of the path, which is as for
+/// `ext_get_along`.
+#[unsafe(no_mangle)]
+pub extern "C" fn ext_begin_along(
+    alloc: Global,
+    slot: &mut ExtSlot,
+    path: &[usize],
+    key: usize,
+    found: &mut ExtValue,
+) -> u32
+    ensures says { OnSlot StaysSo (found.new ≡ found.old) (λ before after. BeginAlongSays path.now key before after found.old found.new) slot.old slot.new result }
+{
+    let Some(mut seat) = slot.take(alloc) else {
+        return Code::NoLane.number();
+    };
+    let code = seat.begin_along(path, key, found);
     slot.give(seat);
     code.number()
 }

@@ -14,6 +14,7 @@
 //! that means for the lane of a slot.
 #![tactic(auto)]
 
+mod along;
 mod box_pointer;
 mod calls;
 mod closing;
