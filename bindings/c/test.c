@@ -109,6 +109,10 @@ static void refused_openings(void) {
     CODE(open_slots(&good, USUAL, slots, 17), EXT_BAD_LIMIT);
     CODE(open_slots(&good, LARGE, slots, 0), EXT_BAD_LIMIT);
     CODE(open_slots(&good, LARGE, slots, 33), EXT_BAD_LIMIT);
+    static ext_lanes numbered;
+    CODE(ext_lanes_open(&numbered, good.bytes, good.byte_count, good.lengths, good.length_count, &LARGE, EXT_MOST_LANES + 1),
+         EXT_BAD_LIMIT);
+    WANT(numbered.count == 0);
     static const ext_limits bad[] = {{0, 10, 64, false, false},         {65, 10, 64, false, false},       {64, 0, 64, false, false},
                                      {64, 65536, 64, false, false},     {64, 10, 0, false, false},        {64, 10, 1025, false, false},
                                      {0, 10, 64, false, true},          {65, 10, 64, false, true},        {64, 0, 64, false, true},
