@@ -115,7 +115,8 @@ static void open_store(uint32_t count) {
     static const uint32_t lengths[] = {10, 20, 33}, name_lengths[] = {3};
     ext_value stood = {0};
     size_t key = 1;
-    check(ext_lanes_open(&lanes, (const uint8_t *)ids, strlen(ids), lengths, 3, 64, 65535, false, count) == EXT_DONE);
+    static const ext_limits limits = {.tries = 64, .numbers = 65535, .keys = 64};
+    check(ext_lanes_open(&lanes, (const uint8_t *)ids, strlen(ids), lengths, 3, &limits, count) == EXT_DONE);
     for (uint32_t lane = 0; lane < count; lane++)
         check(ext_lanes_key(&lanes, lane, (const uint8_t *)"key", 3, name_lengths, 1, &key) == EXT_DONE && key == 0);
     check(ext_lanes_put(&lanes, 0, 0, 0, 7, true, &stood) == EXT_DONE);

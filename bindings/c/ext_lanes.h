@@ -12,7 +12,7 @@ enum {
     EXT_BAD_LANE = 101     /* the store has no lane of this number */
 };
 
-enum { EXT_MOST_LANES = 16 };
+enum { EXT_MOST_LANES = 32 };
 
 /* One lane, on a line of the processor's cache of its own. */
 typedef struct ext_lane {
@@ -28,11 +28,11 @@ typedef struct ext_lanes {
 
 /* ext_open, of `count` lanes. *store may have any bytes before, and is usable after EXT_DONE alone. */
 static inline ext_code ext_lanes_open(ext_lanes *store, const uint8_t *bytes, size_t byte_count, const uint32_t *lengths,
-                                      size_t length_count, uint32_t tries, uint32_t numbers, bool keep_faults, size_t count) {
+                                      size_t length_count, const ext_limits *limits, size_t count) {
     ext_slot slots[EXT_MOST_LANES] = {{0, NULL}};
     store->count = 0;
     if (count > EXT_MOST_LANES) return EXT_BAD_LIMIT;
-    ext_code code = ext_open(bytes, byte_count, lengths, length_count, tries, numbers, keep_faults, slots, count);
+    ext_code code = ext_open(bytes, byte_count, lengths, length_count, limits, slots, count);
     if (code != EXT_DONE) return code;
     store->count = (uint32_t)count;
     for (size_t lane = 0; lane < count; lane++) {
@@ -108,7 +108,7 @@ static inline ext_code ext_lanes_abandon(ext_lanes *store, uint32_t lane) {
 /* ext_close by a slot, asked again while it is EXT_UNJOINED. */
 static inline ext_code ext_close_joined(ext_slot *slot, size_t context, ext_value *values, size_t places, size_t *count) {
     ext_code code = ext_close(slot, context, values, places, count);
-    for (int shown = 0; shown < 64 && code == EXT_UNJOINED; shown++) code = ext_close(slot, context, values, places, count);
+    for (size_t shown = 0; shown < places && code == EXT_UNJOINED; shown++) code = ext_close(slot, context, values, places, count);
     return code;
 }
 

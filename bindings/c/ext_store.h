@@ -3,9 +3,9 @@
    Link with the static library of crates/ext_c (`rt lib` in that folder makes out/libext_c.a) and then with the kit's
    c/liblibc_c.a, which calls this program's malloc, realloc and free.
 
-   A store has contexts in a tree, up to 64 keys, and lanes. A value is 64 bits of the caller's own, its handle, which the
-   store never looks into and never frees. Contexts are numbered from 0, in the order of their ids; keys from 0 to 63, as
-   ext_key tells; values and kept faults from 1, one sequence for the whole store, in the order in which they were stored.
+   A store has contexts in a tree, up to 1,024 keys, and lanes. A value is 64 bits of the caller's own, its handle, which the
+   store never looks into and never frees. Contexts are numbered from 0, in the order of their ids; keys from 0, as ext_key
+   tells; values and kept faults from 1, one sequence for the whole store, in the order in which they were stored.
 
    For every call:
    - It answers a code and returns: no call waits for another thread, and none calls back.
@@ -43,7 +43,7 @@ enum {
     EXT_CLOSED = 6,         /* the context that decides is closed, for good */
     EXT_CONTENDED = 7,      /* other lanes were in the way as often as the store has tries: ask again */
     EXT_EXHAUSTED = 8,      /* some 2^40 changes were made at this place: it takes no more */
-    EXT_DIRECTORY_FULL = 9, /* 64 other keys have the numbers */
+    EXT_DIRECTORY_FULL = 9, /* other keys have all of the store's numbers for keys */
     EXT_NUMBERS_FULL = 10,  /* all numbers of the store were drawn: nothing more can be stored */
     EXT_NO_MEMORY = 11,     /* an allocation failed */
     EXT_UNPLACED = 12,      /* a place did not take the value or the key; tests show that it never comes */
@@ -55,14 +55,14 @@ enum {
     EXT_NO_CLOSER = 18,     /* this lane closes no context: the last slot of ext_open does */
     EXT_NOT_EMPTY = 19,     /* a slot that was handed to ext_open has a lane */
     EXT_BAD_CONTEXT = 20,   /* the store has no context of this number */
-    EXT_BAD_KEY = 21,       /* the number of a key is 64 or more */
-    EXT_BAD_LIMIT = 22,     /* lanes, tries or numbers are out of range */
+    EXT_BAD_KEY = 21,       /* the store has no place for a key of this number */
+    EXT_BAD_LIMIT = 22,     /* the count of lanes or one of ext_limits is out of range */
     EXT_BAD_LENGTHS = 23,   /* the lengths go beyond the bytes, or there is no text where one is needed */
     EXT_BAD_TEXT = 24,      /* a text is not UTF-8 */
     EXT_BAD_ID = 25,        /* a text is no unique id, or one that is more than 16 deep */
     EXT_BAD_TREE = 26,      /* the ids are no tree: no root, two roots, an id twice, or a parent that does not stand before */
-    EXT_TOO_MANY = 27,      /* there are more than 256 contexts */
-    EXT_TOO_FEW_PLACES = 28 /* of ext_close: there is room for fewer than 64 values */
+    EXT_TOO_MANY = 27,      /* there are more contexts than 256, or 65536 of a large store */
+    EXT_TOO_FEW_PLACES = 28 /* of ext_close: there is room for fewer values than the store has places for keys */
 };
 
 /* A lane, in memory of the caller. All bytes 0: empty. From ext_open to ext_leave the caller neither writes it nor copies it; it
@@ -82,14 +82,22 @@ typedef struct ext_value {
     bool fault;
 } ext_value;
 
-/* Opens a store, and fills all of the `lanes` slots, which are empty, 1 to 16. Takes memory.
+/* The limits of a store. */
+typedef struct ext_limits {
+    uint32_t tries; /* how often a call meets other lanes before it answers EXT_CONTENDED, which ext_fill and ext_fail never do: 1 to 64 */
+    uint32_t numbers; /* how many values and faults can be stored while the store lives, those that are replaced, removed or refused
+                         among them: 1 to 65535, of a large store 1 to 1048575 */
+    uint32_t keys;    /* how many keys can have a number, 1 to 1024, rounded up to a multiple of 32: these are the places for keys that
+                         the store has in each context, of 8.25 bytes */
+    bool keep_faults; /* whether ext_fail keeps the fault of a factory */
+    bool large;       /* whether the store may have 65536 contexts, 32 lanes and 1048575 numbers, and not only 256, 16 and 65535 */
+} ext_limits;
+
+/* Opens a store, and fills all of the `lanes` slots, which are empty: 1 to 16, of a large store 1 to 32. Takes memory: for each
+   context and key, and for each number.
 
    `bytes` has the ids of the contexts, one text behind the other, and `lengths` the length of each: first the root, then every id
-   behind its parent, as "[engine:x]" and "[engine:x]/[class:A]"; at most 256, 16 deep.
-   `tries`, 1 to 64: how often a call meets other lanes before it answers EXT_CONTENDED. ext_fill and ext_fail never do.
-   `numbers`, 1 to 65535: how many values and faults can be stored while the store lives, those that are replaced, removed or
-   refused among them.
-   `keep_faults`: whether ext_fail keeps the fault of a factory.
+   behind its parent, as "[engine:x]" and "[engine:x]/[class:A]"; at most 256, or 65536 of a large store, and 16 deep.
 
    The lane of the last slot closes contexts, and no other lane does.
 
@@ -97,14 +105,14 @@ typedef struct ext_value {
    Else all slots are as they were, and nothing is left. Refused in this order: EXT_NOT_EMPTY; EXT_BAD_LIMIT; EXT_BAD_LENGTHS or
    EXT_BAD_TEXT, for the first text that is none; EXT_BAD_ID; EXT_TOO_MANY or EXT_BAD_TREE. EXT_NO_MEMORY may come in place of
    the last three, or after them */
-ext_code ext_open(const uint8_t *bytes, size_t byte_count, const uint32_t *lengths, size_t length_count, uint32_t tries, uint32_t numbers,
-                  bool keep_faults, ext_slot *slots, size_t lanes);
+ext_code ext_open(const uint8_t *bytes, size_t byte_count, const uint32_t *lengths, size_t length_count, const ext_limits *limits,
+                  ext_slot *slots, size_t lanes);
 
 /* Tells the number of a key, the same in all lanes for as long as the store lives. The texts are the parts of its namespace and
    then its name; a name alone is a key of the global namespace. A key has a number from the first time that a lane asks for it, and
    keeps it. Takes memory: call it once for a key. May be called while the lane has a claim.
 
-   EXT_DONE: *key is the number, 0 to 63
+   EXT_DONE: *key is the number, from 0 and below the places for keys
    Else nothing has changed: EXT_DIRECTORY_FULL, EXT_NO_MEMORY, EXT_BAD_LENGTHS (also where there is no text), EXT_BAD_TEXT,
    EXT_UNPLACED, EXT_NO_LANE */
 ext_code ext_key(ext_slot *slot, const uint8_t *bytes, size_t byte_count, const uint32_t *lengths, size_t length_count, size_t *key);
@@ -171,15 +179,16 @@ ext_code ext_fail(ext_slot *slot, uint64_t handle, uint32_t *number);
    Else: EXT_NO_CLAIM, EXT_NO_LANE */
 ext_code ext_abandon(ext_slot *slot);
 
-/* Closes a context, once: seals its 64 places for good and writes out the closeable values that remain in it, the latest first. The
+/* Closes a context, once: seals its places for good and writes out the closeable values that remain in it, the latest first. The
    library closes nothing itself: after EXT_DONE these handles are the caller's to close, in this order. Contexts below are to be
-   closed before. The slot is the last one of ext_open; `places` is how many values fit, at least 64. Takes no memory.
+   closed before. The slot is the last one of ext_open; `places` is how many values fit, at least one for each of the places for
+   keys: the limit `keys`, rounded up to a multiple of 32. Takes no memory.
 
    *count is always written; it is 0 after each code but EXT_DONE.
 
    EXT_DONE: values[0] to values[*count - 1] are to be closed, and nothing is found or stored in the context any more
    EXT_UNJOINED: the lane had not yet been shown a value that another lane stored; this call has shown it one more. Ask again at
-   once, at most 64 times
+   once, at most as often as there are places for keys
    EXT_UNSHOWN: the lane has not been shown such a value, since the thread did not find it. Not closed: ask again
    EXT_BUSY, EXT_CONTENDED: some of the context's places are sealed already. End the factories that run for it, and ask again
    EXT_CLOSED: it was closed before

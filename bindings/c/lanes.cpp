@@ -13,7 +13,12 @@ int main() {
     static ext_lanes lanes;
     const std::string id = "[engine:x]", name = "server";
     uint32_t length = static_cast<uint32_t>(id.size());
-    if (ext_lanes_open(&lanes, bytes(id), id.size(), &length, 1, 64, 100, true, 5) != EXT_DONE) return 1;
+    ext_limits limits{};
+    limits.tries = 64;
+    limits.numbers = 100;
+    limits.keys = 32;
+    limits.keep_faults = true;
+    if (ext_lanes_open(&lanes, bytes(id), id.size(), &length, 1, &limits, 5) != EXT_DONE) return 1;
     std::size_t key = 0;
     length = static_cast<uint32_t>(name.size());
     if (ext_lanes_key(&lanes, 0, bytes(name), name.size(), &length, 1, &key) != EXT_DONE) return 1;
@@ -35,9 +40,9 @@ int main() {
     }
     for (std::thread &thread : threads) thread.join();
 
-    ext_value left[64] = {};
+    ext_value left[32] = {};
     std::size_t count = 0;
-    ext_code code = ext_lanes_close(&lanes, 0, left, 64, &count);
+    ext_code code = ext_lanes_close(&lanes, 0, left, 32, &count);
     for (uint32_t lane = 0; lane < lanes.count; lane++) ext_lanes_leave(&lanes, lane);
     std::printf("started %d, found %d; %s, to be closed %zu\n", started.load(), found.load(), ext_code_name(code), count);
     return 0;

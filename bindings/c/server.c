@@ -24,7 +24,8 @@ static ext_code open_store(ext_slot slots[3]) {
         "[engine:x]"
         "[engine:x]/[class:A]";
     static const uint32_t lengths[CONTEXTS] = {10, 20};
-    return ext_open((const uint8_t *)ids, strlen(ids), lengths, CONTEXTS, 64, 1000, false, slots, 3);
+    static const ext_limits limits = {.tries = 64, .numbers = 1000, .keys = 32};
+    return ext_open((const uint8_t *)ids, strlen(ids), lengths, CONTEXTS, &limits, slots, 3);
 }
 
 /* The number of the key "server" of the namespace "web". */
@@ -42,7 +43,7 @@ static ext_code start(ext_slot *slot, uint64_t *server) {
     return code;
 }
 
-/* Finds the server, or starts it. Asks again while the other test starts it; an engine would do something else meanwhile. */
+/* Finds the server, or starts it. Asks again while the other test starts it. */
 static ext_code find_or_start(ext_slot *slot, size_t key, uint64_t *server) {
     for (;;) {
         ext_value found = {0};
@@ -66,10 +67,10 @@ static void *test(void *slot) {
 
 /* Ends a context: stops each server that stands in it, the latest first. The slot is the last of ext_open. */
 static ext_code end(ext_slot *slot, size_t context) {
-    ext_value values[64] = {{0}};
+    ext_value values[32] = {{0}}; /* one for each of the store's keys */
     size_t count = 0;
     ext_code code;
-    do code = ext_close(slot, context, values, 64, &count);
+    do code = ext_close(slot, context, values, 32, &count);
     while (code == EXT_UNJOINED || code == EXT_CONTENDED);
     for (size_t at = 0; at < count; at++) stop_server(values[at].handle);
     return code;

@@ -1,7 +1,7 @@
-/* Tests of the store by its C calls: each code, each misuse, and 4 and 16 threads. Prints a line for each test that fails; the last
+/* Tests of the store by its C calls: each code, each misuse, each limit, and 2 to 32 threads. Prints a line for each test that fails; the last
    line is 'N passed, M failed', and the exit status 1 where one failed.
 
-   usage: test [ROUNDS]    how many puts each thread makes; 2000 unless told
+   usage: test [ROUNDS]    how many puts each thread makes, and how many contexts come; 2000 unless told
 
    It is linked with -Wl,--wrap=malloc,--wrap=realloc, so that it can refuse memory to the library. */
 #define _POSIX_C_SOURCE 200809L
@@ -15,23 +15,24 @@
 #include <string.h>
 
 static int passed, failed, wrong_here;
+static uint32_t rounds = 2000; /* as the program is told */
 
-#define WANT(condition)                                              \
-    do {                                                             \
-        if (!(condition)) {                                          \
-            printf("test.c:%d: not so: %s\n", __LINE__, #condition); \
-            wrong_here++;                                            \
-        }                                                            \
+/* What is not so is told up to five times in a test. */
+#define WANT(condition)                                                                    \
+    do {                                                                                   \
+        if (!(condition)) {                                                                \
+            if (wrong_here++ < 5) printf("test.c:%d: not so: %s\n", __LINE__, #condition); \
+        }                                                                                  \
     } while (0)
 
 /* That a call answers a code. */
-#define CODE(call, wanted)                                                                                             \
-    do {                                                                                                               \
-        ext_code code_ = (call);                                                                                       \
-        if (code_ != (wanted)) {                                                                                       \
-            printf("test.c:%d: %s, wanted is %s: %s\n", __LINE__, ext_code_name(code_), ext_code_name(wanted), #call); \
-            wrong_here++;                                                                                              \
-        }                                                                                                              \
+#define CODE(call, wanted)                                                                                                 \
+    do {                                                                                                                   \
+        ext_code code_ = (call);                                                                                           \
+        if (code_ != (wanted)) {                                                                                           \
+            if (wrong_here++ < 5)                                                                                          \
+                printf("test.c:%d: %s, wanted is %s: %s\n", __LINE__, ext_code_name(code_), ext_code_name(wanted), #call); \
+        }                                                                                                                  \
     } while (0)
 
 static void ran(const char *name) {
@@ -68,20 +69,16 @@ static texts ids(void) {
     return TEXTS("[engine:x]", "[engine:x]/[class:A]", "[engine:x]/[class:A]/[method:a()]", "[engine:x]/[class:A]/[method:b()]");
 }
 
-typedef struct limits {
-    uint32_t tries, numbers;
-    bool keep_faults;
-} limits;
+/* Tries, numbers, keys, whether faults are kept, and whether it is large. */
+static const ext_limits USUAL = {64, 1000, 64, false, false}, KEEPING = {64, 1000, 64, true, false}, MOST = {64, 65535, 1024, false, false},
+                        LARGE = {64, 65535, 32, false, true};
 
-static const limits USUAL = {64, 1000, false}, KEEPING = {64, 1000, true};
-
-static ext_code open_slots(const texts *list, limits given, ext_slot *slots, size_t lanes) {
-    return ext_open(list->bytes, list->byte_count, list->lengths, list->length_count, given.tries, given.numbers, given.keep_faults, slots,
-                    lanes);
+static ext_code open_slots(const texts *list, ext_limits given, ext_slot *slots, size_t lanes) {
+    return ext_open(list->bytes, list->byte_count, list->lengths, list->length_count, &given, slots, lanes);
 }
 
 /* A store of the four contexts. */
-static void opened(ext_slot *slots, size_t lanes, limits given) {
+static void opened(ext_slot *slots, size_t lanes, ext_limits given) {
     texts list = ids();
     CODE(open_slots(&list, given, slots, lanes), EXT_DONE);
 }
@@ -106,14 +103,22 @@ static bool is(ext_value value, uint64_t handle, uint32_t number, size_t context
 }
 
 static void refused_openings(void) {
-    ext_slot slots[17] = {{0, NULL}};
+    ext_slot slots[33] = {{0, NULL}};
     texts good = ids();
     CODE(open_slots(&good, USUAL, slots, 0), EXT_BAD_LIMIT);
     CODE(open_slots(&good, USUAL, slots, 17), EXT_BAD_LIMIT);
-    CODE(open_slots(&good, (limits){0, 10, false}, slots, 1), EXT_BAD_LIMIT);
-    CODE(open_slots(&good, (limits){65, 10, false}, slots, 1), EXT_BAD_LIMIT);
-    CODE(open_slots(&good, (limits){64, 0, false}, slots, 1), EXT_BAD_LIMIT);
-    CODE(open_slots(&good, (limits){64, 65536, false}, slots, 1), EXT_BAD_LIMIT);
+    CODE(open_slots(&good, LARGE, slots, 0), EXT_BAD_LIMIT);
+    CODE(open_slots(&good, LARGE, slots, 33), EXT_BAD_LIMIT);
+    static ext_lanes numbered;
+    CODE(ext_lanes_open(&numbered, good.bytes, good.byte_count, good.lengths, good.length_count, &LARGE, EXT_MOST_LANES + 1),
+         EXT_BAD_LIMIT);
+    WANT(numbered.count == 0);
+    static const ext_limits bad[] = {{0, 10, 64, false, false},         {65, 10, 64, false, false},       {64, 0, 64, false, false},
+                                     {64, 65536, 64, false, false},     {64, 10, 0, false, false},        {64, 10, 1025, false, false},
+                                     {0, 10, 64, false, true},          {65, 10, 64, false, true},        {64, 0, 64, false, true},
+                                     {64, 1048576, 64, false, true},    {64, 10, 0, false, true},         {64, 10, 1025, false, true},
+                                     {64, 10, UINT32_MAX, false, true}, {64, UINT32_MAX, 64, false, true}};
+    for (size_t at = 0; at < sizeof bad / sizeof *bad; at++) CODE(open_slots(&good, bad[at], slots, 1), EXT_BAD_LIMIT);
     texts none = {.byte_count = 0, .length_count = 0};
     CODE(open_slots(&none, USUAL, slots, 1), EXT_BAD_TREE);
     texts long_one = TEXTS("[engine:x]");
@@ -127,7 +132,7 @@ static void refused_openings(void) {
     texts no_text_and_long = TEXTS("[x]", "[engine:\xff]");
     no_text_and_long.lengths[1]++;
     CODE(open_slots(&no_text_and_long, USUAL, slots, 1), EXT_BAD_LENGTHS);
-    CODE(open_slots(&no_text_and_long, (limits){64, 0, false}, slots, 1), EXT_BAD_LIMIT);
+    CODE(open_slots(&no_text_and_long, bad[0], slots, 1), EXT_BAD_LIMIT);
     CODE(open_slots(&no_id, USUAL, slots, 1), EXT_BAD_ID);
     texts deep = {.byte_count = 0, .length_count = 0};
     char path[17 * sizeof "/[a:0]"] = "[a:0]";
@@ -151,7 +156,7 @@ static void refused_openings(void) {
         add(&many, id);
     }
     CODE(open_slots(&many, USUAL, slots, 1), EXT_TOO_MANY);
-    for (size_t at = 0; at < 17; at++) WANT(slots[at].state == 0);
+    for (size_t at = 0; at < 33; at++) WANT(slots[at].state == 0);
     opened(slots, 1, USUAL);
     CODE(open_slots(&good, USUAL, slots, 2), EXT_NOT_EMPTY);
     WANT(slots[1].state == 0);
@@ -410,9 +415,115 @@ static void context_of_64_values(void) {
     left(slots, 2);
 }
 
+static void context_of_1024_values(void) {
+    ext_slot slots[2] = {{0, NULL}};
+    opened(slots, 2, MOST);
+    size_t count = 9;
+    ext_value value = {0};
+    static ext_value values[1024];
+    /* of all but a few the closing lane's own: it is shown each of the others by a close more */
+    for (size_t at = 0; at < 1024; at++) CODE(ext_put(&slots[at % 100 != 0], FIRST, (at * 5) % 1024, 100 + at, true, &value), EXT_DONE);
+    CODE(ext_close(&slots[1], FIRST, values, 1023, &count), EXT_TOO_FEW_PLACES);
+    CODE(ext_close_joined(&slots[1], FIRST, values, 1024, &count), EXT_DONE);
+    WANT(count == 1024);
+    for (size_t at = 0; at < 1024; at++) WANT(values[at].handle == 1123 - at && values[at].number == 1024 - at);
+    left(slots, 2);
+}
+
+/* The places for keys are the limit, rounded up to a multiple of 32: as many keys have a number, and so many values a close may write out. */
+static void places_are_whole_blocks(void) {
+    static const struct {
+        uint32_t keys;
+        size_t places;
+    } cases[] = {{1, 32}, {32, 32}, {33, 64}, {64, 64}, {65, 96}, {96, 96}, {1000, 1024}};
+    static ext_value values[1025];
+    for (size_t at = 0; at < sizeof cases / sizeof *cases; at++) {
+        ext_slot slot = {0, NULL};
+        size_t places = cases[at].places, count = 9, number = 0;
+        ext_value value = {0};
+        opened(&slot, 1, (ext_limits){64, 2000, cases[at].keys, false, false});
+        CODE(ext_put(&slot, CLASS, places, 1, true, &value), EXT_BAD_KEY);
+        for (size_t one = 0; one < places; one++) {
+            char name[16];
+            snprintf(name, sizeof name, "key %u", (unsigned)one);
+            WANT(key(&slot, name) == one);
+            CODE(ext_put(&slot, CLASS, one, 100 + one, true, &value), EXT_DONE);
+        }
+        CODE(key_of(&slot, TEXTS("one more"), &number), EXT_DIRECTORY_FULL);
+        CODE(ext_close(&slot, CLASS, values, places - 1, &count), EXT_TOO_FEW_PLACES);
+        WANT(count == 0);
+        values[places] = (ext_value){.handle = 7};
+        CODE(ext_close(&slot, CLASS, values, places, &count), EXT_DONE);
+        WANT(count == places && values[0].handle == 99 + places && values[places - 1].handle == 100 && values[places].handle == 7);
+        left(&slot, 1);
+    }
+}
+
+/* An engine with a template, and the invocations of the template. */
+static struct {
+    uint8_t bytes[5000000];
+    uint32_t lengths[65537];
+    size_t byte_count, length_count;
+} suite;
+
+static void add_to_suite(const char *text) {
+    size_t length = strlen(text);
+    memcpy(suite.bytes + suite.byte_count, text, length);
+    suite.byte_count += length;
+    suite.lengths[suite.length_count++] = (uint32_t)length;
+}
+
+enum { TEMPLATE = 1, INVOCATIONS };
+static void suite_of(size_t contexts) {
+    char id[100];
+    suite.byte_count = suite.length_count = 0;
+    add_to_suite("[engine:x]");
+    add_to_suite("[engine:x]/[test-template:t]");
+    for (size_t at = 1; at <= contexts - INVOCATIONS; at++) {
+        snprintf(id, sizeof id, "[engine:x]/[test-template:t]/[test-template-invocation:#%zu]", at);
+        add_to_suite(id);
+    }
+}
+
+static ext_code open_suite(ext_limits given, ext_slot *slots, size_t lanes) {
+    return ext_open(suite.bytes, suite.byte_count, suite.lengths, suite.length_count, &given, slots, lanes);
+}
+
+/* At most 256 contexts, or 65,536 of a large store, which may have 32 lanes and 1,048,575 numbers. With few rounds, as for valgrind, it has fewer
+   contexts. */
+static void large_store(void) {
+    ext_slot slots[32] = {{0, NULL}};
+    ext_value value = {0}, values[32] = {{0}};
+    size_t count = 9, contexts = rounds < 1000 ? 5000 : 65536;
+    suite_of(256);
+    CODE(open_suite(USUAL, slots, 1), EXT_DONE);
+    left(slots, 1);
+    suite_of(257);
+    CODE(open_suite(USUAL, slots, 1), EXT_TOO_MANY);
+    suite.byte_count = suite.length_count = 0;
+    for (size_t at = 0; at < 65537; at++) add_to_suite("[e:x]"); /* told before that they are no tree */
+    CODE(open_suite(LARGE, slots, 32), EXT_TOO_MANY);
+    suite_of(contexts);
+    CODE(open_suite((ext_limits){64, 1048575, 32, false, true}, slots, 32), EXT_DONE);
+    CODE(ext_put(&slots[0], contexts, 0, 1, true, &value), EXT_BAD_CONTEXT);
+    CODE(ext_put(&slots[0], TEMPLATE, 31, 99, true, &value), EXT_DONE);
+    for (size_t lane = 0; lane < 32; lane++) CODE(ext_put(&slots[lane], contexts - 1 - lane, lane, 100 + lane, true, &value), EXT_DONE);
+    for (size_t lane = 0; lane < 31; lane++) {
+        size_t context = contexts - 1 - lane;
+        CODE(ext_get(&slots[31 - lane], context, lane, &value), EXT_DONE);
+        WANT(is(value, 100 + lane, (uint32_t)lane + 2, context, true, false));
+        CODE(ext_get(&slots[lane], 100 * (lane + 1), 31, &value), EXT_DONE);
+        WANT(is(value, 99, 1, TEMPLATE, true, false));
+        CODE(ext_close_joined(&slots[31], context, values, 32, &count), EXT_DONE);
+        WANT(count == 1 && is(values[0], 100 + lane, (uint32_t)lane + 2, context, true, false));
+        CODE(ext_put(&slots[lane], context, 0, 1, true, &value), EXT_CLOSED);
+    }
+    left(slots, 32);
+}
+
 static void numbers_run_out(void) {
     ext_slot slots[2] = {{0, NULL}}, *one = &slots[0];
-    opened(slots, 2, (limits){1, 2, true});
+    opened(slots, 2, (ext_limits){1, 2, 32, true, false});
     ext_value value = {0};
     uint32_t number = 0;
     CODE(ext_put(one, ENGINE, 0, 1, false, &value), EXT_DONE);
@@ -526,7 +637,7 @@ static void calls_that_take_no_memory(void) {
 
 enum { METHODS = 100 };
 static ext_lanes lanes;
-static uint32_t rounds = 2000;
+static uint32_t put_count; /* of each thread */
 static pthread_barrier_t gate;
 static atomic_uint factories, computed, found, stored, refused, in_use, answered, wrong;
 static atomic_uchar replaced[65536], drawn[65536];
@@ -542,8 +653,7 @@ static texts many_methods(void) {
 }
 
 static void unwanted(ext_code code, const char *where) {
-    printf("%s: %s\n", where, ext_code_name(code));
-    wrong++;
+    if (wrong++ < 5) printf("%s: %s\n", where, ext_code_name(code));
 }
 
 /* All compute the same values, and each factory's is the only one of its method. */
@@ -587,7 +697,7 @@ static void *computes(void *at) {
 static void *puts_over(void *at) {
     uint32_t lane = (uint32_t)(size_t)at;
     pthread_barrier_wait(&gate);
-    for (uint32_t round = 0; round < rounds; round++) {
+    for (uint32_t round = 0; round < put_count; round++) {
         ext_value stood = {0};
         ext_code code;
         do code = ext_lanes_put(&lanes, lane, 1, 1, round, false, &stood);
@@ -625,7 +735,7 @@ static void *ends_computes(void *at) {
 static void *one_lane(void *at) {
     (void)at;
     pthread_barrier_wait(&gate);
-    for (uint32_t round = 0; round < rounds; round++) {
+    for (uint32_t round = 0; round < put_count; round++) {
         ext_value value = {0};
         ext_code code = ext_lanes_get(&lanes, 0, 2, 0, &value);
         if (code == EXT_LANE_IN_USE) {
@@ -646,21 +756,24 @@ static void together(void *(*body)(void *), size_t threads) {
     pthread_barrier_destroy(&gate);
 }
 
-static void threads_compute_put_and_close(uint32_t threads) {
+static void threads_compute_put_and_close(uint32_t threads, uint32_t each) {
     texts list = many_methods();
+    put_count = each;
     factories = computed = found = stored = in_use = answered = wrong = 0;
     memset((void *)replaced, 0, sizeof replaced);
-    CODE(ext_lanes_open(&lanes, list.bytes, list.byte_count, list.lengths, list.length_count, 64, 65535, false, threads), EXT_DONE);
+    CODE(ext_lanes_open(&lanes, list.bytes, list.byte_count, list.lengths, list.length_count, threads > 16 ? &LARGE : &MOST, threads),
+         EXT_DONE);
     together(computes, threads);
     WANT(computed == METHODS && computed + found == threads * METHODS && factories >= computed);
     together(puts_over, threads);
-    WANT(stored == threads * rounds);
+    WANT(stored == threads * put_count);
     together(one_lane, threads);
-    WANT(in_use + answered == threads * rounds && answered > 0);
-    ext_value values[64] = {{0}}, value = {0};
+    WANT(in_use + answered == threads * put_count && answered > 0);
+    static ext_value values[1024];
+    ext_value value = {0};
     size_t count = 9, all = 0, last = 0;
     for (size_t context = METHODS + 2; context-- > 0;) {
-        CODE(ext_lanes_close(&lanes, context, values, 64, &count), EXT_DONE);
+        CODE(ext_lanes_close(&lanes, context, values, 1024, &count), EXT_DONE);
         WANT(count == (context < 2 ? 0 : 1) && (count == 0 || values[0].handle == 998 + context));
         all += count;
         CODE(ext_lanes_get(&lanes, 0, context, 0, &value), EXT_CLOSED);
@@ -677,11 +790,70 @@ static void threads_end_computes(uint32_t threads) {
     texts list = many_methods();
     computed = refused = wrong = 0;
     memset((void *)drawn, 0, sizeof drawn);
-    CODE(ext_lanes_open(&lanes, list.bytes, list.byte_count, list.lengths, list.length_count, 1, 65535, true, threads), EXT_DONE);
+    static const ext_limits limits = {1, 65535, 32, true, false};
+    CODE(ext_lanes_open(&lanes, list.bytes, list.byte_count, list.lengths, list.length_count, &limits, threads), EXT_DONE);
     together(ends_computes, threads);
     WANT(refused == 0 && computed == threads * rounds && wrong == 0);
     for (uint32_t number = 1; number <= computed; number++) WANT(drawn[number] == 1);
     for (uint32_t lane = 0; lane < threads; lane++) CODE(ext_lanes_leave(&lanes, lane), EXT_DONE);
+}
+
+/* Contexts that come during the run: they are named when the store is opened, and a counter gives them out. */
+static atomic_size_t next_context;
+static atomic_uchar given[65536], written[65536]; /* by context */
+static size_t reserve;
+
+/* Closes an invocation by the last lane, for which threads wait in turn. */
+static void close_invocation(size_t context) {
+    ext_value values[32] = {{0}};
+    size_t count = 9;
+    ext_code code;
+    do code = ext_lanes_close(&lanes, context, values, 32, &count);
+    while (code == EXT_LANE_IN_USE && sched_yield() == 0);
+    if (code != EXT_DONE || count != 1 || values[0].context != context || values[0].handle != 7000 + context) unwanted(code, "close");
+    for (size_t at = 0; at < count; at++) atomic_fetch_add(&written[values[at].handle - 7000], 1);
+}
+
+static void *takes_contexts(void *at) {
+    uint32_t lane = (uint32_t)(size_t)at;
+    pthread_barrier_wait(&gate);
+    for (size_t one = atomic_fetch_add(&next_context, 1); one < reserve; one = atomic_fetch_add(&next_context, 1)) {
+        size_t context = INVOCATIONS + one;
+        ext_value value = {0};
+        atomic_fetch_add(&given[context], 1);
+        ext_code code = ext_lanes_get(&lanes, lane, context, lane % 2, &value);
+        if (code != EXT_ABSENT) unwanted(code, "a context that is new");
+        code = ext_lanes_put(&lanes, lane, context, lane % 2, 7000 + context, true, &value);
+        if (code != EXT_DONE || value.number != 0) unwanted(code, "put");
+        code = ext_lanes_get(&lanes, lane, context, lane % 2, &value);
+        if (code != EXT_DONE || value.handle != 7000 + context || value.context != context) unwanted(code, "get");
+        code = ext_lanes_get(&lanes, lane, context, 2, &value);
+        if (code != EXT_DONE || value.handle != 6000 || value.context != TEMPLATE) unwanted(code, "the template's value");
+        close_invocation(context);
+        code = ext_lanes_get(&lanes, lane, context, 2, &value);
+        if (code != EXT_CLOSED || value.context != context) unwanted(code, "a context that is closed");
+    }
+    return NULL;
+}
+
+static void threads_take_contexts(uint32_t threads) {
+    ext_value value = {0}, values[32] = {{0}};
+    size_t count = 9;
+    next_context = wrong = 0;
+    memset((void *)given, 0, sizeof given);
+    memset((void *)written, 0, sizeof written);
+    reserve = rounds;
+    suite_of(INVOCATIONS + reserve);
+    CODE(ext_lanes_open(&lanes, suite.bytes, suite.byte_count, suite.lengths, suite.length_count, &LARGE, threads + 1), EXT_DONE);
+    CODE(ext_lanes_put(&lanes, 0, TEMPLATE, 2, 6000, true, &value), EXT_DONE);
+    together(takes_contexts, threads);
+    WANT(wrong == 0 && next_context == reserve + threads);
+    for (size_t context = 0; context < suite.length_count; context++) {
+        WANT(given[context] == (context < INVOCATIONS ? 0 : 1) && written[context] == given[context]);
+    }
+    CODE(ext_lanes_close(&lanes, TEMPLATE, values, 32, &count), EXT_DONE);
+    WANT(count == 1 && values[0].handle == 6000);
+    for (uint32_t lane = 0; lane <= threads; lane++) CODE(ext_lanes_leave(&lanes, lane), EXT_DONE);
 }
 
 /* The lanes leave at the same moment: the last one frees the store. */
@@ -697,7 +869,7 @@ static void threads_leave_at_once(void) {
     ext_value value = {0};
     wrong = 0;
     for (int round = 0; round < 20; round++) {
-        CODE(ext_lanes_open(&lanes, list.bytes, list.byte_count, list.lengths, list.length_count, 64, 10, false, 16), EXT_DONE);
+        CODE(ext_lanes_open(&lanes, list.bytes, list.byte_count, list.lengths, list.length_count, &USUAL, 16), EXT_DONE);
         for (uint32_t lane = 0; lane < 16; lane++) CODE(ext_lanes_begin(&lanes, lane, 2 + lane, lane, &value), EXT_RUN);
         together(leaves, 16);
     }
@@ -706,8 +878,8 @@ static void threads_leave_at_once(void) {
 
 int main(int count, char **words) {
     if (count > 1) rounds = (uint32_t)atoi(words[1]);
-    if (count > 2 || rounds == 0 || rounds > 4000) {
-        fputs("usage: test [ROUNDS]    1 to 4000 puts for each thread\n", stderr);
+    if (count > 2 || rounds < 4 || rounds > 4000) {
+        fputs("usage: test [ROUNDS]    4 to 4000 puts for each thread\n", stderr);
         return 2;
     }
     refused_openings(), ran("refused_openings");
@@ -720,14 +892,20 @@ int main(int count, char **words) {
     closes_latest_first(), ran("closes_latest_first");
     refused_close_is_asked_again(), ran("refused_close_is_asked_again");
     context_of_64_values(), ran("context_of_64_values");
+    context_of_1024_values(), ran("context_of_1024_values");
+    places_are_whole_blocks(), ran("places_are_whole_blocks");
+    large_store(), ran("large_store");
     numbers_run_out(), ran("numbers_run_out");
     slot_moves(), ran("slot_moves");
     want_of_memory_is_a_code(), ran("want_of_memory_is_a_code");
     calls_that_take_no_memory(), ran("calls_that_take_no_memory");
-    threads_compute_put_and_close(4), ran("threads_compute_put_and_close, 4 threads");
-    threads_compute_put_and_close(16), ran("threads_compute_put_and_close, 16 threads");
+    threads_compute_put_and_close(4, rounds), ran("threads_compute_put_and_close, 4 threads");
+    threads_compute_put_and_close(16, rounds), ran("threads_compute_put_and_close, 16 threads");
+    threads_compute_put_and_close(32, rounds / 4), ran("threads_compute_put_and_close, 32 threads");
     threads_end_computes(4), ran("threads_end_computes, 4 threads");
     threads_end_computes(16), ran("threads_end_computes, 16 threads");
+    threads_take_contexts(2), ran("threads_take_contexts, 2 threads");
+    threads_take_contexts(16), ran("threads_take_contexts, 16 threads");
     threads_leave_at_once(), ran("threads_leave_at_once");
     printf("%d passed, %d failed\n", passed, failed);
     return failed != 0;

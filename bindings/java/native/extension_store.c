@@ -71,7 +71,7 @@ JNIEXPORT jint JNICALL JNI_OnLoad(JavaVM *machine, void *unused) {
 
 /* The store's address, or the code of the refusal with a minus. */
 NATIVE(jlong, open)
-(JNIEnv *env, jclass type, jbyteArray bytes, jintArray lengths, jint tries, jint numbers, jint count) {
+(JNIEnv *env, jclass type, jbyteArray bytes, jintArray lengths, jint tries, jint numbers, jint keys, jboolean large, jint count) {
     (void)type;
     ext_lanes *lanes = aligned_alloc(_Alignof(ext_lanes), sizeof(ext_lanes));
     if (!lanes) return -EXT_NO_MEMORY;
@@ -82,10 +82,10 @@ NATIVE(jlong, open)
     size_t byte_count = (size_t)(*env)->GetArrayLength(env, bytes), length_count = (size_t)(*env)->GetArrayLength(env, lengths);
     jbyte *text = (*env)->GetByteArrayElements(env, bytes, NULL);
     jint *each = (*env)->GetIntArrayElements(env, lengths, NULL);
+    ext_limits limits = {.tries = (uint32_t)tries, .numbers = (uint32_t)numbers, .keys = (uint32_t)keys, .large = large};
     ext_code code = EXT_NO_MEMORY;
     if (text && each)
-        code = ext_lanes_open(lanes, (const uint8_t *)text, byte_count, (const uint32_t *)each, length_count, (uint32_t)tries,
-                              (uint32_t)numbers, false, (size_t)count);
+        code = ext_lanes_open(lanes, (const uint8_t *)text, byte_count, (const uint32_t *)each, length_count, &limits, (size_t)count);
     if (text) (*env)->ReleaseByteArrayElements(env, bytes, text, JNI_ABORT);
     if (each) (*env)->ReleaseIntArrayElements(env, lengths, each, JNI_ABORT);
     if (code == EXT_DONE) return (jlong)lanes;
@@ -171,15 +171,18 @@ NATIVE(jlong, abandon)(JNIEnv *env, jclass type, jlong store, jint lane) {
     return says(code, 0);
 }
 
-/* Writes the handles of all that stands to the array, which has 64 places, the latest first; the answer has their count. */
+/* Writes the handles of all that stands to the array, which has so many places as the store has for keys, the latest first; the answer has
+   their count. */
 NATIVE(jlong, close)(JNIEnv *env, jclass type, jlong store, jint context, jintArray handles) {
     (void)type;
-    ext_value values[64] = {{0}};
-    jint all[64];
-    size_t count = 0;
-    if ((*env)->GetArrayLength(env, handles) < 64) return says(EXT_TOO_FEW_PLACES, 0);
-    ON_THE_LANE(ext_lanes_close(lanes, (uint32_t)context, values, 64, &count))
-    for (size_t at = 0; at < count; at++) all[at] = (jint)values[at].handle;
-    (*env)->SetIntArrayRegion(env, handles, 0, (jsize)count, all);
+    ext_value few[64] = {{0}}, *values = few;
+    size_t places = (size_t)(*env)->GetArrayLength(env, handles), count = 0;
+    if (places > 64 && !(values = calloc(places, sizeof *values))) return says(EXT_NO_MEMORY, 0);
+    ON_THE_LANE(ext_lanes_close(lanes, (uint32_t)context, values, places, &count))
+    for (size_t at = 0; at < count; at++) {
+        jint handle = (jint)values[at].handle;
+        (*env)->SetIntArrayRegion(env, handles, (jsize)at, 1, &handle);
+    }
+    if (values != few) free(values);
     return says(code, count);
 }

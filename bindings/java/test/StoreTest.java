@@ -1,3 +1,4 @@
+import extensionstore.CloseableResource;
 import extensionstore.Context;
 import extensionstore.Contexts;
 import extensionstore.Limits;
@@ -17,13 +18,17 @@ final class StoreTest extends OverContexts {
         equal(refused(new Limits(16, 64, 10, true), IDS), "not opened: a limit is out of its range");
         equal(refused(new Limits(1, 65, 10, true), IDS), "not opened: a limit is out of its range");
         equal(refused(new Limits(1, 64, 65_536, true), IDS), "not opened: a limit is out of its range");
+        equal(refused(new Limits(1, 64, 10, 0, false, true), IDS), "not opened: a limit is out of its range");
+        equal(refused(new Limits(1, 64, 10, 1_025, false, true), IDS), "not opened: a limit is out of its range");
+        equal(refused(new Limits(32, 64, 10, 64, true, true), IDS), "not opened: a limit is out of its range");
+        equal(refused(new Limits(1, 64, 1_048_576, 64, true, true), IDS), "not opened: a limit is out of its range");
         equal(refused(Limits.USUAL, List.of()), "not opened: the ids are no tree");
         equal(refused(Limits.USUAL, List.of("engine")), "not opened: a text is no unique id");
         List<String> many = new ArrayList<>(List.of("[engine:x]"));
         for (int at = 0; at < 256; at++) {
             many.add("[engine:x]/[class:" + at + "]");
         }
-        equal(refused(Limits.USUAL, many), "not opened: there are more than 256 contexts");
+        equal(refused(Limits.USUAL, many), "not opened: there are too many contexts");
     }
 
     private static String refused(Limits limits, List<String> ids) {
@@ -101,8 +106,47 @@ final class StoreTest extends OverContexts {
             engine.put(key, key);
         }
         equal(first.get("one more"), null);
-        equal(thrown(StoreException.class, () -> engine.put("one more", 1)).getMessage(), "64 other keys have the numbers of this store: one more");
+        equal(thrown(StoreException.class, () -> engine.put("one more", 1)).getMessage(), "other keys have all of this store's numbers for keys: one more");
         equal(first.get(63), 63);
+    }
+
+    void keysUpToTheLimit() {
+        for (int keys : new int[] {1, 65, 1_024}) {
+            int places = (keys + 31) / 32 * 32;
+            Contexts many = Contexts.open(new Limits(2, 64, 2_000, keys, false, true), IDS);
+            Store store = many.root().getStore(Namespace.GLOBAL);
+            for (int key = 0; key < places; key++) {
+                store.put(key, key);
+                if (key < places - 96) {
+                    store.remove(key); // of 1,024 values a close takes long over a library that is not optimized
+                }
+            }
+            equal(thrown(StoreException.class, () -> store.put("one more", 1)).getMessage(),
+                    "other keys have all of this store's numbers for keys: one more");
+            equal(store.get(places - 1), places - 1);
+            List<Object> closed = new ArrayList<>();
+            many.root().closeBy(it -> closed.add(it));
+            equal(closed, List.of());
+            equal(thrown(StoreException.class, () -> store.get(places - 1)).getMessage(), "the context is closed: " + (places - 1));
+        }
+    }
+
+    void largeStore() throws IOException {
+        List<String> ids = new ArrayList<>(List.of("[engine:x]"));
+        for (int at = 1; at < 65_536; at++) {
+            ids.add("[engine:x]/[m:" + at + "]");
+        }
+        List<Object> closed = new ArrayList<>();
+        Contexts large = Contexts.open(new Limits(31, 64, 1_048_575, 32, true, true), ids);
+        Context last = large.context("[engine:x]/[m:65535]");
+        last.getStore(Namespace.GLOBAL).put("own", (CloseableResource) () -> closed.add("own"));
+        large.root().getStore(Namespace.GLOBAL).put("shared", 7);
+        equal(last.getStore(Namespace.GLOBAL).get("shared"), 7);
+        equal(large.context("[engine:x]/[m:65534]").getStore(Namespace.GLOBAL).get("own"), null);
+        last.close();
+        equal(closed, List.of("own"));
+        ids.add("[engine:x]/[m:0]");
+        equal(refused(new Limits(31, 64, 10, 32, true, true), ids), "not opened: there are too many contexts");
     }
 
     void refusedPutHandsItsValueBack() {

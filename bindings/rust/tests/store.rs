@@ -122,6 +122,28 @@ fn refused_openings() {
             Some(OpenError::BadLimit)
         );
     }
+    for keys in [0, 1_025, u32::MAX] {
+        assert_eq!(
+            refused(&IDS, Limits { keys, ..usual }),
+            Some(OpenError::BadLimit)
+        );
+    }
+    for bad in [
+        Limits {
+            lanes: 32,
+            ..large()
+        },
+        Limits {
+            numbers: 1_048_576,
+            ..large()
+        },
+        Limits {
+            keys: 1_025,
+            ..large()
+        },
+    ] {
+        assert_eq!(refused(&IDS, bad), Some(OpenError::BadLimit));
+    }
     assert_eq!(refused(&[], usual), Some(OpenError::BadTree));
     assert_eq!(refused(&["engine"], usual), Some(OpenError::BadId));
     assert_eq!(
@@ -189,6 +211,84 @@ fn equal_keys_are_one() {
     }
     assert_eq!(opened.lanes[0].key(&[], "one more"), Err(Refusal::KeysFull));
     assert_eq!(opened.lanes[2].key(&["a", "b"], "name").unwrap(), one);
+}
+
+/// Numbers for keys come in whole blocks of 32, and a close tells of a value under each.
+#[test]
+fn keys_up_to_the_limit() {
+    for (keys, places) in [(1, 32), (33, 64), (65, 96), (1_024, 1_024)] {
+        let mut opened = open(Limits {
+            keys,
+            ..Limits::default()
+        });
+        let keys: Vec<Key> = (0..places).map(|it| opened.key(&it.to_string())).collect();
+        assert_eq!(opened.lanes[0].key(&[], "one more"), Err(Refusal::KeysFull));
+        // of 1,024 values the close would take long over a library that is not optimized
+        for key in keys.iter().rev().take(96) {
+            assert_eq!(opened.put(0, FIRST, key, "thing"), None);
+        }
+        let last = keys.last().expect("at least 32");
+        assert_eq!(opened.get(1, FIRST, last), Some(("thing", 1, FIRST)));
+        let mut numbers = opened
+            .closers
+            .remove(FIRST)
+            .close(|it| it.name)
+            .unwrap()
+            .len();
+        assert_eq!(numbers, keys.len().min(96));
+        numbers = opened
+            .closers
+            .remove(CLASS)
+            .close(|it| it.name)
+            .unwrap()
+            .len();
+        assert_eq!(numbers, 0);
+    }
+}
+
+fn large() -> Limits {
+    Limits {
+        large: true,
+        ..Limits::default()
+    }
+}
+
+#[test]
+fn large_store() {
+    let mut ids = vec!["[engine:x]".to_string()];
+    ids.extend((1..65_536).map(|it| format!("[engine:x]/[m:{it}]")));
+    let limits = Limits {
+        lanes: 31,
+        numbers: 1_048_575,
+        keys: 32,
+        ..large()
+    };
+    let (store, mut lanes, mut closers) = Store::<Thing>::open(&ids, limits).unwrap();
+    assert_eq!(store.context("[engine:x]/[m:65535]"), Some(65_535));
+    assert_eq!((lanes.len(), closers.len()), (31, 65_536));
+    let key = lanes[30].key(&[], "thing").unwrap();
+    let thing = Thing {
+        name: "thing",
+        closeable: true,
+        drops: Arc::default(),
+    };
+    assert!(lanes[30].put(65_535, &key, thing).unwrap().is_none());
+    assert!(lanes[0].get(65_534, &key).unwrap().is_none());
+    assert_eq!(
+        lanes[0].get(65_535, &key).unwrap().map(|it| it.name),
+        Some("thing")
+    );
+    assert!(matches!(
+        lanes[0].get(65_536, &key),
+        Err(GetError::Refused(Refusal::NoContext))
+    ));
+    let closer = closers.pop().expect("one for each context");
+    assert_eq!(closer.close(|it| it.name).unwrap(), ["thing"]);
+    ids.push("[engine:x]/[m:0]".to_string());
+    assert_eq!(
+        Store::<Thing>::open(&ids, limits).err(),
+        Some(OpenError::TooManyContexts)
+    );
 }
 
 #[test]

@@ -140,6 +140,52 @@ fn what_a_factory_answers_is_kept_beside_others() {
     });
 }
 
+/// Contexts that come during the run are named before it, and a counter gives them out: each once, and its close gives its value alone.
+#[test]
+fn contexts_given_out_by_a_counter() {
+    contexts_given_out(2);
+    contexts_given_out(16);
+}
+
+fn contexts_given_out(threads: usize) {
+    const ROUNDS: usize = 1_000;
+    let template = "[engine:x]/[test-template:t]";
+    let mut ids = vec!["[engine:x]".to_string(), template.to_string()];
+    ids.extend((1..=ROUNDS).map(|it| format!("{template}/[test-template-invocation:#{it}]")));
+    let limits = Limits {
+        lanes: threads,
+        keys: 32,
+        large: true,
+        ..Limits::default()
+    };
+    let (_store, lanes, closers) = Store::open(&ids, limits).unwrap();
+    let closers: Vec<_> = closers.into_iter().map(|it| Mutex::new(Some(it))).collect();
+    let (next, closed) = (AtomicUsize::new(2), Mutex::new(Vec::new()));
+    together(lanes, |_, lane| loop {
+        let context = next.fetch_add(1, SeqCst);
+        let Some(closer) = closers.get(context) else {
+            return;
+        };
+        let closer = closer
+            .lock()
+            .unwrap()
+            .take()
+            .expect("a context is given once");
+        let (key, own) = (lane.key(&[], "own").unwrap(), 2 * context as u32); // an even number is closeable
+        assert!(lane.get(context, &key).unwrap().is_none());
+        assert!(lane.put(context, &key, Number(own)).unwrap().is_none());
+        assert_eq!(lane.get(context, &key).unwrap().map(|it| it.0), Some(own));
+        let gone = closer.close(|it| it.0).unwrap();
+        assert_eq!(gone, [own]);
+        closed.lock().unwrap().extend(gone);
+    });
+    let mut closed = closed.into_inner().unwrap();
+    closed.sort_unstable();
+    assert!(closed
+        .into_iter()
+        .eq((2..ROUNDS as u32 + 2).map(|it| 2 * it)));
+}
+
 /// A factory that runs on a thread of its own until it is told what to answer, which is sent, or to panic, where the sender is dropped.
 struct Running {
     answer: Sender<Result<u32, u32>>,

@@ -9,6 +9,9 @@ use Rattle.std.specs.Str.{IsUtf8}
 use Rattle.ext_ids.specs.Grammar.{Pair, IsIdText}
 use Rattle.ext_ids.specs.declared.fault.IdFault.{IdFault}
 use Rattle.ext_ids.specs.declared.fault.IdFault.TheVariants as id
+use Rattle.ext_model.specs.declared.size.Size.{Size}
+use Rattle.ext_model.specs.declared.size.Size.TheVariants as sizes
+use Rattle.ext_model.specs.Sizes.{most_contexts}
 use Rattle.ext_tree.specs.declared.fault.TreeFault.{TreeFault}
 use Rattle.ext_tree.specs.declared.fault.TreeFault.TheVariants as tree
 use Rattle.ext_tree.specs.Trees.{Id, HasFault}
@@ -93,10 +96,14 @@ memory_or_not (tree.Twice at) = inr (λ m. cc)
 memory_or_not tree.TooMany = inr (λ m. cc)
 memory_or_not tree.Memory = inl refl
 
-pub no_tree : (bytes lengths : List ℕ) (ids : List Id) (e : TreeFault) (said : Code) → AreTexts bytes lengths → AllZip IsIdText (texts_in bytes lengths) ids → (e ≢ tree.Memory → HasFault 256 ids e)
-    → said ≡ tree_code e → NamesNoTree bytes lengths said ⊎ (AreTexts bytes lengths × (said ≡ code.NoMemory))
-no_tree bytes lengths ids e said well spell fault is =
-    elim (memory_or_not e) as (λ _. NamesNoTree bytes lengths said ⊎ (AreTexts bytes lengths × (said ≡ code.NoMemory)))
+pub most_within : (size : Size) → most_contexts size ≤ 65536
+most_within sizes.Usual = omega arith
+most_within sizes.Large = omega arith
+
+pub no_tree : (most : ℕ) (bytes lengths : List ℕ) (ids : List Id) (e : TreeFault) (said : Code) → AreTexts bytes lengths → AllZip IsIdText (texts_in bytes lengths) ids → (e ≢ tree.Memory → HasFault most ids e)
+    → said ≡ tree_code e → NamesNoTree most bytes lengths said ⊎ (AreTexts bytes lengths × (said ≡ code.NoMemory))
+no_tree most bytes lengths ids e said well spell fault is =
+    elim (memory_or_not e) as (λ _. NamesNoTree most bytes lengths said ⊎ (AreTexts bytes lengths × (said ≡ code.NoMemory)))
     [ inl m ↦ inr (well, is ∙ ap tree_code m) | inr not ↦ inl (NamesNoTree.no_tree well ids e spell (fault not) is) ]
 
 -- ---- ids

@@ -5,3 +5,4 @@ mod Opened
 mod Pointers
 mod Said
 mod Steps
+mod Writing

@@ -1,20 +1,22 @@
 -- The seats of a store that was opened, and the slots that they are given to.
 use Rattle.std.proofs.Common.{ℕ, zero, suc, ◌≡◌, ◌<◌, ◌≤◌, ◌+◌, List, [], ◌∷◌, ◌++◌, length, take, drop, map, ap, sym, subst, ◌∙◌, refl, arith, ◌⊎◌, inl, inr, Some}
-use Rattle.std.specs.Prelude.{Bool, Option}
+use Rattle.std.specs.Prelude.{Option}
 use Rattle.std.specs.Global.{Box}
 use Rattle.std.specs.List.{AllZip}
 use Rattle.std.proofs.lemmas.Slice.Zip.{AllZip-long}
 use Rattle.std.proofs.Common.{add-one}
 use Rattle.std.proofs.lemmas.List.{length_push}
 use Rattle.ext_cells.specs.Lanes.{CellsId, fresh_lanes}
-use Rattle.ext_model.specs.declared.size.Size.TheVariants.{Usual}
-use Rattle.ext_store.specs.Stores.{AreStoreLimits, CloserView, StoreLane, StoreView, fresh_store_lane}
+use Rattle.ext_model.specs.Sizes.{most_contexts}
+use Rattle.ext_store.specs.declared.limits.Limits.{Limits}
+use Rattle.ext_store.specs.Stores.{CloserView, StoreLane, StoreView, fresh_store_lane}
 use Rattle.ext_c.specs.declared.code.Code.{Code}
 use Rattle.ext_c.specs.declared.code.Code.TheVariants as code
 use Rattle.ext_c.specs.declared.handle.Handle.{Handle}
 use Rattle.ext_c.specs.declared.seat.Seat.{Seat}
 use Rattle.ext_c.specs.declared.slot.ExtSlot.{ExtSlot}
 use Rattle.ext_c.proofs.Cut.{take_all, zip_push}
+use Rattle.ext_c.specs.Limits.{AreInRange}
 use Rattle.ext_c.specs.Opening.{AreEmpty, AreSeats, HasSeatOf, HaveLanes, IsIn, IsSeatOf, OpenSays, all_closers, lanes_below}
 use Rattle.ext_c.specs.Texts.{AreTexts, NamesNoTree}
 
@@ -121,7 +123,7 @@ left_none seats left slots i so_far none lt same =
 
 -- ---- what an opening says that is refused
 
-pub open_no_tree : (bytes lengths : List ℕ) (tries numbers : ℕ) (keeps : Bool) (slots : List ExtSlot) (said : Code) → AreEmpty slots → AreStoreLimits Usual 64 (length slots) tries numbers
-    → NamesNoTree bytes lengths said ⊎ (AreTexts bytes lengths × (said ≡ code.NoMemory)) → OpenSays bytes lengths tries numbers keeps slots slots said
-open_no_tree bytes lengths tries numbers keeps slots said empty limits (inl none) = OpenSays.no_tree empty limits none refl
-open_no_tree bytes lengths tries numbers keeps slots said empty limits (inr memory) = OpenSays.no_memory empty limits memory.0 refl memory.1
+pub open_no_tree : (bytes lengths : List ℕ) (limits : Limits) (slots : List ExtSlot) (said : Code) → AreEmpty slots → AreInRange limits
+    → NamesNoTree (most_contexts limits.size) bytes lengths said ⊎ (AreTexts bytes lengths × (said ≡ code.NoMemory)) → OpenSays bytes lengths limits slots slots said
+open_no_tree bytes lengths limits slots said empty within (inl none) = OpenSays.no_tree empty within none refl
+open_no_tree bytes lengths limits slots said empty within (inr memory) = OpenSays.no_memory empty within memory.0 refl memory.1

@@ -13,8 +13,6 @@ use Rattle.ext_values.specs.Known.{Known, Learns, known_at}
 use Rattle.ext_cells.specs.CellCalls.{EndsClaim}
 use Rattle.ext_cells.specs.Lanes.{CellsId, Lane}
 use Rattle.ext_closing.specs.declared.fault.CloseFault.{CloseFault}
-use Rattle.ext_closing.specs.Closes as closing
-use Rattle.ext_model.specs.declared.closed.Closed.{Closed}
 use Rattle.ext_store_core.specs.declared.fault.Refusal.{Refusal}
 use Rattle.ext_store_core.specs.declared.claim.Unused.{Unused}
 use Rattle.ext_store_core.specs.declared.claim.Unused.TheVariants as unused
@@ -28,12 +26,10 @@ use Rattle.ext_c.specs.declared.handle.Handle.{Handle}
 use Rattle.ext_c.specs.declared.value.ExtValue.{ExtValue}
 use Rattle.ext_c.specs.declared.seat.Seat.{Seat}
 use Rattle.ext_c.specs.declared.slot.ExtSlot.{ExtSlot}
-use Rattle.ext_c.specs.declared.written.Written.{Written}
-use Rattle.ext_c.specs.Closing.{Asks, CloseSays, KeepsOthers, LosesOnly, NotClosing, TellsRefused, WritesOut}
+use Rattle.ext_c.specs.Closing.{Asks, CloseSays, IsRefusedFor, KeepsOthers, LosesOnly, NotClosing, TellsRefused, WritesClosed}
 use Rattle.ext_c.specs.Codes.{code_number}
 use Rattle.ext_c.specs.Faults.{IsFaultOf}
 use Rattle.ext_c.specs.Slots.{OnSlot}
-use Rattle.ext_c.specs.Writing.{WritesNext}
 use Rattle.ext_c.specs.Answers.{ClaimSays, FailSays, LookSays, NotAsked, NotAskedAlong, PutSays, RemoveSays, TellsFault, TellsFound, TellsLook, TellsPut, TellsRemove, TellsStanding, TellsStood, TellsUnused, TellsValue, store_of}
 
 -- ---- told of a lane that knows the same
@@ -185,32 +181,25 @@ same_but xs ys at e here others =
     ext_get_or None xs ys e (λ k _. elim (cases_eq k at) as (λ _. slice_index_or xs k None ≡ slice_index_or ys k None)
     [ inl is ↦ subst (λ (n : ℕ). slice_index_or xs n None ≡ slice_index_or ys n None) (sym is) here | inr ne ↦ others k ne ])
 
+-- of the seat as it was before the closer was taken from it
 module _ (context : ℕ) (before mid : Seat) (closer : CloserView) (was : List ExtValue) (asks : Asks context (length was) before closer) (same : mid.store ≡ before.store)
-    (lane : mid.lane ≡ before.lane) (first last : Written) where
-  -- of the seat as it was before the closer was taken from it
-  from_before : (result : Result Closed (CloserView × CloseFault)) (after : List (StoreLane Handle))
-      → closing.Closes (λ (h : Handle). h.closeable) WritesNext (store_of mid) closer (mid.lane ∷ []) first result after last
-      → closing.Closes (λ (h : Handle). h.closeable) WritesNext (store_of before) closer (before.lane ∷ []) first result after last
-  from_before result after happened =
-      subst (λ s. closing.Closes (λ (h : Handle). h.closeable) WritesNext (arc_value s) closer (before.lane ∷ []) first result after last) same
-      (subst (λ (l : StoreLane Handle). closing.Closes (λ (h : Handle). h.closeable) WritesNext (store_of mid) closer (l ∷ []) first result after last) lane happened)
+    (lane : mid.lane ≡ before.lane) where
+  pub close_done : (after : Seat) (values : List ExtValue) (count : ℕ) → WritesClosed context (store_of mid) closer mid.lane after.lane was values count → LosesOnly context before after
+      → CloseSays context before after was values count code.Done
+  close_done after values count writes loses =
+      CloseSays.closed closer asks
+      (subst (λ s. WritesClosed context (arc_value s) closer before.lane after.lane was values count) same
+      (subst (λ (l : StoreLane Handle). WritesClosed context (store_of mid) closer l after.lane was values count) lane writes))
+      refl loses
 
-  pub close_done : (after : Seat) (done : Closed) (values : List ExtValue) (count : ℕ) → first.values.items ≡ [] → first.context ≡ context
-      → closing.Closes (λ (h : Handle). h.closeable) WritesNext (store_of mid) closer (mid.lane ∷ []) first (Ok done) (after.lane ∷ []) last → WritesOut was values count last.values.items
-      → LosesOnly context before after → CloseSays context before after was values count code.Done
-  close_done after done values count empty place happened writes loses =
-      CloseSays.closed closer first last done asks empty place (from_before (Ok done) (after.lane ∷ []) happened) writes refl loses
-
-  pub close_refused : (after : Seat) (asked : StoreLane Handle) (back : CloserView) (why : CloseFault) (said : Code)
-      → closing.Closes (λ (h : Handle). h.closeable) WritesNext (store_of mid) closer (mid.lane ∷ []) first (Err (back, why)) (asked ∷ []) last
+  pub close_refused : (after : Seat) (asked : StoreLane Handle) (back : CloserView) (why : CloseFault) (said : Code) (values : List ExtValue) (count : ℕ)
+      → IsRefusedFor (store_of mid) closer mid.lane asked why → back ≡ closer → values ≡ was → count ≡ 0
       → TellsRefused why asked after.lane said → after.lane.cells ≡ asked.cells → slice_index_or after.closers.items context None ≡ Some back → KeepsOthers context before after
-      → length after.closers.items ≡ length before.closers.items → CloseSays context before after was was 0 said
-  close_refused after asked back why said happened tells still there others places =
-      let told = from_before (Err (back, why)) (asked ∷ []) happened in
-      CloseSays.refused closer first why asked asks
-      (subst (λ (w : Written). closing.Closes (λ (h : Handle). h.closeable) WritesNext (store_of before) closer (before.lane ∷ []) first (Err (closer, why)) (asked ∷ []) w) told.not_called
-      (subst (λ (b : CloserView). closing.Closes (λ (h : Handle). h.closeable) WritesNext (store_of before) closer (before.lane ∷ []) first (Err (b, why)) (asked ∷ []) last) told.handed_back told))
-      tells still (same_but after.closers.items before.closers.items context places (there ∙ (ap (λ (c : CloserView). Some c) told.handed_back ∙ sym asks.has)) others) refl refl
+      → length after.closers.items ≡ length before.closers.items → CloseSays context before after was values count said
+  close_refused after asked back why said values count refused handed unwritten none tells still there others places =
+      CloseSays.refused closer why asked asks
+      (subst (λ s. IsRefusedFor (arc_value s) closer before.lane asked why) same (subst (λ (l : StoreLane Handle). IsRefusedFor (store_of mid) closer l asked why) lane refused)) tells still
+      (same_but after.closers.items before.closers.items context places (there ∙ (ap (λ (c : CloserView). Some c) handed ∙ sym asks.has)) others) unwritten none
 
 -- ---- through a slot
 

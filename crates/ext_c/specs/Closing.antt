@@ -2,7 +2,7 @@
 -- `count` is how many values are written there.
 use Rattle.std.specs.Prelude.{ℕ, ◌≡◌, ◌≢◌, ◌<◌, ◌≤◌, ◌⊎◌, List, [], ◌∷◌, drop, length, slice_index_or, take, None, Some, Ok, Err}
 use Rattle.ext_values.specs.Known.{Learns}
-use Rattle.ext_store.specs.Stores.{CloserView, StoreLane}
+use Rattle.ext_store.specs.Stores.{CloserView, StoreLane, StoreView}
 use Rattle.ext_model.specs.declared.closed.Closed.{Closed}
 use Rattle.ext_closing.specs.declared.fault.CloseFault.{CloseFault}
 use Rattle.ext_closing.specs.declared.fault.CloseFault.TheVariants as close
@@ -11,24 +11,27 @@ use Rattle.ext_c.specs.declared.code.Code.{Code}
 use Rattle.ext_c.specs.declared.code.Code.TheVariants as code
 use Rattle.ext_c.specs.declared.handle.Handle.{Handle}
 use Rattle.ext_c.specs.declared.value.ExtValue.{ExtValue}
-use Rattle.ext_c.specs.declared.written.Written.{Written}
 use Rattle.ext_c.specs.declared.seat.Seat.{Seat}
 use Rattle.ext_c.specs.Answers.{store_of}
 use Rattle.ext_c.specs.Codes.{close_code}
-use Rattle.ext_c.specs.Writing.{WritesNext}
+use Rattle.ext_c.specs.Writing.{WritesNext, Writings}
+
+-- How many values a close writes out at most: one for each place that its store has for keys.
+abbrev pub room_for : StoreView → ℕ
+room_for store = length store.id.keys
 
 -- The lane has no claim, the list has enough places, and there is such a context.
 pub record MayAsk (context places : ℕ) (seat : Seat) : Type 0 where
   pub idle : seat.claim ≡ None
-  pub room : 64 ≤ places
+  pub room : room_for (store_of seat) ≤ places
   pub listed : context < length (store_of seat).tree
 
 -- Why the store is not asked for a close, by the first reason that applies: the lane has a claim, the list has too few
 -- places, there is no such context, this lane doesn't close it, or it is closed already.
 pub data NotClosing (context places : ℕ) (seat : Seat) : Code → Type 0 where
   claiming : (claim : ℕ) → seat.claim ≡ Some claim → NotClosing context places seat code.Claiming
-  too_few : seat.claim ≡ None → places < 64 → NotClosing context places seat code.TooFewPlaces
-  no_context : seat.claim ≡ None → 64 ≤ places → length (store_of seat).tree ≤ context
+  too_few : seat.claim ≡ None → places < room_for (store_of seat) → NotClosing context places seat code.TooFewPlaces
+  no_context : seat.claim ≡ None → room_for (store_of seat) ≤ places → length (store_of seat).tree ≤ context
       → NotClosing context places seat code.BadContext
   no_closer : MayAsk context places seat → length seat.closers.items ≤ context
       → NotClosing context places seat code.NoCloser
@@ -49,6 +52,25 @@ pub record WritesOut (was values : List ExtValue) (count : ℕ) (written : List 
   pub counted : count ≡ length written
   pub front : take count values ≡ written
   pub rest : drop count values ≡ drop count was
+
+-- The store closes the context, and what it has written then is written out: there is room for a value of each place.
+pub record WritesClosed (context : ℕ) (store : StoreView) (closer : CloserView) (before after : StoreLane Handle)
+    (was values : List ExtValue) (count : ℕ) : Type 0 where
+  pub first : Writings
+  pub last : Writings
+  pub closed : Closed
+  pub empty : first.values ≡ []
+  pub place : first.context ≡ context
+  pub room : first.room ≡ room_for store
+  pub closes : closing.Closes (λ h. h.closeable) WritesNext store closer (before ∷ []) first (Ok closed) (after ∷ []) last
+  pub writes : WritesOut was values count last.values
+
+-- The store refuses the close for this reason.
+pub record IsRefusedFor (store : StoreView) (closer : CloserView) (before after : StoreLane Handle) (why : CloseFault)
+    : Type 0 where
+  pub first : Writings
+  pub closes : closing.Closes (λ h. h.closeable) WritesNext store closer (before ∷ []) first (Err (closer, why))
+      (after ∷ []) first
 
 -- The closers of all other contexts are as they were.
 abbrev pub KeepsOthers : ℕ → Seat → Seat → Type 0
@@ -76,16 +98,12 @@ pub data CloseSays (context : ℕ) (before after : Seat) (was values : List ExtV
     : Type 0 where
   not_asked : NotClosing context (length was) before said → after ≡ before → values ≡ was → count ≡ 0
       → CloseSays context before after was values count said
-  closed : (closer : CloserView) (first last : Written) (closed : Closed) → Asks context (length was) before closer
-      → first.values.items ≡ [] → first.context ≡ context
-      → closing.Closes (λ h. h.closeable) WritesNext (store_of before) closer (before.lane ∷ []) first (Ok closed)
-      (after.lane ∷ []) last
-      → WritesOut was values count last.values.items → said ≡ code.Done → LosesOnly context before after
+  closed : (closer : CloserView) → Asks context (length was) before closer
+      → WritesClosed context (store_of before) closer before.lane after.lane was values count
+      → said ≡ code.Done → LosesOnly context before after
       → CloseSays context before after was values count said
-  refused : (closer : CloserView) (first : Written) (why : CloseFault) (asked : StoreLane Handle)
-      → Asks context (length was) before closer
-      → closing.Closes (λ h. h.closeable) WritesNext (store_of before) closer (before.lane ∷ []) first
-      (Err (closer, why)) (asked ∷ []) first
+  refused : (closer : CloserView) (why : CloseFault) (asked : StoreLane Handle) → Asks context (length was) before closer
+      → IsRefusedFor (store_of before) closer before.lane asked why
       → TellsRefused why asked after.lane said → after.lane.cells ≡ asked.cells
       → after.closers.items ≡ before.closers.items → values ≡ was → count ≡ 0
       → CloseSays context before after was values count said

@@ -3,6 +3,7 @@ pub mod Closing
 pub mod Codes
 pub mod Faults
 pub mod Held
+pub mod Limits
 pub mod Opening
 pub mod Slots
 pub mod Writing

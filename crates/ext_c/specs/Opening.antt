@@ -1,35 +1,42 @@
 -- What an opening promises of its slots, and what a leave promises. `before` and `after` are the slots, or the slot.
-use Rattle.std.specs.Prelude.{ℕ, ◌≡◌, ◌≢◌, ◌*◌, ◌++◌, All, Bool, List, [], ◌∷◌, length, map, Option, None, Some}
+use Rattle.std.specs.Prelude.{ℕ, ◌≡◌, ◌≢◌, ◌*◌, ◌++◌, All, List, [], ◌∷◌, length, map, Option, None, Some}
 use Rattle.std.specs.Global.{Box}
 use Rattle.std.specs.List.{AllZip}
 use Rattle.ext_ids.specs.Grammar.{IsIdText}
-use Rattle.ext_model.specs.declared.size.Size.TheVariants.{Usual}
+use Rattle.ext_model.specs.Sizes.{most_contexts}
 use Rattle.ext_tree.specs.Trees.{Id, IsTreeWithin}
 use Rattle.ext_cells.specs.Lanes.{fresh_lanes}
-use Rattle.ext_store.specs.Opening.{fault_count}
-use Rattle.ext_store.specs.Stores.{AreStoreLimits, CloserView, StoreLane, StoreView, closers_below, fresh_store_lane}
+use Rattle.ext_store.specs.declared.limits.Limits.{Limits}
+use Rattle.ext_store.specs.Opening.{fault_count, places_for}
+use Rattle.ext_store.specs.Stores.{CloserView, StoreLane, StoreView, closers_below, fresh_store_lane}
 use Rattle.ext_c.specs.declared.code.Code.{Code}
 use Rattle.ext_c.specs.declared.code.Code.TheVariants as code
 use Rattle.ext_c.specs.declared.handle.Handle.{Handle}
 use Rattle.ext_c.specs.declared.seat.Seat.{Seat}
 use Rattle.ext_c.specs.declared.slot.ExtSlot.{ExtSlot}
 use Rattle.ext_c.specs.Answers.{store_of}
+use Rattle.ext_c.specs.Limits.{AreInRange}
 use Rattle.ext_c.specs.Texts.{AreTexts, NamesNoTree, texts_in}
 
 -- No slot has a lane.
 abbrev pub AreEmpty : List ExtSlot → Type 0
 AreEmpty slots = All (λ (s : ExtSlot). s.state ≡ 0) slots
 
--- The store is of usual size and has these ids and limits, and 64 keys.
-pub record IsStoreOf (ids : List Id) (lanes tries numbers : ℕ) (keeps : Bool) (store : StoreView) : Type 0 where
-  pub within : AreStoreLimits Usual 64 lanes tries numbers
+-- The store has these ids and limits, and places for so many keys.
+pub record IsStoreOf (ids : List Id) (given : Limits) (store : StoreView) : Type 0 where
+  pub within : AreInRange given
   pub tree : store.tree ≡ ids
   pub limits : store.id.cells.limits
-      ≡ record { cells = length ids * 64; lanes = lanes; numbers = numbers; keep_faults = keeps }
-  pub tries_are : store.tries ≡ tries
-  pub keys : length store.id.keys ≡ 64
-  pub places : length store.id.places ≡ numbers
-  pub fault_places : length store.id.fault_places ≡ fault_count keeps numbers
+      ≡ record {
+        cells = length ids * places_for given.keys;
+        lanes = given.lanes;
+        numbers = given.numbers;
+        keep_faults = given.keep_faults;
+      }
+  pub tries : store.tries ≡ given.tries
+  pub keys : length store.id.keys ≡ places_for given.keys
+  pub places : length store.id.places ≡ given.numbers
+  pub fault_places : length store.id.fault_places ≡ fault_count given.keep_faults given.numbers
 
 -- The store's first lanes, in order, which have made no step and know nothing.
 abbrev pub lanes_below : StoreView → ℕ → List (StoreLane Handle)
@@ -88,32 +95,30 @@ pub record AreSeats (store : StoreView) (lanes : List (StoreLane Handle)) (close
   pub last : IsSeatOf store (map Some closers) last_lane last_seat.value
 
 -- The seats of a store with these ids and limits.
-pub record AreOpened (ids : List Id) (lanes tries numbers : ℕ) (keeps : Bool) (seats : List (Box Seat)) : Type 0 where
+pub record AreOpened (ids : List Id) (limits : Limits) (seats : List (Box Seat)) : Type 0 where
   pub store : StoreView
-  pub is : IsStoreOf ids lanes tries numbers keeps store
-  pub seats_are : AreSeats store (lanes_below store lanes) (closers_below store.id.cells (length store.tree)) seats
+  pub is : IsStoreOf ids limits store
+  pub seats_are : AreSeats store (lanes_below store limits.lanes) (closers_below store.id.cells (length store.tree)) seats
 
 -- ---- what the exports promise
 
 -- The opening is refused, and nothing has changed, if a slot has a lane; otherwise if a limit is out of its range;
--- otherwise if the texts name no tree, or if all are texts but memory was refused. If it is not refused, there is a
--- store with these ids and limits, and the slots have its lanes.
-pub data OpenSays (bytes lengths : List ℕ) (tries numbers : ℕ) (keeps : Bool) (before after : List ExtSlot)
-    (said : Code) : Type 0 where
+-- otherwise if the texts name no tree of this size, or if all are texts but memory was refused. If it is not refused,
+-- there is a store with these ids and limits, and the slots have its lanes.
+pub data OpenSays (bytes lengths : List ℕ) (limits : Limits) (before after : List ExtSlot) (said : Code) : Type 0 where
   not_empty : ¬ AreEmpty before → after ≡ before → said ≡ code.NotEmpty
-      → OpenSays bytes lengths tries numbers keeps before after said
-  bad_limit : AreEmpty before → ¬ AreStoreLimits Usual 64 (length before) tries numbers → after ≡ before
-      → said ≡ code.BadLimit → OpenSays bytes lengths tries numbers keeps before after said
-  no_tree : AreEmpty before → AreStoreLimits Usual 64 (length before) tries numbers → NamesNoTree bytes lengths said
-      → after ≡ before → OpenSays bytes lengths tries numbers keeps before after said
-  no_memory : AreEmpty before → AreStoreLimits Usual 64 (length before) tries numbers → AreTexts bytes lengths
-      → after ≡ before → said ≡ code.NoMemory
-      → OpenSays bytes lengths tries numbers keeps before after said
+      → OpenSays bytes lengths limits before after said
+  bad_limit : AreEmpty before → ¬ AreInRange limits → after ≡ before → said ≡ code.BadLimit
+      → OpenSays bytes lengths limits before after said
+  no_tree : AreEmpty before → AreInRange limits → NamesNoTree (most_contexts limits.size) bytes lengths said
+      → after ≡ before → OpenSays bytes lengths limits before after said
+  no_memory : AreEmpty before → AreInRange limits → AreTexts bytes lengths → after ≡ before → said ≡ code.NoMemory
+      → OpenSays bytes lengths limits before after said
   opened : AreEmpty before → AreTexts bytes lengths → (ids : List Id) → AllZip IsIdText (texts_in bytes lengths) ids
-      → IsTreeWithin 256 ids
-      → (store : StoreView) → IsStoreOf ids (length before) tries numbers keeps store
-      → HaveLanes store (lanes_below store (length before)) after
-      → said ≡ code.Done → OpenSays bytes lengths tries numbers keeps before after said
+      → IsTreeWithin (most_contexts limits.size) ids
+      → (store : StoreView) → IsStoreOf ids limits store
+      → HaveLanes store (lanes_below store limits.lanes) after
+      → said ≡ code.Done → OpenSays bytes lengths limits before after said
 
 -- The slot had no lane and is unchanged; or it had one and is now empty.
 pub data LeaveSays (before after : ExtSlot) (said : Code) : Type 0 where

@@ -66,11 +66,12 @@ pub record IsNoId (texts : List (List ℕ)) : Type 0 where
   pub within : at < length texts
   pub spells_none : (pairs : List Pair) → IsIdText (slice_index_or texts at []) pairs → ⊥
 
--- Why texts name no tree: one of them is no text, for this reason; or one is no id; or the ids are no tree, by their
--- first fault.
-pub data NamesNoTree (bytes lengths : List ℕ) (said : Code) : Type 0 where
-  unread : IsTextFault bytes lengths said → NamesNoTree bytes lengths said
-  no_id : AreTexts bytes lengths → IsNoId (texts_in bytes lengths) → said ≡ code.BadId → NamesNoTree bytes lengths said
+-- Why texts name no tree of so many contexts at most: one of them is no text, for this reason; or one is no id; or the
+-- ids are no tree, by their first fault.
+pub data NamesNoTree (most : ℕ) (bytes lengths : List ℕ) (said : Code) : Type 0 where
+  unread : IsTextFault bytes lengths said → NamesNoTree most bytes lengths said
+  no_id : AreTexts bytes lengths → IsNoId (texts_in bytes lengths) → said ≡ code.BadId
+      → NamesNoTree most bytes lengths said
   no_tree : AreTexts bytes lengths → (ids : List Id) (why : TreeFault) → AllZip IsIdText (texts_in bytes lengths) ids
-      → HasFault 256 ids why → said ≡ tree_code why
-      → NamesNoTree bytes lengths said
+      → HasFault most ids why → said ≡ tree_code why
+      → NamesNoTree most bytes lengths said

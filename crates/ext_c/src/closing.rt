@@ -1,9 +1,9 @@
 //! The close of a context, by the lane that has its closer.
-ghost use Rattle.std.specs.Prelude.{ℕ, ◌≡◌, ◌≢◌, ◌≤◌, ◌<◌, ◌∷◌, [], IfErr, IfOk, None, Some, Ok, Err, length, slice_index_or, take};
+ghost use Rattle.std.specs.Prelude.{ℕ, ◌≡◌, ◌≢◌, ◌≤◌, ◌<◌, ◌∷◌, [], IfErr, IfOk, None, Some, length, slice_index_or};
 ghost use Rattle.ext_store.specs.Stores.{IsCloserOf};
 ghost use Rattle.ext_closing.specs.Closes as closing;
 ghost use Rattle.ext_c.specs.Answers.{store_of};
-ghost use Rattle.ext_c.specs.Closing.{CloseSays, KeepsOthers, NotClosing, TellsRefused};
+ghost use Rattle.ext_c.specs.Closing.{CloseSays, IsRefusedFor, KeepsOthers, NotClosing, TellsRefused, WritesClosed, room_for};
 ghost use Rattle.ext_c.specs.Writing.{WritesNext};
 
 use crate::code::Code;
@@ -16,7 +16,7 @@ use ext_model::Fault;
 use ext_store::{Closer, Store};
 use std::{mem, slice};
 
-impl CloseAction<Handle> for Written {
+impl<const ROOM: usize> CloseAction<Handle> for Written<ROOM> {
     ghost close_gives = { WritesNext };
 
     fn close(&mut self, number: u32, value: &Handle) -> Result<(), Fault> {
@@ -27,7 +27,7 @@ impl CloseAction<Handle> for Written {
             closeable: value.closeable,
             fault: false,
         };
-        let _pushed = self.values.try_push(own);
+        self.add(own);
         Ok(())
     }
 }
@@ -49,19 +49,15 @@ impl Seat {
         if self.claim.is_some() {
             return Code::Claiming;
         }
-        if values.len() < 64 {
+        if values.len() < self.room() {
             return Code::TooFewPlaces;
         }
         let closer = match self.take_closer(context) {
             Ok(closer) => closer,
             Err(code) => return code,
         };
-        let mut written = Written::none(context);
-        match self.ask(closer, &mut written) {
-            Ok(_) => {
-                *count = written.copy_to(values);
-                Code::Done
-            }
+        match self.ask(context, closer, values, count) {
+            Ok(()) => Code::Done,
             Err((closer, why)) => {
                 self.give_closer(context, closer);
                 self.mend(why)
@@ -69,8 +65,80 @@ impl Seat {
         }
     }
 
-    // `close` of ext_closing, with only this lane in hand.
-    fn ask(&mut self, closer: Closer, written: &mut Written) -> Result<Closed, (Closer, CloseFault)>
+    // How many values a close writes out at most.
+    fn room(&self) -> usize
+        ensures room { result ≡ room_for (store_of self.now) }
+        ensures few { result ≤ 1024 }
+    {
+        let shared: &Store<Handle> = &self.store;
+        shared.key_count()
+    }
+
+    // `close` of ext_closing with only this lane in hand. What is to be closed is written out.
+    fn ask(
+        &mut self,
+        context: usize,
+        closer: Closer,
+        values: &mut [ExtValue],
+        count: &mut usize,
+    ) -> Result<(), (Closer, CloseFault)>
+        requires idle { self.old.claim ≡ None }
+        requires closer { IsCloserOf (store_of self.old) closer }
+        requires room { room_for (store_of self.old) ≤ length values.old }
+        ensures store { self.new.store ≡ self.old.store }
+        ensures claim { self.new.claim ≡ None }
+        ensures closers { self.new.closers ≡ self.old.closers }
+        ensures closed { IfOk result (λ _. WritesClosed context (store_of self.old) closer self.old.lane self.new.lane values.old values.new count.new) }
+        ensures refused { IfErr result (λ e. IsRefusedFor (store_of self.old) closer self.old.lane self.new.lane e.1) }
+        ensures handed_back { IfErr result (λ e. e.0 ≡ closer) }
+        ensures untold { IfErr result (λ _. (values.new ≡ values.old) × (count.new ≡ count.old)) }
+    {
+        if self.room() <= 64 {
+            self.ask_with_room::<64>(context, closer, values, count)
+        } else {
+            self.ask_with_room::<1024>(context, closer, values, count)
+        }
+    }
+
+    // The same, by a list of this room, which costs the more the more room it has.
+    #[inline(never)]
+    fn ask_with_room<const ROOM: usize>(
+        &mut self,
+        context: usize,
+        closer: Closer,
+        values: &mut [ExtValue],
+        count: &mut usize,
+    ) -> Result<(), (Closer, CloseFault)>
+        requires idle { self.old.claim ≡ None }
+        requires closer { IsCloserOf (store_of self.old) closer }
+        requires room { room_for (store_of self.old) ≤ length values.old }
+        requires own_room { room_for (store_of self.old) ≤ ROOM }
+        requires few { ROOM ≤ 1024 }
+        ensures store { self.new.store ≡ self.old.store }
+        ensures claim { self.new.claim ≡ None }
+        ensures closers { self.new.closers ≡ self.old.closers }
+        ensures closed { IfOk result (λ _. WritesClosed context (store_of self.old) closer self.old.lane self.new.lane values.old values.new count.new) }
+        ensures refused { IfErr result (λ e. IsRefusedFor (store_of self.old) closer self.old.lane self.new.lane e.1) }
+        ensures handed_back { IfErr result (λ e. e.0 ≡ closer) }
+        ensures untold { IfErr result (λ _. (values.new ≡ values.old) × (count.new ≡ count.old)) }
+    {
+        let mut written: Written<ROOM> = Written::none(context, self.room());
+        match self.close_into(closer, &mut written) {
+            Ok(_) => {
+                *count = written.copy_to(values);
+                Ok(())
+            }
+            Err(refused) => Err(refused),
+        }
+    }
+
+    // The close itself.
+    fn close_into<const ROOM: usize>(
+        &mut self,
+        closer: Closer,
+        written: &mut Written<ROOM>,
+    ) -> Result<Closed, (Closer, CloseFault)>
+        requires few { ROOM ≤ 1024 }
         requires idle { self.old.claim ≡ None }
         requires closer { IsCloserOf (store_of self.old) closer }
         ensures store { self.new.store ≡ self.old.store }
@@ -110,7 +178,7 @@ impl Seat {
         ensures context { IfOk result (λ c. c.context ≡ context) }
         ensures taken { IfOk result (λ c. slice_index_or self.old.closers.items context None ≡ Some c) }
         ensures listed { IfOk result (λ _. context < length (store_of self.old).tree) }
-        ensures refused { IfErr result (λ code. (places : ℕ) → self.old.claim ≡ None → 64 ≤ places → NotClosing context places self.old code) }
+        ensures refused { IfErr result (λ code. (places : ℕ) → self.old.claim ≡ None → room_for (store_of self.old) ≤ places → NotClosing context places self.old code) }
         ensures unchanged { IfErr result (λ _. self.new ≡ self.old) }
         ensures within { IfOk result (λ _. context < length self.new.closers.items) }
         ensures gone { IfOk result (λ _. slice_index_or self.new.closers.items context None ≡ None) }

@@ -28,7 +28,7 @@ pub enum Code {
     Contended,
     /// There were too many events in this context under this key.
     Exhausted,
-    /// All 64 places hold other keys.
+    /// All of the store's places for keys hold other keys.
     DirectoryFull,
     /// All numbers of the store were drawn.
     NumbersFull,
@@ -54,7 +54,7 @@ pub enum Code {
     NotEmpty,
     /// The store has no context of this number.
     BadContext,
-    /// A key's number is 64 or more.
+    /// The store has no place for a key of this number.
     BadKey,
     /// A limit is out of its range.
     BadLimit,
@@ -66,9 +66,9 @@ pub enum Code {
     BadId,
     /// The ids do not form a tree.
     BadTree,
-    /// There are more than 256 contexts.
+    /// There are more contexts than a store of this size has.
     TooMany,
-    /// The caller has room for fewer than 64 values.
+    /// The caller has room for fewer values than the store has places for keys.
     TooFewPlaces,
 }
 

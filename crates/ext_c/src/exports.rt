@@ -1,72 +1,58 @@
 //! What C calls. `bindings/c` has the header.
-ghost use Rattle.std.specs.Prelude.{◌≡◌, ◌≢◌};
+ghost use Rattle.std.specs.Prelude.{◌≡◌, ◌≢◌, length};
 ghost use Rattle.ext_c.specs.declared.code.Code.TheVariants as code;
 ghost use Rattle.ext_c.specs.Answers.{AbandonSays, BeginAlongSays, BeginSays, FailSays, FillSays, GetAlongSays, GetSays, NamesKey, PutSays, RemoveSays};
 ghost use Rattle.ext_c.specs.Closing.{CloseSays};
+ghost use Rattle.ext_c.specs.Limits.{store_limits};
 ghost use Rattle.ext_c.specs.Opening.{LeaveSays, OpenSays};
 ghost use Rattle.ext_c.specs.Slots.{ByCode, HasNoClaim, KeepsClaim, OnSlot, StaysButClosers, StaysSo};
 
 use crate::code::Code;
 use crate::filling::{are_empty, take_seats};
 use crate::handle::Handle;
+use crate::limits::ExtLimits;
 use crate::names::tree_of;
 use crate::opening::{are_limits, open_seats};
 use crate::slot::ExtSlot;
 use crate::value::ExtValue;
-use ext_model::Size;
 use ext_store::Limits;
 use std::alloc::Global;
 
 /// Opens a store of the contexts whose ids are the texts, with a lane for each slot. All slots must
 /// be empty. The lane of the last slot closes contexts. Takes memory.
 ///
-/// Refused, in this order, as `NotEmpty`; as `BadLimit` unless there are 1 to 16 slots, 1 to 64
-/// tries and 1 to 65,535 numbers; for the first text that is none as `BadLengths` or `BadText`; as
-/// `BadId` where one of them is no id; and for the ids as `TooMany` or `BadTree`. `NoMemory` may
-/// come instead of the last three, or after them. The slots are as they were then.
+/// Refused, in this order, as `NotEmpty`; as `BadLimit` unless there are 1 to 16 slots, or 32 of a
+/// large store, and each limit is in its range; for the first text that is none as `BadLengths` or
+/// `BadText`; as `BadId` where one of them is no id; and for the ids as `TooMany`, of more than 256
+/// contexts, or 65,536 of a large store, or as `BadTree`. `NoMemory` may come instead of the last
+/// three, or after them. The slots are as they were then.
 #[unsafe(no_mangle)]
 pub extern "C" fn ext_open(
     alloc: Global,
     bytes: &[u8],
     lengths: &[u32],
-    tries: u32,
-    numbers: u32,
-    keep_faults: bool,
+    limits: &ExtLimits,
     slots: &mut [ExtSlot],
 ) -> u32
-    ensures says { ByCode (OpenSays bytes.now lengths.now tries numbers keep_faults slots.old slots.new) result }
+    ensures says { ByCode (OpenSays bytes.now lengths.now (store_limits limits.now (length slots.old)) slots.old slots.new) result }
     ensures refused { result ≢ 0 → slots.new ≡ slots.old }
 {
-    open(alloc, bytes, lengths, tries, numbers, keep_faults, slots).number()
+    let limits = limits.with_lanes(slots.len());
+    open(alloc, bytes, lengths, limits, slots).number()
 }
 
-fn open(
-    alloc: Global,
-    bytes: &[u8],
-    lengths: &[u32],
-    tries: u32,
-    numbers: u32,
-    keep_faults: bool,
-    slots: &mut [ExtSlot],
-) -> Code
-    ensures says { OpenSays bytes.now lengths.now tries numbers keep_faults slots.old slots.new result }
+fn open(alloc: Global, bytes: &[u8], lengths: &[u32], limits: Limits, slots: &mut [ExtSlot]) -> Code
+    requires lanes { limits.lanes ≡ length slots.old }
+    ensures says { OpenSays bytes.now lengths.now limits slots.old slots.new result }
     ensures refused { result ≢ code.Done → slots.new ≡ slots.old }
 {
     if !are_empty(slots) {
         return Code::NotEmpty;
     }
-    let limits = Limits {
-        lanes: slots.len(),
-        tries,
-        keys: 64,
-        numbers,
-        keep_faults,
-        size: Size::Usual,
-    };
     if !are_limits(limits) {
         return Code::BadLimit;
     }
-    let tree = match tree_of(alloc, bytes, lengths) {
+    let tree = match tree_of(alloc, bytes, lengths, limits.size) {
         Ok(tree) => tree,
         Err(code) => return code,
     };
@@ -299,7 +285,8 @@ pub extern "C" fn ext_abandon(alloc: Global, slot: &mut ExtSlot) -> u32
 }
 
 /// Closes the context: seals its places for keys, and writes out the closeable values that remain,
-/// the latest first, for the caller to close. There must be room for 64.
+/// the latest first, for the caller to close. There must be room for as many as the store has places
+/// for keys in a context.
 ///
 /// Not asked of the store, with nothing changed, in this order as `Claiming`, `TooFewPlaces`,
 /// `BadContext`, `NoCloser`, or `Closed` if it was closed before. Refused as `Busy` or `Contended`

@@ -25,6 +25,7 @@ mod fault;
 mod filling;
 mod handle;
 mod lane;
+mod limits;
 mod names;
 mod opening;
 mod saying;

@@ -2,6 +2,7 @@
 ghost use Rattle.std.specs.Prelude.{◌≡◌, ◌⊎◌, IfErr, IfOk};
 ghost use Rattle.std.specs.List.{AllZip};
 ghost use Rattle.ext_ids.specs.Grammar.{IsIdText};
+ghost use Rattle.ext_model.specs.Sizes.{most_contexts};
 ghost use Rattle.ext_tree.specs.Keys as keys;
 ghost use Rattle.ext_tree.specs.Trees.{IsTreeWithin};
 ghost use Rattle.ext_c.specs.declared.code.Code.TheVariants as code;
@@ -10,19 +11,26 @@ ghost use Rattle.ext_c.specs.Texts.{AreTexts, IsNamed, IsNoId, NamesNoKey, Names
 use crate::code::Code;
 use crate::texts::read_texts;
 use ext_ids::UniqueId;
+use ext_model::Size;
 use ext_tree::{Key, Namespace, Tree};
 use std::alloc::Global;
 
-// The tree of the ids that the texts spell. Takes memory.
-pub(crate) fn tree_of(alloc: Global, bytes: &[u8], lengths: &[u32]) -> Result<Tree, Code>
+// The tree of the ids that the texts spell, of this size at most. Takes memory.
+#[tactic(auto, using(crate::proofs::Cut::most_within))]
+pub(crate) fn tree_of(
+    alloc: Global,
+    bytes: &[u8],
+    lengths: &[u32],
+    size: Size,
+) -> Result<Tree, Code>
     ensures texts { IfOk result (λ _. AreTexts bytes.now lengths.now) }
     ensures ids { IfOk result (λ tree. AllZip IsIdText (texts_in bytes.now lengths.now) tree) }
-    ensures tree { IfOk result (IsTreeWithin 256) }
-    ensures refused { IfErr result (λ said. NamesNoTree bytes.now lengths.now said ⊎ (AreTexts bytes.now lengths.now × (said ≡ code.NoMemory))) }
+    ensures tree { IfOk result (IsTreeWithin (most_contexts size)) }
+    ensures refused { IfErr result (λ said. NamesNoTree (most_contexts size) bytes.now lengths.now said ⊎ (AreTexts bytes.now lengths.now × (said ≡ code.NoMemory))) }
 {
     let texts = read_texts(alloc, bytes, lengths)?;
     let ids = ids_of(alloc, texts.as_slice())?;
-    match Tree::build(alloc, ids.as_slice()) {
+    match Tree::build_within(alloc, ids.as_slice(), size.contexts()) {
         Ok(tree) => Ok(tree),
         Err(fault) => Err(Code::of_tree(fault)),
     }

@@ -2,8 +2,8 @@
 ghost use Rattle.std.specs.Prelude.{◌≡◌, ◌↔◌, [], All, IfSome, IsTrue, Some, map};
 ghost use Rattle.std.specs.Arc.{arc_value};
 ghost use Rattle.std.specs.List.{AllZip};
-ghost use Rattle.ext_model.specs.declared.size.Size.TheVariants.{Usual};
-ghost use Rattle.ext_store.specs.Stores.{AreStoreLimits, CloserView, IsCloserOf, IsLaneOf};
+ghost use Rattle.ext_store.specs.Stores.{CloserView, IsCloserOf, IsLaneOf};
+ghost use Rattle.ext_c.specs.Limits.{AreInRange};
 ghost use Rattle.ext_c.specs.Opening.{AreOpened, AreSeats, IsSeatOf};
 
 use crate::crossing::parts_cross;
@@ -115,18 +115,16 @@ fn seats(
 
 // Whether a store can have these limits.
 pub(crate) fn are_limits(limits: Limits) -> bool
-    ensures { IsTrue result ↔ AreStoreLimits limits.size limits.keys limits.lanes limits.tries limits.numbers }
+    ensures { IsTrue result ↔ AreInRange limits }
 {
     (1..=1024).contains(&limits.keys)
         && ext_cells::are_limits(limits.size, 0, limits.lanes, limits.tries, limits.numbers)
 }
 
-// The seats of a new store of usual size with 64 keys, if there is memory.
+// The seats of a new store with these limits, if there is memory.
 pub(crate) fn open_seats(alloc: Global, tree: Tree, limits: Limits) -> Option<Vec<Box<Seat>>>
-    requires limits { AreStoreLimits limits.size limits.keys limits.lanes limits.tries limits.numbers }
-    requires keys { limits.keys ≡ 64 }
-    requires size { limits.size ≡ Usual }
-    ensures { IfSome result (λ seats. AreOpened tree limits.lanes limits.tries limits.numbers limits.keep_faults seats.items) }
+    requires { AreInRange limits }
+    ensures { IfSome result (λ seats. AreOpened tree limits seats.items) }
 {
     parts_cross();
     match Store::<Handle>::open(alloc, tree, limits) {

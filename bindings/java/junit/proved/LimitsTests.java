@@ -22,7 +22,7 @@ class LimitsTests {
             for (int key = 0; key < 64; key++) {
                 store.put(key, key);
             }
-            refused("64 other keys have the numbers of this store: 64", resource, () -> store.put(64, resource));
+            refused("other keys have all of this store's numbers for keys: 64", resource, () -> store.put(64, resource));
             for (int number = 65; number <= 1_022; number++) {
                 store.put(0, number);
             }

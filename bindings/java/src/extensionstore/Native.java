@@ -18,15 +18,15 @@ final class Native {
 
     /** What each code means, for those that become an exception. */
     private static final String[] MEANINGS = {
-        null, null, null, null, null, null, "the context is closed", null, "too many changes at this place", "64 other keys have the numbers of this store",
+        null, null, null, null, null, null, "the context is closed", null, "too many changes at this place", "other keys have all of this store's numbers for keys",
         "all numbers of the store were drawn", "no memory", "a place did not take the value or the key", "the handle of what was met was not found", null, null,
         null, null, null, null, "the store has no such context", null, "a limit is out of its range", null, null, "a text is no unique id", "the ids are no tree",
-        "there are more than 256 contexts",
+        "there are too many contexts",
     };
 
     private Native() {}
 
-    static native long open(byte[] bytes, int[] lengths, int tries, int numbers, int lanes);
+    static native long open(byte[] bytes, int[] lengths, int tries, int numbers, int keys, boolean large, int lanes);
 
     static native void leave(long store);
 

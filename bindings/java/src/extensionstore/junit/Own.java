@@ -13,9 +13,11 @@ final class Own implements ExtensionContext.Store.CloseableResource {
     private static final Namespace NAMESPACE = Namespace.create(ProvedStore.class);
     private static final int NUMBERS = 1_023;
     private static final int NUMBERS_OF_ROOT = 65_535;
+    private static final int KEYS = 64;
 
     private final Own above;
     private final int numbers;
+    private final int keys;
     private Contexts contexts;
     private volatile boolean closed;
     private volatile Store store;
@@ -24,6 +26,7 @@ final class Own implements ExtensionContext.Store.CloseableResource {
         above = context.getParent().map(Own::of).orElse(null);
         int usual = above == null ? NUMBERS_OF_ROOT : NUMBERS;
         numbers = context.getConfigurationParameter("extensionstore.numbers").map(Integer::valueOf).orElse(usual);
+        keys = context.getConfigurationParameter("extensionstore.keys").map(Integer::valueOf).orElse(KEYS);
     }
 
     /** That of the context, which JUnit keeps for it, and closes with it. */
@@ -48,7 +51,8 @@ final class Own implements ExtensionContext.Store.CloseableResource {
 
     private synchronized Store open() {
         if (store == null) {
-            contexts = Contexts.open(new Limits(15, 64, numbers, true), List.of("[context:it]"), Own::resource);
+            Limits limits = new Limits(15, 64, numbers, keys, numbers > NUMBERS_OF_ROOT, true);
+            contexts = Contexts.open(limits, List.of("[context:it]"), Own::resource);
             if (closed) {
                 contexts.close();
             }

@@ -18,9 +18,10 @@ import org.junit.platform.commons.PreconditionViolationException;
  * since the first {@code of} for this context or for one below it; and with it each {@code CloseableResource}, the latest first. A look-up asks the stores
  * one after another, the nearest first, as JUnit's does.
  *
- * <p>A context has at most 64 keys, over all namespaces; and 1,023 values are stored in it, those that are replaced, removed or refused among them, or as
- * many as the configuration parameter {@code extensionstore.numbers} says (1 to 65,535, which is also what the root has). What is refused is refused by a
- * {@link StoreException}; so is each call after the context was closed. A close fails while a creator runs for the context, where JUnit waits.
+ * <p>A context has at most 64 keys, over all namespaces, or as many as the configuration parameter {@code extensionstore.keys} says (1 to 1,024); and 1,023
+ * values are stored in it, in the root 65,535, those that are replaced, removed or refused among them, or as many as {@code extensionstore.numbers} says (1
+ * to 1,048,575). What is refused is refused by a {@link StoreException}; so is each call after the context was closed. A close fails while a creator runs
+ * for the context, where JUnit waits.
  */
 public final class ProvedStore implements Store {
     private final Namespace namespace;
