@@ -75,6 +75,12 @@ static inline ext_code ext_lanes_get(ext_lanes *store, uint32_t lane, size_t con
     return ext_lane_give(store, lane, ext_get(&store->lanes[lane].slot, context, key, found));
 }
 
+static inline ext_code ext_lanes_get_along(ext_lanes *store, uint32_t lane, const size_t *path, size_t length, size_t key, ext_value *found) {
+    ext_code code = ext_lane_take(store, lane);
+    if (code != EXT_DONE) return code;
+    return ext_lane_give(store, lane, ext_get_along(&store->lanes[lane].slot, path, length, key, found));
+}
+
 static inline ext_code ext_lanes_remove(ext_lanes *store, uint32_t lane, size_t context, size_t key, ext_value *taken) {
     ext_code code = ext_lane_take(store, lane);
     if (code != EXT_DONE) return code;
@@ -85,6 +91,12 @@ static inline ext_code ext_lanes_begin(ext_lanes *store, uint32_t lane, size_t c
     ext_code code = ext_lane_take(store, lane);
     if (code != EXT_DONE) return code;
     return ext_lane_give(store, lane, ext_begin(&store->lanes[lane].slot, context, key, found));
+}
+
+static inline ext_code ext_lanes_begin_along(ext_lanes *store, uint32_t lane, const size_t *path, size_t length, size_t key, ext_value *found) {
+    ext_code code = ext_lane_take(store, lane);
+    if (code != EXT_DONE) return code;
+    return ext_lane_give(store, lane, ext_begin_along(&store->lanes[lane].slot, path, length, key, found));
 }
 
 static inline ext_code ext_lanes_fill(ext_lanes *store, uint32_t lane, uint64_t handle, bool closeable, uint32_t *number) {

@@ -135,6 +135,13 @@ ext_code ext_put(ext_slot *slot, size_t context, size_t key, uint64_t handle, bo
    Else: EXT_CONTENDED, EXT_CLAIMING, EXT_BAD_CONTEXT, EXT_BAD_KEY, EXT_NO_LANE */
 ext_code ext_get(ext_slot *slot, size_t context, size_t key, ext_value *found);
 
+/* Looks as ext_get does, but in the contexts of the path, path[0] first: 1 to 16 contexts of the store, none twice. For a context that
+   is opened during the run: it is one that ext_open has named in reserve, and its path is itself and then that of its parent, whatever
+   its id says. ext_put, ext_remove and ext_close ask for no path.
+
+   As ext_get, and EXT_BAD_CONTEXT where that is no path */
+ext_code ext_get_along(ext_slot *slot, const size_t *path, size_t length, size_t key, ext_value *found);
+
 /* Takes out what stands in the context itself, a value or a kept fault. It is not closed. Takes no memory.
 
    EXT_DONE: *taken is it, which is the caller's to close now
@@ -155,6 +162,9 @@ ext_code ext_remove(ext_slot *slot, size_t context, size_t key, ext_value *taken
    EXT_UNSHOWN: as EXT_DONE, but of *found number and context alone are true
    Else nothing is claimed: EXT_CONTENDED, EXT_EXHAUSTED, EXT_CLAIMING, EXT_BAD_CONTEXT, EXT_BAD_KEY, EXT_NO_LANE */
 ext_code ext_begin(ext_slot *slot, size_t context, size_t key, ext_value *found);
+
+/* Begins a compute as ext_begin does, but in path[0], with the rest of the path as its ancestors. The path is that of ext_get_along. */
+ext_code ext_begin_along(ext_slot *slot, const size_t *path, size_t length, size_t key, ext_value *found);
 
 /* Ends the compute with the factory's value. Where other lanes draw numbers at the same moment it draws again while the claim
    stands, until it has a number or none is left. Takes memory.

@@ -240,6 +240,52 @@ static void nearest_value_wins(void) {
     left(slots, 2);
 }
 
+static void path_of_its_own_decides(void) {
+    ext_slot slots[2] = {{0, NULL}}, *one = &slots[0], *other = &slots[1];
+    opened(slots, 2, USUAL);
+    /* FIRST is opened below the engine, past the class */
+    static const size_t past[] = {FIRST, ENGINE}, below[] = {FIRST, CLASS, ENGINE};
+    ext_value value = {0};
+    uint32_t number = 0;
+    CODE(ext_put(one, CLASS, 0, 70, true, &value), EXT_DONE);
+    CODE(ext_get_along(other, past, 2, 0, &value), EXT_ABSENT);
+    CODE(ext_get_along(other, past, 1, 0, &value), EXT_ABSENT);
+    CODE(ext_get_along(other, below, 3, 0, &value), EXT_DONE);
+    WANT(is(value, 70, 1, CLASS, true, false));
+    CODE(ext_begin_along(other, below, 3, 0, &value), EXT_DONE);
+    WANT(is(value, 70, 1, CLASS, true, false));
+    CODE(ext_begin_along(one, past, 2, 0, &value), EXT_RUN);
+    CODE(ext_get_along(one, past, 2, 0, &value), EXT_CLAIMING);
+    CODE(ext_begin_along(one, past, 2, 0, &value), EXT_CLAIMING);
+    CODE(ext_get_along(other, past, 2, 0, &value), EXT_BUSY);
+    WANT(value.context == FIRST);
+    CODE(ext_fill(one, 71, true, &number), EXT_DONE);
+    CODE(ext_get_along(other, past, 2, 0, &value), EXT_DONE);
+    WANT(is(value, 71, number, FIRST, true, false));
+    CODE(ext_get_along(other, past + 1, 1, 0, &value), EXT_ABSENT);
+    left(slots, 2);
+}
+
+static void paths_that_are_none(void) {
+    ext_slot slot = {0, NULL};
+    ext_value value = {0};
+    static const size_t far[] = {ENGINE, CONTEXTS}, twice[] = {FIRST, ENGINE, FIRST};
+    size_t deep[17];
+    for (size_t at = 0; at < 17; at++) deep[at] = at;
+    CODE(ext_get_along(&slot, far, 1, 0, &value), EXT_NO_LANE);
+    CODE(ext_begin_along(&slot, far, 1, 0, &value), EXT_NO_LANE);
+    opened(&slot, 1, USUAL);
+    CODE(ext_get_along(&slot, far, 0, 0, &value), EXT_BAD_CONTEXT);
+    CODE(ext_get_along(&slot, far, 2, 0, &value), EXT_BAD_CONTEXT);
+    CODE(ext_get_along(&slot, twice, 3, 0, &value), EXT_BAD_CONTEXT);
+    CODE(ext_get_along(&slot, deep, 17, 0, &value), EXT_BAD_CONTEXT);
+    CODE(ext_begin_along(&slot, twice, 3, 0, &value), EXT_BAD_CONTEXT);
+    CODE(ext_get_along(&slot, twice, 2, 64, &value), EXT_BAD_KEY);
+    CODE(ext_begin_along(&slot, twice, 2, 64, &value), EXT_BAD_KEY);
+    CODE(ext_get_along(&slot, twice, 2, 63, &value), EXT_ABSENT);
+    left(&slot, 1);
+}
+
 static void numbers_out_of_range(void) {
     ext_slot slot = {0, NULL};
     opened(&slot, 1, USUAL);
@@ -829,6 +875,12 @@ static void *takes_contexts(void *at) {
         if (code != EXT_DONE || value.handle != 7000 + context || value.context != context) unwanted(code, "get");
         code = ext_lanes_get(&lanes, lane, context, 2, &value);
         if (code != EXT_DONE || value.handle != 6000 || value.context != TEMPLATE) unwanted(code, "the template's value");
+        /* opened below the root in place of the template */
+        const size_t path[] = {context, 0};
+        code = ext_lanes_get_along(&lanes, lane, path, 2, 2, &value);
+        if (code != EXT_ABSENT) unwanted(code, "the template's value past the template");
+        code = ext_lanes_begin_along(&lanes, lane, path, 2, lane % 2, &value);
+        if (code != EXT_DONE || value.handle != 7000 + context) unwanted(code, "begin");
         close_invocation(context);
         code = ext_lanes_get(&lanes, lane, context, 2, &value);
         if (code != EXT_CLOSED || value.context != context) unwanted(code, "a context that is closed");
@@ -886,6 +938,8 @@ int main(int count, char **words) {
     empty_slots(), ran("empty_slots");
     keys_have_one_number(), ran("keys_have_one_number");
     nearest_value_wins(), ran("nearest_value_wins");
+    path_of_its_own_decides(), ran("path_of_its_own_decides");
+    paths_that_are_none(), ran("paths_that_are_none");
     numbers_out_of_range(), ran("numbers_out_of_range");
     compute_in_two_calls(), ran("compute_in_two_calls");
     fault_is_kept(), ran("fault_is_kept");
