@@ -468,7 +468,7 @@ static void context_of_1024_values(void) {
     ext_value value = {0};
     static ext_value values[1024];
     /* of all but a few the closing lane's own: it is shown each of the others by a close more */
-    for (size_t at = 0; at < 1024; at++) CODE(ext_put(&slots[at % 100 != 0], FIRST, (at * 5) % 1024, 100 + at, true, &value), EXT_DONE);
+    for (size_t at = 0; at < 1024; at++) CODE(ext_put(&slots[at % 500 != 0], FIRST, (at * 5) % 1024, 100 + at, true, &value), EXT_DONE);
     CODE(ext_close(&slots[1], FIRST, values, 1023, &count), EXT_TOO_FEW_PLACES);
     CODE(ext_close_joined(&slots[1], FIRST, values, 1024, &count), EXT_DONE);
     WANT(count == 1024);
@@ -535,22 +535,24 @@ static ext_code open_suite(ext_limits given, ext_slot *slots, size_t lanes) {
     return ext_open(suite.bytes, suite.byte_count, suite.lengths, suite.length_count, &given, slots, lanes);
 }
 
-/* At most 256 contexts, or 65,536 of a large store, which may have 32 lanes and 1,048,575 numbers. With few rounds, as for valgrind, it has fewer
-   contexts. */
+/* At most 256 contexts, or 65,536 of a large store, which may have 32 lanes and 1,048,575 numbers. With few rounds, as for valgrind, it is
+   smaller, though larger than usual. */
 static void large_store(void) {
     ext_slot slots[32] = {{0, NULL}};
     ext_value value = {0}, values[32] = {{0}};
-    size_t count = 9, contexts = rounds < 1000 ? 5000 : 65536;
+    bool is_whole = rounds >= 1000;
+    size_t count = 9, contexts = is_whole ? 65536 : 500;
+    ext_limits most = {64, is_whole ? 1048575 : 65536, 32, false, true};
     suite_of(256);
     CODE(open_suite(USUAL, slots, 1), EXT_DONE);
     left(slots, 1);
     suite_of(257);
     CODE(open_suite(USUAL, slots, 1), EXT_TOO_MANY);
     suite.byte_count = suite.length_count = 0;
-    for (size_t at = 0; at < 65537; at++) add_to_suite("[e:x]"); /* told before that they are no tree */
-    CODE(open_suite(LARGE, slots, 32), EXT_TOO_MANY);
+    for (size_t at = 0; at < 65537; at++) add_to_suite("[e:x]"); /* too many is told before no tree */
+    if (is_whole) CODE(open_suite(most, slots, 32), EXT_TOO_MANY);
     suite_of(contexts);
-    CODE(open_suite((ext_limits){64, 1048575, 32, false, true}, slots, 32), EXT_DONE);
+    CODE(open_suite(most, slots, 32), EXT_DONE);
     CODE(ext_put(&slots[0], contexts, 0, 1, true, &value), EXT_BAD_CONTEXT);
     CODE(ext_put(&slots[0], TEMPLATE, 31, 99, true, &value), EXT_DONE);
     for (size_t lane = 0; lane < 32; lane++) CODE(ext_put(&slots[lane], contexts - 1 - lane, lane, 100 + lane, true, &value), EXT_DONE);
@@ -558,7 +560,7 @@ static void large_store(void) {
         size_t context = contexts - 1 - lane;
         CODE(ext_get(&slots[31 - lane], context, lane, &value), EXT_DONE);
         WANT(is(value, 100 + lane, (uint32_t)lane + 2, context, true, false));
-        CODE(ext_get(&slots[lane], 100 * (lane + 1), 31, &value), EXT_DONE);
+        CODE(ext_get(&slots[lane], 10 * (lane + 1), 31, &value), EXT_DONE);
         WANT(is(value, 99, 1, TEMPLATE, true, false));
         CODE(ext_close_joined(&slots[31], context, values, 32, &count), EXT_DONE);
         WANT(count == 1 && is(values[0], 100 + lane, (uint32_t)lane + 2, context, true, false));
