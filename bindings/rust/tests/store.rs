@@ -199,6 +199,37 @@ fn nearest_value_wins() {
 }
 
 #[test]
+fn path_of_its_own_decides() {
+    let mut opened = open(Limits::default());
+    let server = opened.key("server");
+    assert_eq!(opened.put(0, CLASS, &server, "of the class"), None);
+    let thing = opened.thing("its own");
+    let lane = &mut opened.lanes[1];
+    // the method is opened below the engine, past the class
+    let past = [FIRST, ENGINE];
+    assert!(lane.get_along(&past, &server).unwrap().is_none());
+    let below = lane.get_along(&[FIRST, CLASS, ENGINE], &server).unwrap();
+    assert_eq!(below.map(|it| it.name), Some("of the class"));
+    let made = lane.compute_along(&past, &server, || Ok(thing)).unwrap();
+    assert_eq!((made.name, made.context()), ("its own", FIRST));
+    let found = lane
+        .compute_along(&past, &server, || unreachable!())
+        .unwrap();
+    assert_eq!((found.name, found.context()), ("its own", FIRST));
+    let none: [&[usize]; 4] = [&[], &[FIRST, 4], &[FIRST, ENGINE, FIRST], &[0; 17]];
+    for path in none {
+        assert!(matches!(
+            lane.get_along(path, &server),
+            Err(GetError::Refused(Refusal::NoContext))
+        ));
+        assert!(matches!(
+            lane.compute_along(path, &server, || unreachable!()),
+            Err(ComputeError::Refused(Refusal::NoContext))
+        ));
+    }
+}
+
+#[test]
 fn equal_keys_are_one() {
     let mut opened = open(Limits::default());
     let one = opened.lanes[0].key(&["a", "b"], "name").unwrap();

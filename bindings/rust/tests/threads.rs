@@ -140,7 +140,8 @@ fn what_a_factory_answers_is_kept_beside_others() {
     });
 }
 
-/// Contexts that come during the run are named before it, and a counter gives them out: each once, and its close gives its value alone.
+/// Contexts that come during the run are named before it, and a counter gives them out: each once, and its close gives its value alone. Each is
+/// opened below the root, and by another path below the template.
 #[test]
 fn contexts_given_out_by_a_counter() {
     contexts_given_out(2);
@@ -158,7 +159,9 @@ fn contexts_given_out(threads: usize) {
         large: true,
         ..Limits::default()
     };
-    let (_store, lanes, closers) = Store::open(&ids, limits).unwrap();
+    let (_store, mut lanes, closers) = Store::open(&ids, limits).unwrap();
+    let shared = lanes[0].key(&[], "shared").unwrap();
+    assert!(lanes[0].put(1, &shared, Number(1)).unwrap().is_none());
     let closers: Vec<_> = closers.into_iter().map(|it| Mutex::new(Some(it))).collect();
     let (next, closed) = (AtomicUsize::new(2), Mutex::new(Vec::new()));
     together(lanes, |_, lane| loop {
@@ -173,7 +176,14 @@ fn contexts_given_out(threads: usize) {
             .expect("a context is given once");
         let (key, own) = (lane.key(&[], "own").unwrap(), 2 * context as u32); // an even number is closeable
         assert!(lane.get(context, &key).unwrap().is_none());
-        assert!(lane.put(context, &key, Number(own)).unwrap().is_none());
+        let (below, past) = ([context, 1, 0], [context, 0]);
+        assert_eq!(
+            lane.get_along(&below, &shared).unwrap().map(|it| it.0),
+            Some(1)
+        );
+        assert!(lane.get_along(&past, &shared).unwrap().is_none());
+        let made = lane.compute_along(&past, &key, || Ok(Number(own)));
+        assert_eq!(made.unwrap().0, own);
         assert_eq!(lane.get(context, &key).unwrap().map(|it| it.0), Some(own));
         let gone = closer.close(|it| it.0).unwrap();
         assert_eq!(gone, [own]);
