@@ -4,8 +4,9 @@ ghost use Rattle.std.specs.Prelude.{◌≡◌, ◌||◌, is_some};
 use crate::Race;
 use ext_model::ContextNo;
 
-/// What the laws of `ext_one_report` prove of a plan without races, of each run on several lanes
-/// that lacks nothing (`report_laws`, and for a report `told_lack_laws`).
+/// What is proved of each run on several lanes of a plan without races, if it lacks nothing: by
+/// `report_laws` of `ext_one_report`, and of what a run writes by the clause `one_report` of
+/// `ext_run::run`.
 #[derive(Clone, Copy, Debug)]
 pub enum Proved<'p> {
     /// It reports what the plain run does.
