@@ -1,7 +1,5 @@
 -- What a run that lacked nothing gave, of a plan that has one report.
-use Rattle.std.proofs.Common.{◌≡◌, ℕ, Bool, true, false, List, length, map, Option, Some, Result, Ok, Err, IfOk, refl, ap, sym, subst, ◌∙◌, inl, inr}
-use Rattle.std.specs.Prelude.{slice_get}
-use Rattle.std.proofs.lemmas.Bool.{cases_Bool}
+use Rattle.std.proofs.Common.{◌≡◌, ℕ, Bool, true, false, List, Some, Result, Ok, Err, IfOk, refl, ap, sym, subst, ◌∙◌}
 use Rattle.ext_lifecycle.specs.FaultTexts.{NodeOutcome}
 use Rattle.ext_plain.specs.PlainRun.{plain_run}
 use Rattle.ext_parallel.specs.Lacking.{may_have_lacked}

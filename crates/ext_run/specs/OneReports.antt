@@ -1,7 +1,7 @@
 -- What a run writes of a plan that has one report: that of the plan's plain run, in the form that was asked for, on
 -- however many lanes and over whichever store it went. `OneReports` of ext_races says which plans have one, and `check`
 -- with `--races` tells it of a plan (JUnit has no such rule).
-use Rattle.std.specs.Prelude.{◌≡◌, Bool, true, false, List, Result, Ok, Err}
+use Rattle.std.specs.Prelude.{◌≡◌, true, false, List, Result, Ok, Err}
 use Rattle.ext_lifecycle.specs.FaultTexts.{NodeOutcome}
 use Rattle.ext_plan_reading.specs.Plans.{PlanText}
 use Rattle.ext_plain.specs.PlainRun.{plain_run}
