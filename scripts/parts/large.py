@@ -80,17 +80,19 @@ def races(cases):
     other = '[[node]]\nid = "[a:b]/[c:65535]"\nmode = "concurrent"\ntest = ["compute a y up 1"]\n'
     pairs = "".join(f"compute a of [a:b]/[c:{number}] and compute a of [a:b]/[c:65535] in [a:b]\n" for number in range(1, 21))
     a_class = 'mode = "concurrent"\nafter_all = [["remove a"]]\n'
+    one, near = "no races: one report\n", "no races: one report but for computed and found\n"
     plans = {
-        "compute the same at one place": (alike + other.replace("a y", "a x"), "no races\n"),
+        "compute the same at one place": (alike + other.replace("a y", "a x"), near),
+        "compute there, one after another": (one_place(65_535, ["compute a x up 1"], "same_thread"), one),
         "compute there, one of them something else": (alike + other, f"{pairs}and more\n"),
-        "change one place, one after another": (one_place(65_535, ["put a x up 1"], "same_thread"), "no races\n"),
-        "do so in a class beside others": (one_place(65_534, ["put a x up 1"], "same_thread", 'mode = "concurrent"\n'), "no races\n"),
-        "compute in a class that removes at its end": (one_place(65_534, ["compute a x up 1"], above=a_class), "no races\n"),
+        "change one place, one after another": (one_place(65_535, ["put a x up 1"], "same_thread"), one),
+        "do so in a class beside others": (one_place(65_534, ["put a x up 1"], "same_thread", 'mode = "concurrent"\n'), one),
+        "compute in a class that removes at its end": (one_place(65_534, ["compute a x up 1"], above=a_class), near),
         "put at one place": (one_place(65_535, ["put a x up 1"]), "".join(f"put a of [a:b]/[c:1] and put a of [a:b]/[c:{number}] in [a:b]\n" for number in range(2, 22)) + "and more\n"),
     }
     for name, (plan, wanted) in plans.items():
         ran = cases.ran(["check", "--large", "--races"], plan, SECONDS)
-        right = (ran.returncode, ran.stdout, ran.stderr) == (wanted != "no races\n", wanted.encode(), b"")
+        right = (ran.returncode, ran.stdout, ran.stderr) == (wanted not in (one, near), wanted.encode(), b"")
         print(f"case tests that {name}: {'as it has to be' if right else f'NOT as it has to be: {ran.stdout[:200]}'}")
         cases.passed, cases.failed = cases.passed + right, cases.failed + (not right)
 
@@ -106,7 +108,7 @@ def main(program, _words):
     few = nodes_of(flat(257))
     cases.run("257 nodes, without the word", ["run"], few, "plan: P7")
     counts = "ok, 257 nodes, 0 tests, 0 of 64 keys\n"
-    for words, wanted in [(["run"], nodes_report(flat(257))), (["check"], counts), (["check", "--races"], "no races\n")]:
+    for words, wanted in [(["run"], nodes_report(flat(257))), (["check"], counts), (["check", "--races"], "no races: one report\n")]:
         cases.run(f"257 nodes, {' '.join(words)}", [*words, "--large"], few, wanted)
     drawing = "a:b\n" + "".join(f"  c:{number}\n" for number in range(1, 257))
     cases.run("257 nodes, drawn", ["check", "--large", "--tree"], few, drawing)

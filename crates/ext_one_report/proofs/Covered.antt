@@ -19,7 +19,7 @@ use Rattle.ext_one_report.specs.Changing.{IsBelow}
 use Rattle.ext_one_report.proofs.PlanCells.{HaveChanged, changed_by}
 use Rattle.ext_one_report.proofs.MatchingWords.{Places}
 use Rattle.ext_one_report.proofs.Covers.{AreCovered}
-use Rattle.ext_one_report.specs.Apart.{is_within}
+use Rattle.ext_one_report.specs.Within.{is_within}
 
 -- ---- places
 

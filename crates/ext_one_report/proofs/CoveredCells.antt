@@ -29,7 +29,7 @@ use Rattle.ext_engine.proofs.Above.{at_or_below, under, under_under}
 use Rattle.ext_one_report.specs.Changing.{IsCallOf}
 use Rattle.ext_one_report.proofs.PlanCells.{IsCellOf, changed_by, numbered_setting}
 use Rattle.ext_one_report.proofs.Covered.{CellsAreAtPlaces, CellsAreChanged, cell_at, cell_changed, cells, cells_of_context, holds_key, number_of}
-use Rattle.ext_one_report.specs.Apart.{is_within}
+use Rattle.ext_one_report.specs.Within.{is_within}
 use Rattle.ext_one_report.proofs.CoveredCalls.{made_path}
 use Rattle.ext_one_report.proofs.CoveredPaths.{has_context, path_there}
 use Rattle.ext_one_report.proofs.CoveredPlans.{IsTouchedBelow, changed_by_touch, changed_own, path_of_context, step_changes, within_found, within_told}

@@ -29,7 +29,7 @@ use Rattle.ext_one_report.proofs.StepsWords.{ActsWithin, LooksWithin, TouchesWit
 use Rattle.ext_one_report.proofs.MatchingWords.{Places}
 use Rattle.ext_one_report.proofs.Covered.{PlansAreCovered, changed_in, is_closed_by, touched_in}
 use Rattle.ext_one_report.specs.Shares.{is_at, may_change_at}
-use Rattle.ext_one_report.specs.Apart.{is_within}
+use Rattle.ext_one_report.specs.Within.{is_within}
 use Rattle.ext_one_report.proofs.CoveredCalls.{call_stays, made_path}
 use Rattle.ext_one_report.proofs.CoveredPaths.{below_below, has_context, holder_within, one_child, passed, path_holds, path_passes, path_starts, path_there, path_up}
 use Rattle.ext_one_report.proofs.CoveredTouches.{IsTouched, contains_drop, is_made, look_touches, step_of, touch_on_path, touches_all, touches_start}

@@ -1,6 +1,6 @@
 -- Which places the nodes of a plan touch and which they may change, each with the nodes below it; and plans whose nodes keep apart.
 -- Javadoc `ExtensionContext.Store` and JUnit 5 User Guide, "Parallel Execution"; what a step touches is a definition of [ext_races Touches].
-use Rattle.ext_one_report.specs.Apart.{is_within}
+use Rattle.ext_one_report.specs.Within.{is_within}
 use Rattle.std.specs.Prelude.{ℕ, ◌≡◌, ◌≢◌, ◌<◌, true, List, length, drop, Contains, Some}
 use Rattle.ext_tree.specs.Keys.{KeyValue}
 use Rattle.ext_tree.specs.Trees.{IsParentOf, IsPathOf}

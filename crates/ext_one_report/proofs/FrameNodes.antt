@@ -26,7 +26,7 @@ use Rattle.ext_plain.proofs.Ends.{body_end, container_end, test_end}
 use Rattle.ext_one_report.proofs.Calls.{all_first, all_later}
 use Rattle.ext_one_report.proofs.MatchingWords.{Places}
 use Rattle.ext_one_report.proofs.Covers.{AreCovered}
-use Rattle.ext_one_report.specs.Apart.{is_within}
+use Rattle.ext_one_report.specs.Within.{is_within}
 use Rattle.ext_one_report.proofs.PlainFrames.{LeavesElse, all_of, no_context}
 use Rattle.ext_one_report.proofs.FrameSlots.{leaves_itself, leaves_more, leaves_then}
 use Rattle.ext_one_report.proofs.FrameSteps.{call_leaves, seals_leave}

@@ -10,7 +10,7 @@ use Rattle.ext_plain.specs.ValueStates.{ValueState}
 use Rattle.ext_one_report.proofs.StoredWords.{number_in}
 use Rattle.ext_one_report.proofs.MatchingWords.{HasNumberIn, IsNumbered, Matches, Places, RunView, cell_of}
 use Rattle.ext_one_report.proofs.Rooms.{GaveFew}
-use Rattle.ext_one_report.specs.Apart.{is_within}
+use Rattle.ext_one_report.specs.Within.{is_within}
 use Rattle.ext_one_report.proofs.OfPlan.{IsOfPlan}
 
 -- ---- what a run is compared by

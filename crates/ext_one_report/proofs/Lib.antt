@@ -29,7 +29,6 @@ pub mod CountSums
 pub mod Covered
 pub mod CoveredCalls
 pub mod CoveredCells
-pub mod CoveredFree
 pub mod CoveredPaths
 pub mod CoveredPlans
 pub mod CoveredTouches
@@ -101,7 +100,6 @@ pub mod SharedEventsFrozen
 pub mod SharedEventsSeen
 pub mod SharedEventsWords
 pub mod SharedFound
-pub mod SharedFree
 pub mod SharedNodes
 pub mod SharedNodesBasis
 pub mod SharedNodesBegins

@@ -25,7 +25,8 @@ use Rattle.ext_one_report.specs.Shares.{Open, SharesNothing, shares_in, AreToldN
 use Rattle.ext_one_report.proofs.Shared.{AreShared}
 use Rattle.ext_one_report.specs.FullRuns.{LacksNothing}
 use Rattle.ext_one_report.proofs.FullRuns.{setting_in}
-use Rattle.ext_one_report.specs.OneReport.{AreNearReports, HasNearReport, NearReport, OneReport}
+use Rattle.ext_one_report.specs.OneReport.{AreNearReports, NearReport, OneReport}
+use Rattle.ext_races.specs.OneReports.{HasNearReport}
 use Rattle.ext_one_report.proofs.SharedNodesWords.{AllToldNear, BeginsNear, EndsNear, IsSharedBasis}
 use Rattle.ext_one_report.proofs.Bases.{at_places, changed, holds_once, its, numbers_left, only, opens_level}
 use Rattle.ext_one_report.proofs.LanesAlone.{view_moves}

@@ -14,7 +14,7 @@ use Rattle.ext_one_report.proofs.StandingsWords.{AreMatched, KnowsMore}
 use Rattle.ext_one_report.proofs.Matching.{knows_itself, matches_at_fewer, numbered_at_fewer}
 use Rattle.ext_one_report.proofs.OnCells.{same_slot}
 use Rattle.ext_one_report.proofs.Standings.{matched_by_more}
-use Rattle.ext_one_report.specs.Apart.{is_within}
+use Rattle.ext_one_report.specs.Within.{is_within}
 use Rattle.ext_one_report.proofs.PlainFrames.{IsOpen, LeavesElse}
 use Rattle.ext_one_report.proofs.Levels.{AreLevel, besides, outside}
 

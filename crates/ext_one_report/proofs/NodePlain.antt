@@ -13,7 +13,7 @@ use Rattle.ext_plain.proofs.Sound.{node-kept}
 use Rattle.ext_one_report.proofs.MatchingWords.{Places}
 use Rattle.ext_one_report.proofs.Rooms.{GaveFew}
 use Rattle.ext_one_report.proofs.Covers.{AreCovered}
-use Rattle.ext_one_report.specs.Apart.{is_within}
+use Rattle.ext_one_report.specs.Within.{is_within}
 use Rattle.ext_one_report.proofs.OfPlan.{IsOfPlan}
 use Rattle.ext_one_report.proofs.PlainFrames.{LeavesElse}
 use Rattle.ext_one_report.proofs.FrameKeys.{nodes_give_few}

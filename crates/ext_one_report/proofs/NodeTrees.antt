@@ -8,7 +8,7 @@ use Rattle.ext_plan.specs.Plans.{NodeText, PlanText}
 use Rattle.ext_plan.specs.ReadPlans.{NodesAreTree, ids_of_nodes}
 use Rattle.ext_races.specs.MadeSteps.{plan_path}
 use Rattle.ext_races.proofs.Paths.{path_is}
-use Rattle.ext_one_report.specs.Apart.{is_within}
+use Rattle.ext_one_report.specs.Within.{is_within}
 use Rattle.ext_one_report.proofs.NodePlaces.{found_on, on_found}
 
 -- a path is no longer than its node's number

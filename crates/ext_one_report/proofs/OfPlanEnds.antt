@@ -14,7 +14,7 @@ use Rattle.ext_plan.specs.Values.{ValueText, begins_with, close_fault}
 use Rattle.ext_races.proofs.Lists.{contains_cases, contains_later, contains_first, contains_nothing, contains-map_back}
 use Rattle.ext_plain.specs.ValueStates.{ValueState, reply_to, value_of}
 use Rattle.ext_plain.specs.ContextEnds.{closeables, faults_of_closes, if_closeable, numbers_left, seal_keys}
-use Rattle.ext_one_report.specs.Apart.{ClosesTellOne}
+use Rattle.ext_races.specs.OneReports.{ClosesTellOne}
 use Rattle.ext_one_report.proofs.OfPlan.{IsOfPlan, MayBeLeft, TellOneText, value_in}
 use Rattle.ext_one_report.proofs.OfPlanStates.{of_sealed, value_stood}
 use Rattle.ext_one_report.proofs.OfPlanSteps.{IsReady}

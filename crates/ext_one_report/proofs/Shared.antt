@@ -14,7 +14,7 @@ use Rattle.ext_plan.specs.Values.{ValueText}
 use Rattle.ext_races.specs.MadeSteps.{calls_of}
 use Rattle.ext_one_report.proofs.PlanCells.{changed_by}
 use Rattle.ext_one_report.proofs.MatchingWords.{Places, RunView}
-use Rattle.ext_one_report.specs.Apart.{is_within}
+use Rattle.ext_one_report.specs.Within.{is_within}
 use Rattle.ext_one_report.proofs.Open.{ComputesOpen}
 use Rattle.ext_one_report.specs.Shares.{Open}
 use Rattle.ext_one_report.proofs.OpenCalls.{CallFitsOpen}

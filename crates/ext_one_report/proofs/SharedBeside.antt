@@ -10,7 +10,7 @@ use Rattle.ext_plan.specs.ReadPlans.{IsReadPlan, ids_of_nodes}
 use Rattle.ext_races.specs.Beside.{IsBeside, PassesBy}
 use Rattle.ext_races.specs.MadeSteps.{plan_path}
 use Rattle.ext_races.proofs.Lists.{contains_cases, contains_first, contains_later, contains_nothing}
-use Rattle.ext_one_report.specs.Apart.{is_within}
+use Rattle.ext_one_report.specs.Within.{is_within}
 use Rattle.ext_one_report.proofs.CoveredPaths.{has_context, one_child, path_passes, path_there}
 use Rattle.ext_one_report.proofs.CoveredPlans.{path_of_context, within_found, within_told, within_up}
 

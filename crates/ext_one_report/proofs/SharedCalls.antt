@@ -26,7 +26,8 @@ use Rattle.ext_one_report.proofs.CoveredCalls.{call_stays}
 use Rattle.ext_one_report.proofs.CoveredPlans.{IsTouchedBelow, an_act, from_drop, touched_by, within_by, within_itself}
 use Rattle.ext_one_report.proofs.CoveredTouches.{contains_drop, kept_or_computed, step_is, step_of}
 use Rattle.ext_one_report.proofs.Open.{ComputesOpen, also, at_place, place_of_step, still_open}
-use Rattle.ext_one_report.specs.Shares.{Open, SharesValues, shares_in}
+use Rattle.ext_one_report.specs.Shares.{Open, shares_in}
+use Rattle.ext_races.specs.OneReports.{SharesValues}
 use Rattle.ext_one_report.proofs.OpenCalls.{CallFitsOpen, LeavesAbove, StepsFit}
 use Rattle.ext_one_report.proofs.OpenFits.{at_itself}
 use Rattle.ext_one_report.proofs.Shared.{unshared}

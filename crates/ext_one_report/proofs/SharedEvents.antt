@@ -30,7 +30,7 @@ use Rattle.ext_one_report.proofs.Made.{tree_on}
 use Rattle.ext_parallel.specs.declared.steps.stored_value.StoredValue.{StoredValue}
 use Rattle.ext_parallel.specs.StoreCalls.{PlanLane}
 use Rattle.ext_one_report.proofs.MatchingWords.{HasNumberIn, Places, RunView, cell_of}
-use Rattle.ext_one_report.specs.Apart.{is_within}
+use Rattle.ext_one_report.specs.Within.{is_within}
 use Rattle.ext_one_report.proofs.CoveredCells.{below_told, call_among}
 use Rattle.ext_one_report.proofs.CoveredPaths.{has_context}
 use Rattle.ext_one_report.specs.Shares.{Open}

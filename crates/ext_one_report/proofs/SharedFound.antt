@@ -22,8 +22,9 @@ use Rattle.ext_races.proofs.Equalities.{word_is}
 use Rattle.ext_races.proofs.Lists.{contains_first, contains_later}
 use Rattle.ext_races.proofs.Sides.{nodes_found, nodes_told}
 use Rattle.ext_races.proofs.TouchNodes.{touch_within}
-use Rattle.ext_one_report.specs.Shares.{is_at, may_change_at, SharesValues, is_beside_at, shares_in, value_given}
-use Rattle.ext_one_report.specs.Apart.{is_within}
+use Rattle.ext_one_report.specs.Shares.{is_at, may_change_at, is_beside_at, shares_in, value_given}
+use Rattle.ext_races.specs.OneReports.{SharesValues}
+use Rattle.ext_one_report.specs.Within.{is_within}
 use Rattle.ext_one_report.proofs.CoveredPaths.{path_holds, path_there}
 use Rattle.ext_one_report.proofs.CoveredPlans.{IsTouchedBelow, within_found}
 use Rattle.ext_one_report.proofs.SharedBeside.{AreBelow, also_below, are_below, are_beside, turned}

@@ -12,11 +12,12 @@ use Rattle.ext_races.specs.MadeSteps.{plan_path}
 use Rattle.ext_races.specs.Touches.{TouchText, touches_made}
 use Rattle.ext_races.proofs.Lists.{all_contained, contains_later}
 use Rattle.ext_one_report.proofs.Covered.{changed_in, touched_in}
-use Rattle.ext_one_report.specs.Apart.{is_within}
+use Rattle.ext_one_report.specs.Within.{is_within}
 use Rattle.ext_one_report.proofs.CoveredPaths.{has_context, path_there}
 use Rattle.ext_one_report.proofs.CoveredPlans.{IsTouchedBelow, changed_cases, changed_touched, siblings, touched_by, touched_cases, within_itself, within_parent, within_told}
 use Rattle.ext_one_report.proofs.CoveredTouches.{touch_on_path}
-use Rattle.ext_one_report.specs.Shares.{SharesValues, shares_in, value_given}
+use Rattle.ext_one_report.specs.Shares.{shares_in, value_given}
+use Rattle.ext_races.specs.OneReports.{SharesValues}
 use Rattle.ext_one_report.proofs.Shared.{unshared}
 use Rattle.ext_one_report.proofs.SharedBeside.{AreBelow, also_below, not_below, parent_beside, within_through}
 use Rattle.ext_one_report.proofs.SharedFound.{Gives, IsShared, IsTouchedBeside, above_near, all_give, both_give, same_count, second_gives, shares_found, shares_told}

@@ -25,7 +25,7 @@ use Rattle.ext_one_report.proofs.MatchingWords.{HasNumberIn, Places, cell_of, pl
 use Rattle.ext_one_report.proofs.StandingsWords.{AreMatched, KnowsMore}
 use Rattle.ext_one_report.proofs.OnCells.{same_slot}
 use Rattle.ext_one_report.proofs.Standings.{matched_empty}
-use Rattle.ext_one_report.specs.Apart.{is_within}
+use Rattle.ext_one_report.specs.Within.{is_within}
 use Rattle.ext_one_report.proofs.PlainFrames.{IsOpen, LeavesElse}
 use Rattle.ext_one_report.proofs.Open.{AreNear, Computes, MayStand, StandsOrNot, is_open}
 use Rattle.ext_one_report.specs.Shares.{Open}

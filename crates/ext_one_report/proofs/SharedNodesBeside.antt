@@ -19,7 +19,7 @@ use Rattle.ext_one_report.proofs.StandingsWords.{AreMatched, KnowsMore}
 use Rattle.ext_one_report.proofs.Matching.{knows_itself}
 use Rattle.ext_one_report.proofs.OnCells.{same_slot}
 use Rattle.ext_one_report.proofs.Standings.{matched_by_more}
-use Rattle.ext_one_report.specs.Apart.{is_within}
+use Rattle.ext_one_report.specs.Within.{is_within}
 use Rattle.ext_one_report.proofs.PlainFrames.{IsOpen, LeavesElse}
 use Rattle.ext_one_report.proofs.Open.{AreNear, StandsOrNot, also, is_open, still_open}
 use Rattle.ext_one_report.specs.Shares.{Open}

@@ -46,7 +46,7 @@ use Rattle.ext_plain.proofs.NodeCalls.{texts-successful}
 use Rattle.ext_plain.proofs.Nodes.{child_path, node_run-more, start_is}
 use Rattle.ext_one_report.proofs.MatchingWords.{Places, RunView}
 use Rattle.ext_one_report.proofs.StepsWords.{IsLaneIn}
-use Rattle.ext_one_report.specs.Apart.{is_within}
+use Rattle.ext_one_report.specs.Within.{is_within}
 use Rattle.ext_one_report.proofs.FrameNodes.{afters_own, befores_own, within_nodes}
 use Rattle.ext_one_report.proofs.FrameSteps.{seals_leave}
 use Rattle.ext_one_report.proofs.Open.{AreNear, also, is_open, still_open}

@@ -16,7 +16,7 @@ use Rattle.ext_plain.specs.PlainRun.{RunState, node_run}
 use Rattle.ext_one_report.proofs.MatchingWords.{HasNumberIn, Places, cell_of, plain_meaning, plain_slot}
 use Rattle.ext_one_report.proofs.StandingsWords.{AreMatched}
 use Rattle.ext_one_report.proofs.OnCells.{same_slot}
-use Rattle.ext_one_report.specs.Apart.{is_within}
+use Rattle.ext_one_report.specs.Within.{is_within}
 use Rattle.ext_one_report.proofs.PlainFrames.{IsOpen, LeavesElse}
 use Rattle.ext_one_report.proofs.Open.{Computes, also}
 use Rattle.ext_one_report.specs.Shares.{Open}

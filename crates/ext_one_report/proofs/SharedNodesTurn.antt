@@ -24,7 +24,7 @@ use Rattle.ext_plain.specs.ValueStates.{ValueState}
 use Rattle.ext_one_report.proofs.MatchingWords.{HasNumberIn, Places, cell_of, plain_meaning, plain_slot}
 use Rattle.ext_one_report.proofs.StandingsWords.{AreMatched}
 use Rattle.ext_one_report.proofs.StepsWords.{IsLaneIn}
-use Rattle.ext_one_report.specs.Apart.{is_within}
+use Rattle.ext_one_report.specs.Within.{is_within}
 use Rattle.ext_one_report.proofs.PlainFrames.{IsOpen, LeavesElse}
 use Rattle.ext_one_report.proofs.Open.{AreNear, StandsOrNot, also, still_open}
 use Rattle.ext_one_report.specs.Shares.{Open}

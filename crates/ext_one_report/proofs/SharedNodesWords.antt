@@ -28,7 +28,7 @@ use Rattle.ext_plain.specs.PlainRun.{RunState, node_run, test_node_run}
 use Rattle.ext_one_report.proofs.MatchingWords.{HasNumberIn, IsRunView, Places, RunView, cell_of, plain_slot}
 use Rattle.ext_one_report.proofs.StepsWords.{IsLaneIn}
 use Rattle.ext_one_report.proofs.Covers.{AreCovered}
-use Rattle.ext_one_report.specs.Apart.{ClosesTellOne}
+use Rattle.ext_races.specs.OneReports.{ClosesTellOne}
 use Rattle.ext_one_report.proofs.Open.{AreNear, Computes, also, still_open}
 use Rattle.ext_one_report.proofs.OpenSteps.{StandsInBoth}
 use Rattle.ext_one_report.proofs.Shared.{AreShared, unshared}

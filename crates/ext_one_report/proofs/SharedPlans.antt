@@ -16,7 +16,8 @@ use Rattle.ext_one_report.proofs.CoveredCalls.{made_path}
 use Rattle.ext_one_report.proofs.CoveredPaths.{has_context}
 use Rattle.ext_one_report.proofs.Open.{ComputesOpen}
 use Rattle.ext_one_report.proofs.OpenCalls.{CallFitsOpen}
-use Rattle.ext_one_report.specs.Shares.{SharesValues, shares_in}
+use Rattle.ext_one_report.specs.Shares.{shares_in}
+use Rattle.ext_races.specs.OneReports.{SharesValues}
 use Rattle.ext_one_report.proofs.Shared.{unshared}
 use Rattle.ext_one_report.proofs.SharedPlansWords.{PlansAreShared}
 use Rattle.ext_one_report.proofs.SharedCalls.{call_fits_open}

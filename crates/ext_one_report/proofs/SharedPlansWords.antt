@@ -1,12 +1,12 @@
 -- Which places the nodes of a plan share, by the touches of its steps; and plans without races, whose nodes share values.
 -- Javadoc `ExtensionContext.Store`, `getOrComputeIfAbsent`; what a step touches, and when two touches agree, are definitions of [ext_races].
-use Rattle.ext_one_report.specs.Shares.{shares_in, SharesNothing, SharesValues}
+use Rattle.ext_one_report.specs.Shares.{shares_in, SharesNothing}
+use Rattle.ext_races.specs.OneReports.{KeepsApart, SharesValues}
 use Rattle.std.specs.Prelude.{ℕ, ◌≡◌}
 use Rattle.ext_plan.specs.Plans.{PlanText}
 use Rattle.ext_plan.specs.ReadPlans.{IsReadPlan, ids_of_nodes}
 use Rattle.ext_one_report.proofs.MatchingWords.{RunView}
 use Rattle.ext_one_report.proofs.Covered.{changed_in, touched_in}
-use Rattle.ext_one_report.specs.Apart.{KeepsApart}
 use Rattle.ext_one_report.proofs.Shared.{AreShared}
 
 -- ---- places

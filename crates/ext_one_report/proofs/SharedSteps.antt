@@ -29,7 +29,8 @@ use Rattle.ext_one_report.proofs.CoveredPaths.{path_there}
 use Rattle.ext_one_report.proofs.CoveredTouches.{along_first, step_of}
 use Rattle.ext_one_report.proofs.CoveredPlans.{IsTouchedBelow, an_act, changed_by_touch, none_is, step_changes, within_itself}
 use Rattle.ext_one_report.proofs.Open.{ComputesOpen}
-use Rattle.ext_one_report.specs.Shares.{Open, SharesValues, shares_in}
+use Rattle.ext_one_report.specs.Shares.{Open, shares_in}
+use Rattle.ext_races.specs.OneReports.{SharesValues}
 use Rattle.ext_one_report.proofs.OpenCalls.{LeavesAbove}
 use Rattle.ext_one_report.proofs.SharedFound.{Gives, all_give, same_count, shares_found}
 use Rattle.ext_one_report.proofs.SharedNodes.{above}

@@ -20,7 +20,7 @@ use Rattle.ext_parallel.specs.StoreCalls.{PlanLane}
 use Rattle.ext_one_report.proofs.CallListsWords.{CallFits}
 use Rattle.ext_one_report.proofs.CallsWords.{AreBeside}
 use Rattle.ext_one_report.proofs.MatchingWords.{Places, RunView}
-use Rattle.ext_one_report.specs.Apart.{is_within}
+use Rattle.ext_one_report.specs.Within.{is_within}
 use Rattle.ext_one_report.proofs.Open.{AreOpenBeside, also, still_open}
 use Rattle.ext_one_report.specs.Shares.{Open, SharesNothing}
 use Rattle.ext_one_report.proofs.OpenCalls.{CallFitsOpen, StepsFit}

@@ -28,7 +28,7 @@ use Rattle.ext_races.proofs.Equalities.{both, both_true, equal}
 use Rattle.ext_races.proofs.Lists.{contains_cases, contains_first, contains_later, contains_nothing}
 use Rattle.ext_races.proofs.Sides.{nodes_found, nodes_told}
 use Rattle.ext_races.proofs.TouchNodes.{touch_within}
-use Rattle.ext_one_report.specs.Apart.{KeepsApart, ClosesTellOne}
+use Rattle.ext_races.specs.OneReports.{KeepsApart, ClosesTellOne}
 use Rattle.ext_one_report.specs.WorkedPlans.{AreSteps, ComputesAreNoRace, ComputesDoNot, LookAndPutDoNot, LooksKeepApart, OneByOneKeepsApart, OneTextTellsOne, OwnPutsKeepApart, PutsAboveDoNot, ReplacedDoesNotTellOne, TestsAreBeside, TestsAreRead, TwoContextsTellOne, TwoFaultsDoNotTellOne, TwoKeysKeepApart, WorkedHasKeys, WorkedHasNumbers, WorkedIsRead, WorkedKeepsApart, WorkedTellsOne, a, b, class_id, computing, container, root_id, test_of_class, tests_of_mode, two_tests, worked_plan}
 
 -- ---- tests of all pairs

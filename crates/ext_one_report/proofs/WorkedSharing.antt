@@ -6,8 +6,9 @@ use Rattle.ext_races.specs.Touches.{touches_made}
 use Rattle.ext_plan.specs.StepWords.{gives_value}
 use Rattle.ext_one_report.specs.WorkedPlans.{computing, ClassSharesNone, ComputesShareValues, FirstShares, SecondShares}
 use Rattle.ext_one_report.proofs.WorkedPlans.{computes_are_no_race, passes}
-use Rattle.ext_one_report.specs.Shares.{NoFailedComputesAgree, shares_in}
-use Rattle.ext_one_report.proofs.SharedFree.{race_free_shares_values}
+use Rattle.ext_one_report.specs.Shares.{shares_in}
+use Rattle.ext_races.specs.OneReports.{NoFailedComputesAgree}
+use Rattle.ext_races.proofs.Free.{race_free_shares_values}
 
 all_give_values : (text : List ℕ) → list_all (λ t. gives_value t.word) (touches_made (computing text)) ≡ true
 unfolding path_from

@@ -1,10 +1,10 @@
 -- What the clauses of this crate speak of.
 pub mod Alone
 pub mod AloneLaws
-pub mod Apart
 pub mod Changing
 pub mod FullRuns
 pub mod OneReport
 pub mod Shares
 pub mod ToldLacks
+pub mod Within
 pub mod WorkedPlans

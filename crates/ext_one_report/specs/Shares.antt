@@ -1,19 +1,16 @@
 -- Plans whose nodes compute the same value beside one another, which places they share, and what is reported of them
 -- (Javadoc `ExtensionContext.Store`, `getOrComputeIfAbsent`).
-use Rattle.std.specs.Prelude.{ℕ, ◌≡◌, Bool, true, ◌&&◌, ◌==◌, Contains, Option, None, find, option_map, ◌+◌, if◌then◌else◌}
+use Rattle.std.specs.Prelude.{ℕ, ◌≡◌, Bool, ◌&&◌, ◌==◌, Option, None, find, option_map, ◌+◌, if◌then◌else◌}
 use Rattle.ext_tree.specs.Keys.{KeyValue}
 use Rattle.ext_plan.specs.Plans.{PlanText}
 use Rattle.ext_plan.specs.StoreKeys.{place_of_key}
 use Rattle.ext_plan.specs.Values.{ValueText}
 use Rattle.std.specs.List.{list_any}
-use Rattle.ext_races.specs.declared.race.Race.{Race}
-use Rattle.ext_races.specs.Beside.{IsBeside, nodes_beside}
-use Rattle.ext_races.specs.Clashes.{agree}
-use Rattle.ext_races.specs.Races.{IsRace}
+use Rattle.ext_races.specs.Beside.{nodes_beside}
 use Rattle.ext_races.specs.Touches.{TouchText, keys_named, touches_made}
-use Rattle.ext_one_report.specs.Apart.{is_within}
+use Rattle.ext_one_report.specs.Within.{is_within}
 use Rattle.ext_plan.specs.declared.word.Word.TheVariants as words
-use Rattle.ext_plan.specs.StepWords.{gives_value, word_eq}
+use Rattle.ext_plan.specs.StepWords.{word_eq}
 use Rattle.ext_lifecycle.specs.FaultTexts.{NodeOutcome}
 
 -- Some places, and the value that is computed at each of them.
@@ -44,27 +41,6 @@ unfoldable pub shares_in : PlanText → ℕ → Open
 shares_in plan node context key =
     if list_any (is_beside_at plan node context key) (touches_made plan)
     then option_map value_given (find (may_change_at plan node context key) (touches_made plan)) else None
-
--- If two touches of one place agree, and their nodes may run beside one another, the first gives a value: they are not
--- two computes that fail alike.
-pub record NoFailedComputesAgree (plan : PlanText) : Type 0 where
-  pub none : (first second : TouchText) → Contains (touches_made plan) first → Contains (touches_made plan) second
-      → IsBeside plan first.node second.node → first.changes ≡ true
-      → first.context ≡ second.context → first.key ≡ second.key → agree first second ≡ true
-      → gives_value first.word ≡ true
-
--- If nodes that may run beside one another touch one place that one of them may change, both compute the same value
--- there.
-pub record SharesValues (plan : PlanText) : Type 0 where
-  pub alike : (first second : TouchText) → Contains (touches_made plan) first → Contains (touches_made plan) second
-      → IsBeside plan first.node second.node → first.changes ≡ true
-      → first.context ≡ second.context → first.key ≡ second.key → (agree first second ≡ true)
-      × (gives_value first.word ≡ true)
-
--- In a plan without races, in which no two failing computes agree, nodes share values.
-abbrev pub RaceFreeSharesValues : Type 0
-RaceFreeSharesValues = (plan : PlanText) → ((race : Race) → ¬ IsRace plan race) → NoFailedComputesAgree plan
-    → SharesValues plan
 
 -- No place is shared.
 abbrev pub SharesNothing : Open → Type 0

@@ -11,7 +11,7 @@ use Rattle.ext_parallel.specs.Lacking.{may_have_lacked}
 use Rattle.ext_parallel.specs.ParallelRun.{ParallelRun}
 use Rattle.ext_plain.specs.PlainRun.{plain_run}
 use Rattle.ext_one_report.specs.FullRuns.{LacksNothing}
-use Rattle.ext_one_report.specs.OneReport.{HasOneReport}
+use Rattle.ext_races.specs.OneReports.{HasOneReport}
 
 -- If no result shows that a step may have lacked something, the run lacks nothing. A call or a close that lacks
 -- something fails its node, whose result shows that, or shows an earlier fault and that there are more.

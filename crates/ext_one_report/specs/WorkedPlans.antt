@@ -17,9 +17,9 @@ use Rattle.ext_races.specs.declared.race.Race.{Race}
 use Rattle.ext_races.specs.Beside.{IsBeside}
 use Rattle.ext_races.specs.Races.{IsRace}
 use Rattle.ext_races.specs.Touches.{keys_named, numbers_drawn}
-use Rattle.ext_one_report.specs.Apart.{KeepsApart, ClosesTellOne}
+use Rattle.ext_races.specs.OneReports.{ClosesTellOne, KeepsApart, SharesValues}
 use Rattle.ext_plan.specs.StoreKeys.{key_of_step}
-use Rattle.ext_one_report.specs.Shares.{SharesValues, shares_in}
+use Rattle.ext_one_report.specs.Shares.{shares_in}
 
 abbrev pub root_id : Id
 root_id = (codes "e", codes "x") ∷ []

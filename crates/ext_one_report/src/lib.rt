@@ -3,11 +3,13 @@
 //!
 //! `report_laws` proves it where closes tell no order, if
 //!
-//! - no node may change a place that a node running beside it touches (`specs/Apart`), unless both
-//!   compute the same value there (`specs/Shares`), and then the counts of computed and found
-//!   values may differ,
+//! - no node may change a place that a node running beside it touches, unless both compute the same
+//!   value there (`specs/OneReports` of `ext_races`), and then the counts of computed and found
+//!   values may differ (`specs/Shares`),
 //! - and no call and no close wants memory, a number, a key or a value (`specs/FullRuns`). The
 //!   results of a run tell that this is so (`told_lack_laws`).
+//!
+//! `ext_run::run` promises it of what it writes.
 //!
 //! Under it stand two laws of any suite, with no plan: who makes the events that a lane sees while
 //! a node runs (`alone_laws`, `specs/Alone`), and which of them are on the node's own cells

@@ -1,7 +1,6 @@
 //! Plans without races have one report.
-ghost use Rattle.ext_one_report.specs.Apart.{FreeKeepsApart};
+ghost use Rattle.ext_races.specs.OneReports.{FreeKeepsApart, RaceFreeSharesValues};
 ghost use Rattle.ext_one_report.specs.OneReport.{NearReport, OneReport};
-ghost use Rattle.ext_one_report.specs.Shares.{RaceFreeSharesValues};
 
 /// Proves that a run on several lanes that lacks nothing reports of each node what the plain run
 /// does, if nodes keep apart.

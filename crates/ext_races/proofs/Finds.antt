@@ -1,5 +1,7 @@
 -- What is found of a plan, put together.
-use Rattle.std.proofs.Common.{◌≡◌, ℕ, ◌<◌, ◌≤◌, List, length, map, sym, ap, subst, ◌∙◌, arith, All}
+use Rattle.std.proofs.Common.{◌≡◌, ℕ, ◌<◌, ◌≤◌, Bool, true, false, List, length, map, sym, ap, subst, ◌∙◌, arith, All, inl, inr}
+use Rattle.std.specs.Prelude.{◌==◌, ◌&&◌, nat_le, nat_lt}
+use Rattle.std.proofs.lemmas.Bool.{and_cases, and_parts, both_ways, cases_eq, cases_lt, eq-eqb, eqb-true, le-leb, lt-leb, lt-ltb, ltb-true, ne_eqb}
 use Rattle.std.specs.Borrow.{Bor}
 use Rattle.std.specs.List.{count_by, flat_map}
 use Rattle.std.proofs.lemmas.List.{length-map}
@@ -18,8 +20,9 @@ use Rattle.ext_races.specs.InnerGroups.{IsGrouped}
 use Rattle.ext_races.specs.InnerNaming.{keys_of, keys_told}
 use Rattle.ext_races.specs.InnerTold.{groups_told}
 use Rattle.ext_races.specs.MadeSteps.{MadeText, made_view, steps_made}
-use Rattle.ext_races.specs.Races.{AreRaces, keys_of_names}
-use Rattle.ext_races.specs.Touches.{TouchText, keys_named, numbers_drawn, touches_of}
+use Rattle.ext_races.specs.Found.{HasRaces, IsWithin}
+use Rattle.ext_races.specs.Races.{AreRaces, IsRace}
+use Rattle.ext_races.specs.Touches.{TouchText, keys_named, numbers_drawn, touches_made, touches_of}
 use Rattle.ext_races.proofs.Exact.{are_races}
 use Rattle.ext_races.proofs.Within.{nodes_within}
 
@@ -31,21 +34,54 @@ module _ (plan : PlanText) (made : List MadeText) (steps : made ≡ steps_made p
   pub drawn_is : (drawn : ℕ) → drawn ≡ count_by (λ m. draws plan.keep_faults m.step) made → drawn ≡ numbers_drawn plan
   drawn_is drawn is = is ∙ ap (count_by (λ m. draws plan.keep_faults m.step)) steps
 
-  pub finds : (most : ℕ) (declared : List KeyText) (directory : List KeyValue) (names : List (Bor StepKey)) (drawn : ℕ) (ids : List Id) (groups : List (List TouchText)) (told : List Race)
-      → declared ≡ plan.keys → ids ≡ ids_of_nodes plan.nodes → directory ≡ keys_told declared made → length directory ≤ plan.key_places → keys_of declared names ≡ directory
-      → drawn ≡ count_by (λ m. draws plan.keep_faults m.step) made → drawn ≤ most_numbers plan.size → IsGrouped (length directory) (flat_map (touches_of ids declared directory) made) groups → told ≡ groups_told plan most groups
-      → (length (keys_named plan) ≤ plan.key_places) × (numbers_drawn plan ≤ most_numbers plan.size) × AreRaces plan most told × (keys_of_names plan names ≡ keys_named plan)
-  finds most declared directory names drawn ids groups told keys nodes is few words count fits grouped tells =
+  -- no limit is exceeded
+  pub within_limits : (declared : List KeyText) (directory : List KeyValue) (names : List (Bor StepKey)) (drawn : ℕ) → declared ≡ plan.keys → directory ≡ keys_told declared made → length directory ≤ plan.key_places
+      → keys_of declared names ≡ directory → drawn ≡ count_by (λ m. draws plan.keep_faults m.step) made → drawn ≤ most_numbers plan.size → IsWithin plan names
+  within_limits declared directory names drawn keys is few words count fits =
       let named = named_is declared directory keys is in
       let long = ap length named in
       let draws_in = drawn_is drawn count in
+      record { keys = omega (arith, long, few); numbers = omega (arith, draws_in, fits); named = ap (λ d. keys_of d names) (sym keys) ∙ words ∙ named }
+
+  -- the groups have the plan's touches
+  pub touches_in : (declared : List KeyText) (directory : List KeyValue) (ids : List Id) (groups : List (List TouchText)) → declared ≡ plan.keys → ids ≡ ids_of_nodes plan.nodes → directory ≡ keys_told declared made
+      → IsGrouped (length directory) (flat_map (touches_of ids declared directory) made) groups → IsGrouped (length directory) (touches_made plan) groups
+  touches_in declared directory ids groups keys nodes is grouped =
       let same = ap (λ i. flat_map (touches_of i declared directory) made) nodes ∙ ap (λ d. flat_map (touches_of (ids_of_nodes plan.nodes) d directory) made) keys
-      ∙ ap (λ k. flat_map (touches_of (ids_of_nodes plan.nodes) plan.keys k) made) named ∙ ap (flat_map (touches_of (ids_of_nodes plan.nodes) plan.keys (keys_named plan))) steps in (
-        omega (arith, long, few),
-        omega (arith, draws_in, fits),
-        subst (AreRaces plan most) (sym tells) (are_races plan most groups (length directory) (subst (λ touches. IsGrouped (length directory) touches groups) same grouped)),
-        ap (λ d. keys_of d names) (sym keys) ∙ words ∙ named,
-      )
+      ∙ ap (λ k. flat_map (touches_of (ids_of_nodes plan.nodes) plan.keys k) made) (named_is declared directory keys is) ∙ ap (flat_map (touches_of (ids_of_nodes plan.nodes) plan.keys (keys_named plan))) steps in
+      subst (λ touches. IsGrouped (length directory) touches groups) same grouped
+
+-- as many numbers are drawn as there are, or fewer
+pub all_or_fewer : (drawn most : ℕ) → drawn ≤ most → (drawn == most) ≡ nat_le most drawn
+all_or_fewer drawn most few = elim (cases_lt drawn most) [
+  | inl less ↦ ne_eqb drawn most (λ same. omega (arith, same, less)) ∙ sym (lt-leb most drawn less)
+  | inr all ↦ eq-eqb drawn most (omega (arith, few, all)) ∙ sym (le-leb most drawn all)
+]
+
+-- ---- the races, or none
+
+-- races were looked for, and there are none; or there are some, if any were looked for
+pub none_is : (most : ℕ) (told : List Race) (free : Bool) → free ≡ (nat_lt 0 most && (length told == 0)) → free ≡ true → (0 < most) × (length told ≡ 0)
+none_is most told free is so = let parts = and_parts (nat_lt 0 most) (length told == 0) (sym is ∙ so) in (ltb-true 0 most parts.0, eqb-true (length told) 0 parts.1)
+
+pub some_are : (most : ℕ) (told : List Race) (free : Bool) → free ≡ (nat_lt 0 most && (length told == 0)) → free ≡ false → 0 < most → 0 < length told
+some_are most told free is so some = elim (and_cases (nat_lt 0 most) (length told == 0) (sym is ∙ so)) [
+  | inl none ↦ absurd (both_ways (nat_lt 0 most) none (lt-ltb 0 most some))
+  | inr there ↦ elim (cases_eq (length told) 0) [
+    | inl empty ↦ absurd (both_ways (length told == 0) there (eq-eqb (length told) 0 empty))
+    | inr other ↦ omega (arith, other)
+  ]
+]
+
+module _ (plan : PlanText) (most : ℕ) (groups : List (List TouchText)) (keys : ℕ) (grouped : IsGrouped keys (touches_made plan) groups) (told : List Race) (tells : told ≡ groups_told plan most groups) where
+  are : AreRaces plan most told
+  are = subst (AreRaces plan most) (sym tells) (are_races plan most groups keys grouped)
+
+  pub has_races : (0 < most → 0 < length told) → HasRaces plan most told
+  has_races some = record { are = are; some = some }
+
+  pub no_races : 0 < most → length told ≡ 0 → (race : Race) → ¬ IsRace plan race
+  no_races some empty race is = let at = are.all (omega (arith, empty, some)) race is in let less = at.1 in omega (arith, less, empty)
 
 pub nodes_in : (plan : PlanText) (made : List MadeStep) (ids : List Id) → map made_view made ≡ steps_made plan → ids ≡ ids_of_nodes plan.nodes → All (λ m. m.node < length ids) made
 nodes_in plan made ids steps nodes =

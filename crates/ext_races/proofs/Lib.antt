@@ -3,11 +3,14 @@ pub mod Calls
 pub mod Equalities
 pub mod Exact
 pub mod Finds
+pub mod Free
+pub mod Grounds
 pub mod Grouped
 pub mod Lists
 pub mod Named
 pub mod Noted
 pub mod Paths
+pub mod Searches
 pub mod Sides
 pub mod StepTouches
 pub mod Told

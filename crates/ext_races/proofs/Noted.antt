@@ -1,7 +1,7 @@
 -- A touch that races passes a container at which touches may race.
-use Rattle.std.proofs.Common.{◌≡◌, ℕ, zero, suc, ◌+◌, ◌<◌, ◌≤◌, true, false, List, [], ◌∷◌, ◌++◌, length, map, get_or, take, set, fold, Contains, ◌-◌, get_or-set_other, get_or-set_same, Option, Some, None, refl, sym, ap, subst, ◌∙◌, arith, inl, inr}
-use Rattle.std.specs.Prelude.{◌==◌, ◌&&◌, not, if◌then◌else◌}
-use Rattle.std.proofs.lemmas.Bool.{cases_Bool, cases_eq, true≢false}
+use Rattle.std.proofs.Common.{◌≡◌, ℕ, zero, suc, ◌+◌, ◌<◌, ◌≤◌, true, false, List, [], ◌∷◌, ◌++◌, length, map, get_or, take, set, fold, Contains, ◌-◌, get_or-set_other, get_or-set_same, Option, Some, None, refl, sym, ap, subst, ◌∙◌, arith, inl, inr, Bool}
+use Rattle.std.specs.Prelude.{◌==◌, ◌&&◌, ◌||◌, not, if◌then◌else◌}
+use Rattle.std.proofs.lemmas.Bool.{cases_Bool, cases_eq, or_right, true≢false}
 use Rattle.std.proofs.lemmas.List.{length-map}
 use Rattle.std.proofs.lemmas.List.Elements.{Contains-append_cases}
 use Rattle.std.specs.Cmp.Lexicographic.{bytes_decides}
@@ -15,7 +15,7 @@ use Rattle.ext_races.specs.declared.passing.Passed.{Passed}
 use Rattle.ext_races.specs.declared.touch.Touch.{Touch}
 use Rattle.ext_races.specs.Beside.{PassesBy, nodes_beside}
 use Rattle.ext_races.specs.Clashes.{agree, clashes, closes_differ}
-use Rattle.ext_races.specs.InnerPassing.{AreNoted, HasNoted, HasNotedIf, IsNoted, Keeps, KeepsIf, alike, may_race, meets, passed_at}
+use Rattle.ext_races.specs.InnerPassing.{AreNoted, HasNoted, HasNotedIf, IsNoted, Keeps, KeepsIf, alike, may_meet, meets, passed_at}
 use Rattle.ext_races.specs.InnerTold.{race, touch_told}
 use Rattle.ext_races.specs.MadeSteps.{path_of, plan_path}
 use Rattle.ext_races.specs.Touches.{TouchText, touch_view}
@@ -63,36 +63,46 @@ no_clash f t u one two clash = elim (cases_Bool f.changes) [
 
 -- ---- at a container
 
-pub apart : (p : Passed) (a b : ℕ) (t u : TouchText) → HasNoted p a t → HasNoted p b u → (a ≡ b → ⊥) → clashes t u ≡ true → (p.several && p.differ) ≡ true
-apart p a b t u one two other clash = both_true _ _ several differ
-  where
-    several : p.several ≡ true
-    several = elim one.by [ inl is ↦ is | inr at_a ↦ elim two.by [ inl is ↦ is | inr at_b ↦ absurd (other (sym at_a ∙ at_b)) ] ]
+module _ (differing : Bool) (t u : TouchText) (clash : differing ≡ true → clashes t u ≡ true) where
+  apart : (p : Passed) (a b : ℕ) → HasNoted p a t → HasNoted p b u → (a ≡ b → ⊥) → (p.several && (p.differ || not differing)) ≡ true
+  apart p a b one two other = both_true _ _ several differ
+    where
+      several : p.several ≡ true
+      several = elim one.by [ inl is ↦ is | inr at_a ↦ elim two.by [ inl is ↦ is | inr at_b ↦ absurd (other (sym at_a ∙ at_b)) ] ]
 
-    differ : p.differ ≡ true
-    differ = elim one.like [ inl is ↦ is | inr like_t ↦ elim two.like [ inl is ↦ is | inr like_u ↦ absurd (no_clash (touch_view p.touch) t u like_t like_u clash) ] ]
+      differ_so : differing ≡ true → p.differ ≡ true
+      differ_so so = elim one.like [ inl is ↦ is | inr like_t ↦ elim two.like [ inl is ↦ is | inr like_u ↦ absurd (no_clash (touch_view p.touch) t u like_t like_u (clash so)) ] ]
 
-apart_if : (p : Option Passed) (a b : ℕ) (t u : TouchText) → HasNotedIf p a t → HasNotedIf p b u → (a ≡ b → ⊥) → clashes t u ≡ true → meets p ≡ true
-apart_if None a b t u one two other clash = absurd one
-apart_if (Some p) a b t u one two other clash = apart p a b t u one two other clash
+      differ : (p.differ || not differing) ≡ true
+      differ = elim (cases_Bool differing) [
+        | inl so ↦ rw (differ_so so) refl
+        | inr all ↦ rw all (or_right p.differ true refl)
+      ]
+
+  apart_if : (p : Option Passed) (a b : ℕ) → HasNotedIf p a t → HasNotedIf p b u → (a ≡ b → ⊥) → meets differing p ≡ true
+  apart_if None a b one two other = absurd one
+  apart_if (Some p) a b one two other = apart p a b one two other
 
 -- ---- in a group
 
 module _ (plan : PlanText) (passed : List (Option Passed)) (group : List TouchText) (noted : AreNoted plan passed group) where
-  races_where : (t u : TouchText) → Contains group t → Contains group u → race plan t u ≡ true → may_race plan passed t.node ≡ true
-  races_where t u t_in u_in h =
-      let parts = both (clashes t u) (nodes_beside plan t.node u.node) h in
-      let within = both _ _ (both _ _ parts.1).0 in
+  -- touches of nodes beside one another meet
+  pub meets_where : (differing : Bool) (t u : TouchText) → Contains group t → Contains group u → (differing ≡ true → clashes t u ≡ true) → nodes_beside plan t.node u.node ≡ true → may_meet plan passed differing t.node ≡ true
+  meets_where differing t u t_in u_in clash beside =
+      let within = both _ _ (both _ _ beside).0 in
       let t_less : t.node < length plan.nodes = (let e = within.0 in grind (arith, e)) in
       let u_less : u.node < length plan.nodes = (let e = within.1 in grind (arith, e)) in
-      let are = nodes_found plan t.node u.node parts.1 in
+      let are = nodes_found plan t.node u.node beside in
       let one = (noted.each t t_in t_less).each are.child are.container are.below are.concurrent in
       let two = (noted.each u u_in u_less).each are.other are.container are.other_below are.other_concurrent in
-      let here = apart_if (passed_at passed are.container) are.child are.other t u one two are.differ parts.0 in
-      both_true _ _ within.0 (turn_told (λ turn. concurrent_of plan turn.0 && meets (passed_at passed turn.1)) (plan_path plan t.node) are.child are.container are.below (both_true _ _ are.concurrent here))
+      let here = apart_if differing t u clash (passed_at passed are.container) are.child are.other one two are.differ in
+      both_true _ _ within.0 (turn_told (λ turn. concurrent_of plan turn.0 && meets differing (passed_at passed turn.1)) (plan_path plan t.node) are.child are.container are.below (both_true _ _ are.concurrent here))
+
+  races_where : (t u : TouchText) → Contains group t → Contains group u → race plan t u ≡ true → may_meet plan passed true t.node ≡ true
+  races_where t u t_in u_in h = let parts = both (clashes t u) (nodes_beside plan t.node u.node) h in meets_where true t u t_in u_in (λ so. parts.0) parts.1
 
   -- a touch that may not race is not compared
-  pub passed_over : (most : ℕ) (told : List Race) (t : TouchText) → Contains group t → may_race plan passed t.node ≡ false → touch_told plan most group told t ≡ told
+  pub passed_over : (most : ℕ) (told : List Race) (t : TouchText) → Contains group t → may_meet plan passed true t.node ≡ false → touch_told plan most group told t ≡ told
   passed_over most told t t_in none = touch_alone plan most group told t (λ u u_in is. true≢false (sym (races_where t u t_in u_in is) ∙ none))
 
 fold_push : {A B : Type 0} (f : B → A → B) (start : B) (xs : List A) (x : A) → fold f start (xs ++ x ∷ []) ≡ f (fold f start xs) x
@@ -109,7 +119,7 @@ told_next plan most group start told after i d less so_far is =
 
 -- one that may not race is passed over
 pub told_over : (plan : PlanText) (passed : List (Option Passed)) (most : ℕ) (group : List Touch) (start told after : List Race) (i : ℕ) (d : Touch) → AreNoted plan passed (map touch_view group) → i < length group
-    → may_race plan passed (get_or group i d).node ≡ false → told ≡ fold (touch_told plan most (map touch_view group)) start (map touch_view (take i group)) → after ≡ told
+    → may_meet plan passed true (get_or group i d).node ≡ false → told ≡ fold (touch_told plan most (map touch_view group)) start (map touch_view (take i group)) → after ≡ told
     → after ≡ fold (touch_told plan most (map touch_view group)) start (map touch_view (take (i + 1) group))
 told_over plan passed most group start told after i d noted less none so_far same =
     let touch = get_or group i d in

@@ -1,7 +1,7 @@
 -- What is noted of a group's touches before its pairs are compared. Nodes may run beside one another only if they stand
 -- at or below different concurrent children of one container. So it is noted for each container whether touches pass it
 -- by several of these children, and whether all of them are alike. Touches that are all alike to one do not clash.
-use Rattle.std.specs.Prelude.{ℕ, ◌≡◌, ◌<◌, ◌⊎◌, Bool, true, false, not, ◌&&◌, List, length, nat_lt, slice_index_or, Contains, Option, Some, None, if◌then◌else◌, ⊤}
+use Rattle.std.specs.Prelude.{ℕ, ◌≡◌, ◌<◌, ◌⊎◌, Bool, true, false, not, ◌&&◌, ◌||◌, List, length, nat_lt, slice_index_or, Contains, Option, Some, None, if◌then◌else◌, ⊤}
 use Rattle.std.specs.List.{list_any}
 use Rattle.ext_plan.specs.Plans.{PlanText}
 use Rattle.ext_plan.specs.PlanCalls.{concurrent_of}
@@ -38,10 +38,10 @@ KeepsIf (Some before) after = KeepsOne before after
 abbrev pub passed_at : List (Option Passed) → ℕ → Option Passed
 passed_at passed container = slice_index_or passed container None
 
--- Touches pass by several children, and are not all alike.
-abbrev pub meets : Option Passed → Bool
-meets None = false
-meets (Some passed) = passed.several && passed.differ
+-- Touches pass by several children, and, if that is asked for, are not all alike.
+abbrev pub meets : Bool → Option Passed → Bool
+meets differing None = false
+meets differing (Some passed) = passed.several && (passed.differ || not differing)
 
 -- What was noted before is noted after.
 pub record Keeps (before after : List (Option Passed)) : Type 0 where
@@ -58,10 +58,11 @@ module _ (plan : PlanText) (passed : List (Option Passed)) where
   pub record AreNoted (touches : List TouchText) : Type 0 where
     pub each : (touch : TouchText) → Contains touches touch → touch.node < length plan.nodes → IsNoted touch
 
-  -- ---- whether a node's touches may race
+  -- ---- whether a node's touches may meet others
 
-  abbrev pub path_meets : List ℕ → Bool
-  path_meets path = list_any (λ turn. concurrent_of plan turn.0 && meets (passed_at passed turn.1)) (turns path)
+  abbrev pub path_meets : Bool → List ℕ → Bool
+  path_meets differing path =
+      list_any (λ turn. concurrent_of plan turn.0 && meets differing (passed_at passed turn.1)) (turns path)
 
-  abbrev pub may_race : ℕ → Bool
-  may_race node = nat_lt node (length plan.nodes) && path_meets (plan_path plan node)
+  abbrev pub may_meet : Bool → ℕ → Bool
+  may_meet differing node = nat_lt node (length plan.nodes) && path_meets differing (plan_path plan node)

@@ -1,11 +1,15 @@
 pub mod Acts
 pub mod Beside
 pub mod Clashes
+pub mod Found
 pub mod InnerGroups
 pub mod InnerNaming
 pub mod InnerPassing
+pub mod InnerProving
 pub mod InnerTold
 pub mod MadeSteps
+pub mod OneReports
+pub mod Proving
 pub mod RaceLines
 pub mod Races
 pub mod Touches

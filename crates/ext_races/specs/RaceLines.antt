@@ -4,9 +4,16 @@
 --
 -- with the step of the node that comes first in the plan, that of the other, and the context of the place. A step is
 -- shown by its first word, the word by which the plan's steps first name its key, and the id of its node. A line
--- `and more` follows if there are more, and a line `no races` stands alone if there is none. A limit that the plan
--- exceeds has a line of its own, which tells it in decimal. Texts are bytes; the format is not from JUnit.
-use Rattle.std.specs.Prelude.{ℕ, codes, List, [], ◌∷◌, ◌++◌, length, nat_lt, take, Option, Some, None, if◌then◌else◌}
+-- `and more` follows if there are more. If there is no race, the first line says so, and what is proved of the plan's
+-- report. If that is nothing, a line follows for each kind of reason:
+--
+--     two texts of closes: TEXT and TEXT in ID
+--     the same beside one another: computefail KEY of ID and computefail KEY of ID in ID
+--     as many numbers as there are: NUMBER
+--
+-- A limit that the plan exceeds has a line of its own, which tells it in decimal. Texts are bytes; the format is not
+-- from JUnit.
+use Rattle.std.specs.Prelude.{ℕ, Bool, codes, List, [], ◌++◌, length, nat_lt, take, Option, Some, None, if◌then◌else◌}
 use Rattle.std.specs.Borrow.{Bor}
 use Rattle.std.specs.Fmt.{decimal}
 use Rattle.std.specs.List.{flat_map, slice_get}
@@ -18,6 +25,9 @@ use Rattle.ext_plan.specs.declared.plan.StepKey.{StepKey}
 use Rattle.ext_plan.specs.StepWords.{word_text}
 use Rattle.ext_races.specs.declared.race.Race.{Race}
 use Rattle.ext_races.specs.declared.race.Side.{Side}
+use Rattle.ext_races.specs.declared.proved.Proved.{Proved}
+use Rattle.ext_races.specs.declared.proved.Proved.TheVariants as proved
+use Rattle.ext_races.specs.declared.proved.TwoTexts.{TwoTexts}
 use Rattle.ext_races.specs.declared.found.Found.{Found}
 use Rattle.ext_races.specs.declared.found.Found.TheVariants as found
 
@@ -40,6 +50,23 @@ module _ (plan : PlanText) where
   name_if None = []
   name_if (Some name) = label_of plan.keys (step_key_view name.now)
 
+  -- ---- the reasons for which neither report is proved
+
+  unfoldable pub closes_line : TwoTexts → List ℕ
+  closes_line texts = codes "two texts of closes: " ++ texts.first.now ++ codes " and " ++ texts.second.now
+      ++ codes " in " ++ id_of_node texts.context ++ codes "\n"
+
+  -- The line of a reason, if there is one of its kind.
+  abbrev pub closes_if : Option TwoTexts → List ℕ
+  closes_if None = []
+  closes_if (Some texts) = closes_line texts
+
+  abbrev pub numbers_if : Bool → List ℕ
+  numbers_if drawn = if drawn
+      then codes "as many numbers as there are: " ++ decimal (most_numbers plan.size) ++ codes "\n" else []
+
+  -- ---- lines
+
   module _ (names : List (Bor StepKey)) where
     -- `WORD KEY of ID`
     unfoldable pub side_text : Side → List ℕ
@@ -52,10 +79,20 @@ module _ (plan : PlanText) where
 
     -- The lines of the first races, and whether there are more.
     abbrev pub race_lines : List Race → List ℕ
-    race_lines [] = codes "no races\n"
-    race_lines (race ∷ more) =
-        flat_map race_line (take line_limit (race ∷ more))
-        ++ (if nat_lt line_limit (length (race ∷ more)) then codes "and more\n" else [])
+    race_lines races = flat_map race_line (take line_limit races)
+        ++ (if nat_lt line_limit (length races) then codes "and more\n" else [])
+
+    abbrev pub fails_if : Option Race → List ℕ
+    fails_if None = []
+    fails_if (Some race) = codes "the same beside one another: " ++ race_line race
+
+    -- What is proved of its report.
+    abbrev pub proved_text : Proved → List ℕ
+    proved_text proved.OneReport = codes "no races: one report\n"
+    proved_text proved.NearReport = codes "no races: one report but for computed and found\n"
+    proved_text (proved.Neither gaps) =
+        codes "no races: one report is not proved\n" ++ closes_if gaps.closes ++ fails_if gaps.fails
+        ++ numbers_if gaps.numbers
 
   -- What is written, by what was found.
   abbrev pub found_text : Found → List ℕ
@@ -63,3 +100,4 @@ module _ (plan : PlanText) where
   found_text found.TooManyNumbers =
       codes "the steps may draw more than " ++ decimal (most_numbers plan.size) ++ codes " numbers\n"
   found_text (found.Races races names) = race_lines names.items races.items
+  found_text (found.NoRaces proved names) = proved_text names.items proved

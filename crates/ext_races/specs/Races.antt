@@ -1,16 +1,9 @@
 -- What a race of a plan is, and which races are listed.
-use Rattle.std.specs.Prelude.{ℕ, ◌≡◌, ◌≢◌, ◌<◌, ◌≤◌, true, List, length, map, nat_lt, All, AllPairs, Contains, if◌then◌else◌}
-use Rattle.std.specs.Borrow.{Bor}
-use Rattle.ext_model.specs.Sizes.{most_numbers}
-use Rattle.ext_tree.specs.Keys.{KeyValue}
-use Rattle.ext_plan.specs.Plans.{PlanText, step_key_view}
-use Rattle.ext_plan.specs.StoreKeys.{key_of_step}
-use Rattle.ext_plan.specs.declared.plan.StepKey.{StepKey}
+use Rattle.std.specs.Prelude.{ℕ, ◌≡◌, ◌≢◌, ◌<◌, ◌≤◌, true, List, length, nat_lt, All, AllPairs, Contains, if◌then◌else◌}
+use Rattle.ext_plan.specs.Plans.{PlanText}
 use Rattle.ext_races.specs.declared.race.Race.{Race}
 use Rattle.ext_races.specs.declared.race.Side.{Side}
-use Rattle.ext_races.specs.declared.found.Found.{Found}
-use Rattle.ext_races.specs.declared.found.Found.TheVariants as found
-use Rattle.ext_races.specs.Touches.{TouchText, keys_named, numbers_drawn, touches_made}
+use Rattle.ext_races.specs.Touches.{TouchText, touches_made}
 use Rattle.ext_races.specs.Clashes.{clashes}
 use Rattle.ext_races.specs.Beside.{IsBeside}
 
@@ -40,16 +33,3 @@ pub record AreRaces (plan : PlanText) (most : ℕ) (races : List Race) : Type 0 
   pub different : AllPairs (λ a b. a ≢ b) races
   pub few : length races ≤ most
   pub all : length races < most → (race : Race) → IsRace plan race → Contains races race
-
--- The keys of these names.
-abbrev pub keys_of_names : PlanText → List (Bor StepKey) → List KeyValue
-keys_of_names plan names = map (λ k. key_of_step plan.keys (step_key_view k.now)) names
-
--- Too many keys are reported before too many numbers, and either before the races.
-abbrev pub IsFound : PlanText → ℕ → Found → Type 0
-IsFound plan most found.TooManyKeys = plan.key_places < length (keys_named plan)
-IsFound plan most found.TooManyNumbers = (length (keys_named plan) ≤ plan.key_places)
-    × (most_numbers plan.size < numbers_drawn plan)
-IsFound plan most (found.Races races names) =
-    (length (keys_named plan) ≤ plan.key_places) × (numbers_drawn plan ≤ most_numbers plan.size)
-    × AreRaces plan most races.items × (keys_of_names plan names.items ≡ keys_named plan)

@@ -1,24 +1,29 @@
 //! The races of a plan.
-ghost use Rattle.std.specs.Prelude.{◌≡◌, IfOk};
+ghost use Rattle.std.specs.Prelude.{◌≡◌, ◌*◌, ◌+◌, ◌==◌, ◌&&◌, IfOk, length, nat_le, nat_lt};
+ghost use Rattle.ext_model.specs.Sizes.{most_numbers};
 ghost use Rattle.ext_plan.specs.Plans.{plan_view};
-ghost use Rattle.ext_plan.specs.ReadPlans.{IsRunnablePlan};
-ghost use Rattle.ext_races.specs.Races.{IsFound};
+ghost use Rattle.ext_plan.specs.ReadPlans.{IsRunnablePlan, ids_of_nodes};
+ghost use Rattle.ext_races.specs.Found.{IsFound, IsWithin};
+ghost use Rattle.ext_races.specs.InnerGroups.{IsGrouped, groups_view};
+ghost use Rattle.ext_races.specs.Touches.{numbers_drawn, touches_made};
 
-use crate::Found;
 use crate::groups::groups_of;
 use crate::made::steps_made;
 use crate::naming::{keys_named, numbers_drawn};
+use crate::proving::proved_of;
 use crate::telling::races_told;
-use ext_plan::{Plan, StepKeys};
-use ext_tree::TreeFault;
+use crate::touch::Touch;
+use crate::{Found, Race};
+use ext_plan::{Plan, StepKey, StepKeys};
+use ext_tree::{Tree, TreeFault};
 use std::alloc::{AllocError, Global};
 
 /// Lists at most `most` races of a plan, without repetition, or reports a limit that its steps
 /// exceed. A race is of two nodes that may run beside one another, each with a step. Both steps
 /// touch one place that one of them may change, and do not compute the same result there; or both
 /// leave values in one context whose closes may fail with different texts. If fewer than `most`
-/// races are listed there are no others: with `most` of at least 1, an empty list means that the
-/// plan has no race.
+/// races are listed there are no others. Where `most` is at least 1 and the plan has no race,
+/// `NoRaces` tells what is proved of its report; with `most` of 0 nothing is looked for.
 ///
 /// `TooManyKeys` reports that the steps name more keys than `Plan::key_places`, and otherwise
 /// `TooManyNumbers` that they may draw more numbers than a plan of this size may. Such a plan has
@@ -43,10 +48,56 @@ pub fn races<'p>(alloc: Global, plan: &'p Plan, most: usize) -> Result<Found<'p>
         Err(_) => return Err(AllocError),
     };
     let numbers = plan.size.numbers() as usize;
-    if numbers_drawn(plan, made.as_slice()) > numbers {
+    let drawn = numbers_drawn(plan, made.as_slice());
+    if drawn > numbers {
         return Ok(Found::TooManyNumbers);
     }
     let groups = groups_of(alloc, &keys, &directory, &tree, made.as_slice())?;
-    let races = races_told(alloc, plan, &tree, groups.as_slice(), most)?;
-    Ok(Found::Races { races, names })
+    let keys = directory.len();
+    let all_drawn = drawn == numbers;
+    found_in(
+        alloc,
+        plan,
+        &tree,
+        keys,
+        groups.as_slice(),
+        most,
+        all_drawn,
+        names,
+    )
+}
+
+/// At most `most` races of the touches in these groups, of which each context has one for each of
+/// `keys` keys and one more; or, if there are none, what is proved of the plan. `all_drawn` tells
+/// whether its steps may draw as many numbers as there are.
+fn found_in<'p>(
+    alloc: Global,
+    plan: &Plan,
+    tree: &Tree,
+    keys: usize,
+    groups: &[Vec<Touch<'p>>],
+    most: usize,
+    all_drawn: bool,
+    names: Vec<&'p StepKey>,
+) -> Result<Found<'p>, AllocError>
+    requires tree { tree.now ≡ ids_of_nodes (plan_view plan.now).nodes }
+    requires count { length groups.now ≡ length tree.now * (keys + 1) }
+    requires groups { IsGrouped keys (touches_made (plan_view plan.now)) (groups_view groups.now) }
+    requires within { IsWithin (plan_view plan.now) names.items }
+    requires numbers { all_drawn ≡ nat_le (most_numbers (plan_view plan.now).size) (numbers_drawn (plan_view plan.now)) }
+    ensures { IfOk result (IsFound (plan_view plan.now) most) }
+{
+    let races = races_told(alloc, plan, tree, groups, most)?;
+    if !is_free(races.as_slice(), most) {
+        return Ok(Found::Races { races, names });
+    }
+    let proved = proved_of(alloc, plan, tree, keys, groups, all_drawn)?;
+    Ok(Found::NoRaces { proved, names })
+}
+
+/// Tests whether races were looked for, and there are none.
+fn is_free(races: &[Race], most: usize) -> bool
+    ensures { result ≡ (nat_lt 0 most && (length races.now == 0)) }
+{
+    most > 0 && races.is_empty()
 }

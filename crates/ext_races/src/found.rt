@@ -1,13 +1,18 @@
 //! The result of looking for a plan's races.
-use crate::Race;
+use crate::{Proved, Race};
 use ext_plan::StepKey;
 
-/// What `races` finds: races, or a limit that the plan's steps exceed.
+/// What `races` finds: races, or that there are none, or a limit that the plan's steps exceed.
 #[derive(Debug, Drop)]
 pub enum Found<'p> {
     /// The races, and by the number of each key the word by which a step first names it.
     Races {
         races: Vec<Race>,
+        names: Vec<&'p StepKey>,
+    },
+    /// There is no race: what is proved of the plan, and the same words.
+    NoRaces {
+        proved: Proved<'p>,
         names: Vec<&'p StepKey>,
     },
     /// The steps name more different keys than a run has places for (`Plan::key_places`): which of

@@ -35,7 +35,8 @@ pub(crate) fn groups_of<'p>(
 ) -> Result<Vec<Vec<Touch<'p>>>, AllocError>
     requires keys { directory.now ≡ keys_told (keys_in keys.now) (map made_view made.now) }
     requires nodes { All (λ m. m.node < length tree.now) made.now }
-    ensures { IfOk result (λ v. IsGrouped (length directory.now) (flat_map (touches_of tree.now (keys_in keys.now) directory.now) (map made_view made.now)) (groups_view v.items)) }
+    ensures count { IfOk result (λ v. vec_len v ≡ length tree.now * (length directory.now + 1)) }
+    ensures groups { IfOk result (λ v. IsGrouped (length directory.now) (flat_map (touches_of tree.now (keys_in keys.now) directory.now) (map made_view made.now)) (groups_view v.items)) }
 {
     let mut groups = no_groups(alloc, tree.len() * (directory.len() + 1))?;
     for step in made {

@@ -1,8 +1,9 @@
 //! Races of a plan: nodes that may run beside one another with steps that interfere.
 //!
-//! `races` lists them, and `count_keys` counts the keys that the steps name. In `specs/`,
-//! `MadeSteps` defines which steps a plan may make, `Touches` what they touch, `Beside` which nodes
-//! may run beside one another, `Clashes` which touches clash, and `Races` what is reported.
+//! `races` lists them, or says what is proved of a plan without any, and `count_keys` counts the
+//! keys that the steps name. In `specs/`, `MadeSteps` defines which steps a plan may make, `Touches`
+//! what they touch, `Beside` which nodes may run beside one another, `Clashes` which touches clash,
+//! `Races` what a race is, `OneReports` which plans have one report, and `Found` what is reported.
 //!
 //! JUnit has no such checker.
 #![tactic(auto)]
@@ -16,6 +17,8 @@ mod groups;
 mod made;
 mod naming;
 mod passing;
+mod proved;
+mod proving;
 mod race;
 mod reach;
 mod telling;
@@ -25,5 +28,6 @@ mod touch;
 pub use counting::count_keys;
 pub use finding::races;
 pub use found::Found;
+pub use proved::{Gaps, Proved, TwoTexts};
 pub use race::{Race, Side};
 pub use text::races_text;

@@ -3,7 +3,7 @@ ghost use Rattle.std.specs.Prelude.{◌≡◌, ◌<◌, true, All, IfOk, length,
 ghost use Rattle.ext_plan.specs.Plans.{plan_view};
 ghost use Rattle.ext_plan.specs.PlanCalls.{concurrent_of};
 ghost use Rattle.ext_plan.specs.ReadPlans.{ids_of_nodes};
-ghost use Rattle.ext_races.specs.InnerPassing.{AreNoted, HasNoted, HasNotedIf, IsNoted, Keeps, KeepsIf, KeepsOne, may_race, meets, passed_at, path_meets};
+ghost use Rattle.ext_races.specs.InnerPassing.{AreNoted, HasNoted, HasNotedIf, IsNoted, Keeps, KeepsIf, KeepsOne, may_meet, meets, passed_at, path_meets};
 ghost use Rattle.ext_races.specs.Touches.{touch_view};
 
 use crate::made::path_in;
@@ -141,46 +141,54 @@ fn with_touch<'p>(before: Option<Passed<'p>>, child: ContextNo, touch: &Touch<'p
     }
 }
 
-/// Tests whether touches of the node may race with others that are noted.
-pub(crate) fn may_race(
+/// Tests whether touches of the node may meet others that are noted, of nodes that may run beside
+/// it; if `differing`, only where not all touches are alike, so that they may race.
+pub(crate) fn may_meet(
     plan: &Plan,
     tree: &Tree,
     passed: &[Option<Passed<'_>>],
     node: ContextNo,
+    differing: bool,
 ) -> bool
     requires { tree.now ≡ ids_of_nodes (plan_view plan.now).nodes }
-    ensures { result ≡ may_race (plan_view plan.now) passed.now node }
+    ensures { result ≡ may_meet (plan_view plan.now) passed.now differing node }
 {
     if node >= plan.nodes.len() {
         return false;
     }
-    path_meets(plan, passed, path_in(tree, node))
+    path_meets(plan, passed, path_in(tree, node), differing)
 }
 
-/// Tests whether a path passes a container by a concurrent child where touches may race.
-fn path_meets(plan: &Plan, passed: &[Option<Passed<'_>>], path: &[ContextNo]) -> bool
-    ensures { result ≡ path_meets (plan_view plan.now) passed.now path.now }
+/// Tests whether a path passes a container by a concurrent child where touches may meet.
+fn path_meets(
+    plan: &Plan,
+    passed: &[Option<Passed<'_>>],
+    path: &[ContextNo],
+    differing: bool,
+) -> bool
+    ensures { result ≡ path_meets (plan_view plan.now) passed.now differing path.now }
 {
     path.iter().zip(path.iter().skip(1)).any(|(child, container)| {
-        plan.mode(*child).is_concurrent() && meets(passed, *container)
+        plan.mode(*child).is_concurrent() && meets(passed, *container, differing)
     })
 }
 
-/// Tests whether touches pass the container by several children, and are not all alike.
-fn meets(passed: &[Option<Passed<'_>>], container: ContextNo) -> bool
-    ensures { result ≡ meets (passed_at passed.now container) }
+/// Tests whether touches pass the container by several children, and, if `differing`, are not all
+/// alike.
+fn meets(passed: &[Option<Passed<'_>>], container: ContextNo, differing: bool) -> bool
+    ensures { result ≡ meets differing (passed_at passed.now container) }
 {
     if container >= passed.len() {
         return false;
     }
-    several_differ(&passed[container])
+    several_meet(&passed[container], differing)
 }
 
-fn several_differ(passed: &Option<Passed<'_>>) -> bool
-    ensures { result ≡ meets passed.now }
+fn several_meet(passed: &Option<Passed<'_>>, differing: bool) -> bool
+    ensures { result ≡ meets differing passed.now }
 {
     match passed {
-        Some(passed) => passed.several && passed.differ,
+        Some(passed) => passed.several && (passed.differ || !differing),
         None => false,
     }
 }

@@ -9,7 +9,7 @@ ghost use Rattle.ext_races.specs.Touches.{touch_view};
 
 use crate::Race;
 use crate::beside::nodes_beside;
-use crate::passing::{Passed, may_race, none_passed, note_group};
+use crate::passing::{Passed, may_meet, none_passed, note_group};
 use crate::touch::Touch;
 use ext_plan::Plan;
 use ext_tree::Tree;
@@ -56,7 +56,7 @@ fn tell_group<'p>(
     }
     note_group(plan, tree, group, passed);
     for touch in group {
-        if may_race(plan, tree, passed, touch.node) {
+        if may_meet(plan, tree, passed, touch.node, true) {
             tell_touch(plan, tree, touch, group, most, told)?;
         }
     }

@@ -5,9 +5,9 @@ ghost use Rattle.std.specs.List.{flat_map, slice_get};
 ghost use Rattle.ext_model.specs.Sizes.{most_numbers};
 ghost use Rattle.ext_plan.specs.Plans.{plan_view, step_key_view};
 ghost use Rattle.ext_plan.specs.StepCalls.{label_of};
-ghost use Rattle.ext_races.specs.RaceLines.{found_text, id_of_node, line_limit, name_if, race_line, race_lines, side_text};
+ghost use Rattle.ext_races.specs.RaceLines.{closes_if, closes_line, fails_if, found_text, id_of_node, line_limit, name_if, numbers_if, proved_text, race_line, race_lines, side_text};
 
-use crate::{Found, Race, Side};
+use crate::{Found, Gaps, Proved, Race, Side, TwoTexts};
 use ext_model::{ContextNo, KeyNo};
 use ext_plan::{Plan, StepKey};
 use std::alloc::{AllocError, Global};
@@ -17,8 +17,10 @@ const LINES: usize = 20;
 
 /// Returns the text of what `races` found, in which each of the first 20 races has a line. Such a
 /// line is `put a of [engine:x]/[test:m] and want a of [engine:x]/[test:n] in [engine:x]`. The line
-/// `and more` follows if there are more, and `no races` stands alone if there are none. If the plan
-/// exceeds a limit, the only line names it.
+/// `and more` follows if there are more. If there are none, the first line is `no races: one
+/// report`, `no races: one report but for computed and found`, or `no races: one report is not
+/// proved`, after which each kind of reason has a line. If the plan exceeds a limit, the only line
+/// names it.
 ///
 /// Takes memory for the text, and fails with `AllocError` only if that is refused.
 pub fn races_text(alloc: Global, plan: &Plan, found: &Found<'_>) -> Result<String, AllocError>
@@ -30,6 +32,9 @@ pub fn races_text(alloc: Global, plan: &Plan, found: &Found<'_>) -> Result<Strin
         Found::TooManyNumbers => push_numbers(&mut text, plan)?,
         Found::Races { races, names } => {
             push_races(&mut text, plan, races.as_slice(), names.as_slice())?;
+        }
+        Found::NoRaces { proved, names } => {
+            push_proved(&mut text, plan, proved, names.as_slice())?;
         }
     }
     Ok(text)
@@ -61,9 +66,6 @@ fn push_races(
 ) -> Result<(), AllocError>
     ensures { OnOk result (string_bytes text.new ≡ string_bytes text.old ++ race_lines (plan_view plan.now) names.now races.now) }
 {
-    if races.is_empty() {
-        return text.push_str("no races\n");
-    }
     push_first(text, plan, races, names)?;
     if races.len() > LINES {
         text.push_str("and more\n")?;
@@ -111,6 +113,95 @@ fn push_race(
     text.push_str(" in ")?;
     push_id(text, plan, race.context)?;
     text.push_str("\n")
+}
+
+/// Adds what is proved of a plan without races.
+fn push_proved(
+    text: &mut String,
+    plan: &Plan,
+    proved: &Proved<'_>,
+    names: &[&StepKey],
+) -> Result<(), AllocError>
+    ensures { OnOk result (string_bytes text.new ≡ string_bytes text.old ++ proved_text (plan_view plan.now) names.now proved.now) }
+{
+    match proved {
+        Proved::OneReport => text.push_str("no races: one report\n"),
+        Proved::NearReport => text.push_str("no races: one report but for computed and found\n"),
+        Proved::Neither(gaps) => push_gaps(text, plan, gaps, names),
+    }
+}
+
+/// Adds why no report is proved.
+fn push_gaps(
+    text: &mut String,
+    plan: &Plan,
+    gaps: &Gaps<'_>,
+    names: &[&StepKey],
+) -> Result<(), AllocError>
+    ensures { OnOk result (string_bytes text.new ≡ string_bytes text.old ++ codes "no races: one report is not proved\n" ++ closes_if (plan_view plan.now) gaps.now.closes ++ fails_if (plan_view plan.now) names.now gaps.now.fails ++ numbers_if (plan_view plan.now) gaps.now.numbers) }
+{
+    text.push_str("no races: one report is not proved\n")?;
+    push_closes(text, plan, &gaps.closes)?;
+    push_fails(text, plan, &gaps.fails, names)?;
+    push_drawn(text, plan, gaps.numbers)
+}
+
+/// Adds the texts of closes, if there are two.
+fn push_closes(
+    text: &mut String,
+    plan: &Plan,
+    closes: &Option<TwoTexts<'_>>,
+) -> Result<(), AllocError>
+    ensures { OnOk result (string_bytes text.new ≡ string_bytes text.old ++ closes_if (plan_view plan.now) closes.now) }
+{
+    match closes {
+        None => Ok(()),
+        Some(texts) => push_texts(text, plan, texts),
+    }
+}
+
+fn push_texts(text: &mut String, plan: &Plan, texts: &TwoTexts<'_>) -> Result<(), AllocError>
+    ensures { OnOk result (string_bytes text.new ≡ string_bytes text.old ++ closes_line (plan_view plan.now) texts.now) }
+{
+    text.push_str("two texts of closes: ")?;
+    text.push_str(texts.first)?;
+    text.push_str(" and ")?;
+    text.push_str(texts.second)?;
+    text.push_str(" in ")?;
+    push_id(text, plan, texts.context)?;
+    text.push_str("\n")
+}
+
+/// Adds the computes that fail alike, if there are any.
+fn push_fails(
+    text: &mut String,
+    plan: &Plan,
+    fails: &Option<Race>,
+    names: &[&StepKey],
+) -> Result<(), AllocError>
+    ensures { OnOk result (string_bytes text.new ≡ string_bytes text.old ++ fails_if (plan_view plan.now) names.now fails.now) }
+{
+    match fails {
+        None => Ok(()),
+        Some(fails) => {
+            text.push_str("the same beside one another: ")?;
+            push_race(text, plan, fails, names)
+        }
+    }
+}
+
+/// Adds how many numbers there are, if the steps may draw as many.
+fn push_drawn(text: &mut String, plan: &Plan, drawn: bool) -> Result<(), AllocError>
+    ensures { OnOk result (string_bytes text.new ≡ string_bytes text.old ++ numbers_if (plan_view plan.now) drawn) }
+{
+    if !drawn {
+        return Ok(());
+    }
+    write!(
+        text,
+        "as many numbers as there are: {}\n",
+        plan.size.numbers()
+    )
 }
 
 /// Adds a step's word, its key's name and its node's id.

@@ -5,3 +5,4 @@ mod CheckCounts
 mod KeyLines
 mod Drawn
 mod FaultGroups
+mod OneReports

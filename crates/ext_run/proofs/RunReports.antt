@@ -77,14 +77,14 @@ plan_of_short : (size : Size) (input : List ℕ) → length input ≤ input_limi
 unfolding plan_of_input
 plan_of_short size input short = rw (le-ltb (input_limit size) (length input) short) refl
 
--- the report that was written of it
-pub written : (options : Options) (whole : Option (List ℕ)) (items bytes : List ℕ) (report wrote : List ℕ) (failed lacked : Bool) (Written : List ℕ → Type 0) → IfSome whole (λ input. items ≡ input)
-    → length items ≤ input_limit options.size → bytes ≡ items → Reports options (plan_of_bytes options.size bytes) (record { report = report; failed = failed; lacked = lacked }) → wrote ≡ report → Written wrote
-    → IfSome whole (λ input. (x : List ℕ) × Reports options (plan_of_input options.size input) (record { report = x; failed = failed; lacked = lacked }) × Written x)
-written options None items bytes report wrote failed lacked Written same short read given is done = tt
-written options (Some input) items bytes report wrote failed lacked Written same short read given is done =
-    let plan_is : plan_of_input options.size input ≡ plan_of_bytes options.size bytes = ap (plan_of_input options.size) (sym same) ∙ plan_of_short options.size items short ∙ ap (plan_of_bytes options.size) (sym read) in
-    (report, subst (λ p. Reports options p (record { report = report; failed = failed; lacked = lacked })) (sym plan_is) given, subst Written is done)
+-- what was written of it, if this holds of what was read and given
+pub written : (size : Size) (Gives : Result PlanText RunFault → RunReport → Type 0) (whole : Option (List ℕ)) (items bytes : List ℕ) (report wrote : List ℕ) (failed lacked : Bool) (Written : List ℕ → Type 0)
+    → IfSome whole (λ input. items ≡ input) → length items ≤ input_limit size → bytes ≡ items → Gives (plan_of_bytes size bytes) (record { report = report; failed = failed; lacked = lacked }) → wrote ≡ report → Written wrote
+    → IfSome whole (λ input. (x : List ℕ) × Gives (plan_of_input size input) (record { report = x; failed = failed; lacked = lacked }) × Written x)
+written size Gives None items bytes report wrote failed lacked Written same short read given is done = tt
+written size Gives (Some input) items bytes report wrote failed lacked Written same short read given is done =
+    let plan_is : plan_of_input size input ≡ plan_of_bytes size bytes = ap (plan_of_input size) (sym same) ∙ plan_of_short size items short ∙ ap (plan_of_bytes size) (sym read) in
+    (report, subst (λ p. Gives p (record { report = report; failed = failed; lacked = lacked })) (sym plan_is) given, subst Written is done)
 
 reported : (options : Options) (read : Result PlanText RunFault) (given : RunReport) → Reports options read given → IsOk read
 reported options (Ok text) given h = refl

@@ -1,10 +1,10 @@
 -- What is written of a plan that is read but not run: how many nodes it has, how many of them are tests, how many
 -- different keys its steps name, and for how many keys there are places. Numbers are decimal.
-use Rattle.std.specs.Prelude.{◌≡◌, ℕ, Bool, true, false, not, ◌==◌, nat_le, codes, List, ◌++◌, length, is_some, if◌then◌else◌, Option, Some, None, Result, Ok, Err}
+use Rattle.std.specs.Prelude.{◌≡◌, ℕ, Bool, true, false, not, nat_le, codes, List, ◌++◌, length, is_some, if◌then◌else◌, Option, Some, None, Result, Ok, Err}
 use Rattle.ext_races.specs.declared.found.Found.{Found}
 use Rattle.ext_races.specs.declared.found.Found.TheVariants as found
 use Rattle.ext_races.specs.RaceLines.{found_text}
-use Rattle.ext_races.specs.Races.{IsFound}
+use Rattle.ext_races.specs.Found.{IsFound}
 use Rattle.ext_races.specs.Touches.{keys_named}
 use Rattle.std.specs.Fmt.{decimal}
 use Rattle.std.specs.List.{count_by}
@@ -40,13 +40,15 @@ RefusedUnrun fault read = RefusedBy true 1 fault read
 abbrev pub race_limit : ℕ
 race_limit = 21
 
--- No race was found, and no limit was passed.
+-- It was found that there is no race, and no limit was passed.
 abbrev pub is_free : Found → Bool
 is_free found.TooManyKeys = false
 is_free found.TooManyNumbers = false
-is_free (found.Races races names) = length races.items == 0
+is_free (found.Races races names) = false
+is_free (found.NoRaces proved names) = true
 
--- What is written of a plan's races, and whether there is one or a limit was passed.
+-- What is written of a plan's races, or of what is proved of a plan without any; and whether there is one or a limit
+-- was passed.
 pub record TellsRaces (plan : PlanText) (text : List ℕ) (failed : Bool) : Type 0 where
   pub told : Found
   pub races : IsFound plan race_limit told

@@ -3,6 +3,7 @@ pub mod Checks
 pub mod Drawings
 pub mod Failures
 pub mod IdText
+pub mod OneReports
 pub mod Requests
 pub mod InnerFailures
 pub mod InnerOutputs

@@ -53,9 +53,10 @@ pub fn check<I: Read, W: Write>(
 }
 
 /// Reads a plan of at most this size and writes its races, without running it. Each of the first 20
-/// races has a line, and `and more` follows if there are others. `no races` stands alone if there
-/// are none, and so does a line that names the limit if the steps name more keys than there are
-/// places, or may draw more numbers than there are (`ext_races::races_text`). In the summary,
+/// races has a line, and `and more` follows if there are others. If there are none, the first line
+/// begins with `no races`, and says whether `run` promises one report of the plan; if it does not,
+/// lines with the reasons follow. One line names the limit if the steps name more keys than there
+/// are places, or may draw more numbers than there are (`ext_races::races_text`). In the summary,
 /// `failed` tells whether there is a race or a limit is exceeded.
 ///
 /// It reads like `run`, and is refused like `check`.
@@ -120,8 +121,8 @@ fn is_free(found: &Found<'_>) -> bool
     ensures { result ≡ is_free found.now }
 {
     match found {
-        Found::Races { races, .. } => races.is_empty(),
-        Found::TooManyKeys | Found::TooManyNumbers => false,
+        Found::NoRaces { .. } => true,
+        Found::Races { .. } | Found::TooManyKeys | Found::TooManyNumbers => false,
     }
 }
 

@@ -5,6 +5,7 @@ ghost use Rattle.ext_plan_reading.specs.Plans.{plan_view};
 ghost use Rattle.ext_plan_reading.specs.ReadPlans.{IsRunnablePlan};
 ghost use Rattle.ext_lifecycle.specs.FaultTexts.{results_view};
 ghost use Rattle.ext_report.specs.Report.{report_of};
+ghost use Rattle.ext_run.specs.OneReports.{ReportsOne};
 ghost use Rattle.ext_run.specs.Reports.{input_limit, IsReportOf, plan_of_bytes, plan_of_input, RefusedAs, Reports};
 ghost use Rattle.ext_run.specs.InnerOutputs.{output_view, IsPlanFault, ReportsAs};
 
@@ -41,11 +42,9 @@ struct Output {
 /// several lanes may have lacked anything. If there was none, the report of a plain run is that of
 /// the only plain run that the plan has.
 ///
-/// If the nodes of a plan do not interfere, a run on several lanes that lacks nothing reports of
-/// each node what the plain run does. Only the counts of computed and found values may differ, if
-/// nodes that run beside one another compute the same value. `ext_one_report::report_laws` says
-/// this exactly, with its conditions on the plan, and `told_lack_laws` that `Summary::lacked`
-/// identifies such a run.
+/// If a plan has one report, as `check_races` tells, and `Summary::lacked` is false, what is written
+/// is the report of its plain run, byte by byte; or, if nodes beside one another compute the same
+/// value, it may differ from that only in who computed and who found it.
 ///
 /// It reads the input to its end, like `read_input`, and the first read that fails ends the run.
 /// The report is complete before its first byte is written, and at last the writer is flushed.
@@ -77,6 +76,9 @@ pub fn run<R: Threads + Wait + Sync, I: Read, W: Write>(
     ensures written { IfOk result (λ summary. IfSome (I.remaining reader.old) (λ input. (report : List ℕ)
         × Reports options (plan_of_input options.size input) (record { report = report; failed = summary.failed; lacked = summary.lacked })
         × Appends (W.contents writer.old) (W.contents writer.new) report)) }
+    ensures one_report { IfOk result (λ summary. IfSome (I.remaining reader.old) (λ input. (report : List ℕ)
+        × ReportsOne options (plan_of_input options.size input) (record { report = report; failed = summary.failed; lacked = summary.lacked })
+        × Appends (W.contents writer.old) (W.contents writer.new) report)) }
     ensures refused { IfErr result (λ fault. IfSome (I.remaining reader.old)
         (λ input. RefusedAs options fault (plan_of_input options.size input))) }
     ensures unwritten { IfErr result (λ fault. fault ≢ RunFault.Write → writer.new ≡ writer.old) }
@@ -102,6 +104,9 @@ pub fn run_with_listener<R: Threads + Wait + Sync, I: Read, W: Write, L: RunList
     requires lanes { options.plain ≡ false → (1 ≤ options.lanes) × (options.lanes ≤ 16) }
     ensures written { IfOk result (λ summary. IfSome (I.remaining reader.old) (λ input. (report : List ℕ)
         × Reports options (plan_of_input options.size input) (record { report = report; failed = summary.failed; lacked = summary.lacked })
+        × Appends (W.contents writer.old) (W.contents writer.new) report)) }
+    ensures one_report { IfOk result (λ summary. IfSome (I.remaining reader.old) (λ input. (report : List ℕ)
+        × ReportsOne options (plan_of_input options.size input) (record { report = report; failed = summary.failed; lacked = summary.lacked })
         × Appends (W.contents writer.old) (W.contents writer.new) report)) }
     ensures refused { IfErr result (λ fault. IfSome (I.remaining reader.old)
         (λ input. RefusedAs options fault (plan_of_input options.size input))) }
@@ -151,7 +156,8 @@ fn output_for<R: Threads + Wait + Sync, L: RunListener + Sync>(
     listener: &L,
 ) -> Result<Output, RunFault>
     requires lanes { options.plain ≡ false → (1 ≤ options.lanes) × (options.lanes ≤ 16) }
-    ensures { ReportsAs options result (plan_of_bytes options.size input.now) }
+    ensures run { ReportsAs options result (plan_of_bytes options.size input.now) }
+    ensures one { IfOk result (λ o. ReportsOne options (plan_of_bytes options.size input.now) (output_view o)) }
 {
     let Ok(text) = std::str::from_utf8(input) else {
         return Err(RunFault::Plan(PlanFault::NotUtf8));

@@ -14,8 +14,12 @@ const HEADS: [&str; 6] = [
     "[[node]]\nid = \"[e:x]/[c:B]/[t:k]\"\nmode = \"concurrent\"\n",
 ];
 
+/// What is told of plans without races that have one report, and one but for two counts.
+const ONE: &str = "no races: one report\n";
+const NEAR: &str = "no races: one report but for computed and found\n";
+
 /// The fields of these six nodes, and what is told of the plan's races.
-const PLANS: [([&str; 6], &str); 20] = [
+const PLANS: [([&str; 6], &str); 23] = [
     // each test puts into its own context
     (
         [
@@ -26,7 +30,7 @@ const PLANS: [([&str; 6], &str); 20] = [
             "",
             "test = []",
         ],
-        "no races\n",
+        ONE,
     ),
     // both put into the class
     (
@@ -62,7 +66,7 @@ const PLANS: [([&str; 6], &str); 20] = [
             "",
             "test = []",
         ],
-        "no races\n",
+        ONE,
     ),
     // a callback before each test of the class puts into it
     (
@@ -110,7 +114,7 @@ const PLANS: [([&str; 6], &str); 20] = [
             "",
             "test = []",
         ],
-        "no races\n",
+        NEAR,
     ),
     // a look-up behind a compute of its own call
     (
@@ -122,7 +126,7 @@ const PLANS: [([&str; 6], &str); 20] = [
             "",
             "test = []",
         ],
-        "no races\n",
+        NEAR,
     ),
     // it stands before the compute
     (
@@ -243,7 +247,43 @@ const PLANS: [([&str; 6], &str); 20] = [
             "",
             "test = []",
         ],
-        "no races\n",
+        ONE,
+    ),
+    // two closes of one context fail, one after the other
+    (
+        [
+            "",
+            "",
+            "test = ['put! a bad1', 'put! b bad2']",
+            "test = []",
+            "",
+            "test = []",
+        ],
+        "no races: one report is not proved\ntwo texts of closes: bad1 and bad2 in [e:x]/[c:A]/[t:m]\n",
+    ),
+    // two factories of one place that fail alike
+    (
+        [
+            "",
+            "",
+            "test = ['computefail a x up 1']",
+            "test = ['computefail a x up 1']",
+            "",
+            "test = []",
+        ],
+        "no races: one report is not proved\nthe same beside one another: computefail a of [e:x]/[c:A]/[t:m] and computefail a of [e:x]/[c:A]/[t:n] in [e:x]/[c:A]\n",
+    ),
+    // both; the closes of the root and of B tell one text each, and the values of A are computed
+    (
+        [
+            "before_all = [['put! a bad1']]",
+            "",
+            "test = ['compute b y up 1', 'computefail a x up 1', 'put! c bad3']",
+            "test = ['compute b y up 1', 'computefail a x up 1', 'put! c bad4', 'put! d bad3']",
+            "before_all = [['put! a bad2']]",
+            "test = []",
+        ],
+        "no races: one report is not proved\ntwo texts of closes: bad4 and bad3 in [e:x]/[c:A]/[t:n]\nthe same beside one another: computefail a of [e:x]/[c:A]/[t:m] and computefail a of [e:x]/[c:A]/[t:n] in [e:x]/[c:A]\n",
     ),
     // locks say that one goes first, and not which
     (
@@ -304,14 +344,19 @@ fn plan_of_puts(alloc: Global, count: u32) -> Result<String, AllocError> {
 }
 
 /// How many steps put and how large their plan may be, with what is told of its races.
-const PUTS: [(u32, Size, &str); 3] = [
-    (257, Size::Usual, "no races\n"),
+const PUTS: [(u32, Size, &str); 4] = [
+    (256, Size::Usual, ONE),
+    (
+        257,
+        Size::Usual,
+        "no races: one report is not proved\nas many numbers as there are: 65535\n",
+    ),
     (
         258,
         Size::Usual,
         "the steps may draw more than 65535 numbers\n",
     ),
-    (258, Size::Large, "no races\n"),
+    (258, Size::Large, ONE),
 ];
 
 /// Tests `races` and `races_text`.

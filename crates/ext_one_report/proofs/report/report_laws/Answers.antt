@@ -1,6 +1,6 @@
-use Rattle.ext_one_report.proofs.CoveredFree.{free_keeps_apart}
+use Rattle.ext_races.proofs.Free.{free_keeps_apart}
 use Rattle.ext_one_report.proofs.Near.{near_report, one_report}
-use Rattle.ext_one_report.proofs.SharedFree.{race_free_shares_values}
+use Rattle.ext_races.proofs.Free.{race_free_shares_values}
 use Rattle.ext_one_report.proofs.report.report_laws.Goals as goal
 
 pub returns : goal.returns

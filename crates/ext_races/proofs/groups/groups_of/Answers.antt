@@ -43,8 +43,18 @@ loop-step-preserved c =
     let same = ap (flat_map touches) (map-take_more made_view made i c.step-item.result (omega arith) c.step-item.is) ∙ flat_map-append touches so_far (one ∷ []) ∙ ap (λ ts. flat_map touches so_far ++ ts) (append-nil (touches one)) in
     subst (λ ts. IsAdded (length c.args.directory.now) ts first after) (sym same) all
 
-pub returns : goal.returns
-returns c =
+pub returns-clause-count : goal.returns-clause-count
+returns-clause-count c =
+    let so_far = c.loop-step.invariant.count in
+    let start = length-map c.in_ok-groups.groups.items group_view in
+    let now = length-map c.loop-step.groups.items group_view in
+    let start_ok = c.in_ok-groups.groups.ok in
+    let now_ok = c.loop-step.groups.ok in
+    let made = c.in_ok-groups.ensures.count ∙ ap (λ contexts. contexts * (c.len-2.result + 1)) c.len.ensures.count ∙ ap (λ keys. length c.args.tree.now * (keys + 1)) c.len-2.ensures.count in
+    omega (arith, so_far, start, now, start_ok, now_ok, made)
+
+pub returns-clause-groups : goal.returns-clause-groups
+returns-clause-groups c =
     let touches = touches_of c.args.tree.now (keys_in c.args.keys.now) c.args.directory.now in
     let made = c.args.made.now in
     let first = groups_view c.in_ok-groups.groups.items in

@@ -5,7 +5,7 @@ use Rattle.ext_races.proofs.Noted.{any_read}
 use Rattle.ext_races.proofs.passing.meets.Goals as goal
 
 pub returns-then-container-passed : goal.returns-then-container-passed
-returns-then-container-passed c = sym (ap meets (get_or_past c.args.passed.now c.args.container None (omega arith)))
+returns-then-container-passed c = sym (ap (meets c.args.differing) (get_or_past c.args.passed.now c.args.container None (omega arith)))
 
 pub returns : goal.returns
-returns c = c.several_differ.ensures ∙ ap meets (any_read c.args.passed.now c.args.container _ None (omega arith))
+returns c = c.several_meet.ensures ∙ ap (meets c.args.differing) (any_read c.args.passed.now c.args.container _ None (omega arith))

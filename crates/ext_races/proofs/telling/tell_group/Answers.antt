@@ -5,7 +5,7 @@ use Rattle.ext_races.proofs.Noted.{told_next, told_over}
 use Rattle.ext_races.proofs.Told.{group_full, group_looks}
 use Rattle.ext_races.specs.declared.race.Race.{Race}
 use Rattle.ext_races.proofs.telling.tell_group.Goals as goal
-use Rattle.ext_races.proofs.telling.tell_group.Goals.{then-may_race+in_ok-tell_touch, else-may_race}
+use Rattle.ext_races.proofs.telling.tell_group.Goals.{then-may_meet+in_ok-tell_touch, else-may_meet}
 
 pub returns-then-len-most : goal.returns-then-len-most
 returns-then-len-most c =
@@ -21,9 +21,9 @@ loop-touch-preserved c =
     let plan = plan_view c.args.plan.now in
     let group = c.args.group.now in
     let start = c.args.told.now.items in
-    elim c.if-may_race.branch [
-      | then-may_race+in_ok-tell_touch w ↦ told_next plan c.args.most group start c.loop-touch.told.items _ c.loop-touch.touch-index _ (omega arith) c.loop-touch.invariant (ap (λ (v : Vec Race Global). v.items) w.told-is ∙ w.in_ok-tell_touch.ensures)
-      | else-may_race w ↦
-          told_over plan c.note_group.new.passed c.args.most group start c.loop-touch.told.items _ c.loop-touch.touch-index _ c.note_group.ensures (omega arith) (sym c.may_race.ensures ∙ w.if-may_race.false) c.loop-touch.invariant
+    elim c.if-may_meet.branch [
+      | then-may_meet+in_ok-tell_touch w ↦ told_next plan c.args.most group start c.loop-touch.told.items _ c.loop-touch.touch-index _ (omega arith) c.loop-touch.invariant (ap (λ (v : Vec Race Global). v.items) w.told-is ∙ w.in_ok-tell_touch.ensures)
+      | else-may_meet w ↦
+          told_over plan c.note_group.new.passed c.args.most group start c.loop-touch.told.items _ c.loop-touch.touch-index _ c.note_group.ensures (omega arith) (sym c.may_meet.ensures ∙ w.if-may_meet.false) c.loop-touch.invariant
           (ap (λ (v : Vec Race Global). v.items) w.told-is)
     ]

@@ -1,0 +1,90 @@
+-- What is looked for in groups of touches, to say what is proved of a plan without races.
+use Rattle.std.specs.Prelude.{ℕ, ◌≡◌, ◌<◌, ◌==◌, Bool, true, false, not, ◌&&◌, List, Contains, Option, Some, None}
+use Rattle.std.specs.List.{list_any}
+use Rattle.std.specs.Str.{bytes_eq}
+use Rattle.ext_plan.specs.Plans.{PlanText}
+use Rattle.ext_plan.specs.StepWords.{word_eq}
+use Rattle.ext_plan.specs.declared.word.Word.{Word}
+use Rattle.ext_plan.specs.declared.word.Word.TheVariants as words
+use Rattle.ext_races.specs.declared.proved.TwoTexts.{TwoTexts}
+use Rattle.ext_races.specs.declared.passing.Passed.{Passed}
+use Rattle.ext_races.specs.declared.race.Race.{Race}
+use Rattle.ext_races.specs.declared.touch.Touch.{Touch}
+use Rattle.ext_races.specs.Beside.{nodes_beside}
+use Rattle.ext_races.specs.Clashes.{agree, may_fail}
+use Rattle.ext_races.specs.InnerGroups.{close_group_of, group_at}
+use Rattle.ext_races.specs.InnerPassing.{may_meet}
+use Rattle.ext_races.specs.Proving.{HasTwoTexts}
+use Rattle.ext_races.specs.Races.{race_of}
+use Rattle.ext_races.specs.Touches.{TouchText, touch_view}
+
+-- ---- texts of closes
+
+-- The touch may leave a value in this context whose close fails.
+abbrev pub fails_in : ℕ → TouchText → Bool
+fails_in context t = may_fail t && (t.context == context)
+
+-- The same, with another text than this.
+abbrev pub fails_else : ℕ → List ℕ → TouchText → Bool
+fails_else context text t = fails_in context t && not (bytes_eq t.text text)
+
+-- All such touches of a group have one text.
+pub record TellsOne (context : ℕ) (group : List TouchText) : Type 0 where
+  pub one : (t u : TouchText) → Contains group t → Contains group u → fails_in context t ≡ true
+      → fails_in context u ≡ true → t.text ≡ u.text
+
+-- What was found in a group for this context.
+abbrev pub TextsOf : ℕ → List TouchText → Option TwoTexts → Type 0
+TextsOf context group None = TellsOne context group
+TextsOf context group (Some texts) = HasTwoTexts group texts
+
+-- What was found in the groups of the first so many contexts.
+abbrev pub TextsIn : ℕ → ℕ → List (List TouchText) → Option TwoTexts → Type 0
+TextsIn keys contexts groups None = (context : ℕ) → context < contexts
+    → TellsOne context (group_at groups (close_group_of keys context))
+TextsIn keys contexts groups (Some texts) = (k : ℕ) × HasTwoTexts (group_at groups k) texts
+
+-- ---- computes that agree
+
+-- Both compute one place with this word and one text.
+abbrev pub compute_alike : Word → TouchText → TouchText → Bool
+compute_alike word t u =
+    t.changes && word_eq t.word word && (t.context == u.context) && (t.key == u.key) && agree t u
+
+-- So do two nodes that may run beside one another.
+abbrev pub alike_beside : PlanText → Word → TouchText → TouchText → Bool
+alike_beside plan word t u = compute_alike word t u && nodes_beside plan t.node u.node
+
+-- So does a touch of this group, which may meet others by what is noted.
+abbrev pub has_alike : PlanText → Word → List (Option Passed) → List Touch → TouchText → Bool
+has_alike plan word passed group t = word_eq t.word word && may_meet plan passed false t.node
+    && list_any (λ u. alike_beside plan word t (touch_view u)) group
+
+module _ (plan : PlanText) (word : Word) where
+  -- No two touches of the group do.
+  pub record NoneAlike (group : List TouchText) : Type 0 where
+    pub none : (t u : TouchText) → Contains group t → Contains group u → ¬ (alike_beside plan word t u ≡ true)
+
+  -- These two do, as a race would tell them.
+  pub record AreAlike (group : List TouchText) (race : Race) : Type 0 where
+    pub first : TouchText
+    pub second : TouchText
+    pub first_in : Contains group first
+    pub second_in : Contains group second
+    pub alike : alike_beside plan word first second ≡ true
+    pub is : race ≡ race_of first second
+
+  -- What was found in a group.
+  abbrev pub AlikeOf : List TouchText → Option Race → Type 0
+  AlikeOf group None = NoneAlike group
+  AlikeOf group (Some race) = AreAlike group race
+
+  -- What was found in groups.
+  abbrev pub AlikeIn : List (List TouchText) → Option Race → Type 0
+  AlikeIn groups None = (k : ℕ) → NoneAlike (group_at groups k)
+  AlikeIn groups (Some race) = (k : ℕ) × AreAlike (group_at groups k) race
+
+-- Whether nodes that may run beside one another compute the same value.
+abbrev pub SharesIn : PlanText → List (List TouchText) → Bool → Type 0
+SharesIn plan groups true = (word : Word) × (race : Race) × AlikeIn plan word groups (Some race)
+SharesIn plan groups false = AlikeIn plan words.Compute groups None × AlikeIn plan words.ComputeCloseable groups None

@@ -1,0 +1,81 @@
+-- What a plan has to meet so that each of its runs on several lanes that lacks nothing is proved to report the same as
+-- the plain run: exactly (`HasOneReport`), or but for who computed a value and who found it (`HasNearReport`). The law
+-- is `report_laws` of ext_one_report (JUnit 5 User Guide, "Parallel Execution"; JUnit has no such rule).
+use Rattle.std.specs.Prelude.{◌≡◌, ◌≢◌, ◌<◌, ◌≤◌, false, true, length, Contains}
+use Rattle.ext_model.specs.Sizes.{most_numbers}
+use Rattle.ext_plan.specs.Plans.{PlanText}
+use Rattle.ext_plan.specs.StepWords.{gives_value}
+use Rattle.ext_races.specs.declared.race.Race.{Race}
+use Rattle.ext_races.specs.Beside.{IsBeside}
+use Rattle.ext_races.specs.Clashes.{agree, may_fail}
+use Rattle.ext_races.specs.Races.{IsRace}
+use Rattle.ext_races.specs.Touches.{TouchText, keys_named, numbers_drawn, touches_made}
+
+-- ---- what nodes touch
+
+-- No node may change a place that a node touches that may run beside it. Two nodes that compute the same in one place
+-- do not keep apart, though they are no race.
+pub record KeepsApart (plan : PlanText) : Type 0 where
+  pub apart : (first second : TouchText) → Contains (touches_made plan) first → Contains (touches_made plan) second
+      → IsBeside plan first.node second.node → first.changes ≡ true
+      → first.context ≡ second.context → first.key ≢ second.key
+
+-- If nodes that may run beside one another touch one place that one of them may change, both compute the same value
+-- there.
+pub record SharesValues (plan : PlanText) : Type 0 where
+  pub alike : (first second : TouchText) → Contains (touches_made plan) first → Contains (touches_made plan) second
+      → IsBeside plan first.node second.node → first.changes ≡ true
+      → first.context ≡ second.context → first.key ≡ second.key → (agree first second ≡ true)
+      × (gives_value first.word ≡ true)
+
+-- All steps of a plan that may leave a value in one context whose close fails have one text, whatever their nodes. So a
+-- report doesn't show the order of closes.
+pub record ClosesTellOne (plan : PlanText) : Type 0 where
+  pub one : (first second : TouchText) → Contains (touches_made plan) first → Contains (touches_made plan) second
+      → may_fail first ≡ true → may_fail second ≡ true
+      → first.context ≡ second.context → first.text ≡ second.text
+
+-- ---- plans without races
+
+-- No two touches of one place agree, if the first may change it and their nodes may run beside one another. They would
+-- be two computes of the same value.
+pub record NoneAgree (plan : PlanText) : Type 0 where
+  pub none : (first second : TouchText) → Contains (touches_made plan) first → Contains (touches_made plan) second
+      → IsBeside plan first.node second.node → first.changes ≡ true
+      → first.context ≡ second.context → first.key ≡ second.key → agree first second ≡ false
+
+-- If two touches of one place agree, and their nodes may run beside one another, the first gives a value: they are not
+-- two computes that fail alike.
+pub record NoFailedComputesAgree (plan : PlanText) : Type 0 where
+  pub none : (first second : TouchText) → Contains (touches_made plan) first → Contains (touches_made plan) second
+      → IsBeside plan first.node second.node → first.changes ≡ true
+      → first.context ≡ second.context → first.key ≡ second.key → agree first second ≡ true
+      → gives_value first.word ≡ true
+
+-- In a plan without races whose touches never agree like this, the nodes keep apart.
+abbrev pub FreeKeepsApart : Type 0
+FreeKeepsApart = (plan : PlanText) → ((race : Race) → ¬ IsRace plan race) → NoneAgree plan → KeepsApart plan
+
+-- In a plan without races, in which no two failing computes agree, nodes share values.
+abbrev pub RaceFreeSharesValues : Type 0
+RaceFreeSharesValues = (plan : PlanText) → ((race : Race) → ¬ IsRace plan race) → NoFailedComputesAgree plan
+    → SharesValues plan
+
+-- ---- what the laws ask
+
+-- What the theorem asks of a plan: nodes that may run beside one another touch no place that one of them may change;
+-- values whose closes fail have one text in each context; and there are keys for all that its steps name, and more
+-- numbers than they may draw.
+pub record HasOneReport (plan : PlanText) : Type 0 where
+  pub apart : KeepsApart plan
+  pub closes : ClosesTellOne plan
+  pub keys : length (keys_named plan) ≤ plan.key_places
+  pub numbers : numbers_drawn plan < most_numbers plan.size
+
+-- What the second theorem asks of a plan whose nodes may compute the same value beside one another: if they touch one
+-- place that one of them may change, both compute the same value there. The rest is as above.
+pub record HasNearReport (plan : PlanText) : Type 0 where
+  pub alike : SharesValues plan
+  pub closes : ClosesTellOne plan
+  pub keys : length (keys_named plan) ≤ plan.key_places
+  pub numbers : numbers_drawn plan < most_numbers plan.size

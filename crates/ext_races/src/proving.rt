@@ -1,0 +1,264 @@
+//! What is proved of the report of a plan without races, by the groups of its touches.
+ghost use Rattle.std.specs.Prelude.{◌≡◌, ◌*◌, ◌+◌, ◌≤◌, IfOk, find, length, map, nat_le, option_map};
+ghost use Rattle.std.specs.List.{list_any};
+ghost use Rattle.ext_model.specs.Sizes.{most_numbers};
+ghost use Rattle.ext_plan.specs.Plans.{plan_view};
+ghost use Rattle.ext_plan.specs.ReadPlans.{ids_of_nodes};
+ghost use Rattle.ext_plan.specs.StepWords.{word_eq};
+ghost use Rattle.ext_races.specs.declared.race.Race.{Race};
+ghost use Rattle.ext_races.specs.InnerGroups.{HasGroups, IsGrouped, close_group_of, group_at, groups_view};
+ghost use Rattle.ext_races.specs.InnerProving.{AlikeIn, AlikeOf, SharesIn, TextsIn, TextsOf, alike_beside, fails_else, fails_in, has_alike};
+ghost use Rattle.ext_races.specs.Proving.{IsProved};
+ghost use Rattle.ext_races.specs.Races.{IsRace};
+ghost use Rattle.ext_races.specs.Touches.{keys_named, numbers_drawn, touch_view, touches_made};
+
+use crate::beside::nodes_beside;
+use crate::passing::{Passed, may_meet, none_passed, note_group};
+use crate::proved::{Gaps, Proved, TwoTexts};
+use crate::race::Race;
+use crate::touch::Touch;
+use ext_model::ContextNo;
+use ext_plan::{Plan, Word};
+use ext_tree::Tree;
+use std::alloc::{AllocError, Global};
+
+/// What is proved of a plan without races whose touches are in these groups, of which each context
+/// has one for each of `keys` keys and one more. `numbers` tells whether its steps may draw as many
+/// numbers as there are. Takes memory for what it notes at each context.
+pub(crate) fn proved_of<'p>(
+    alloc: Global,
+    plan: &Plan,
+    tree: &Tree,
+    keys: usize,
+    groups: &[Vec<Touch<'p>>],
+    numbers: bool,
+) -> Result<Proved<'p>, AllocError>
+    requires tree { tree.now ≡ ids_of_nodes (plan_view plan.now).nodes }
+    requires count { length groups.now ≡ length tree.now * (keys + 1) }
+    requires groups { IsGrouped keys (touches_made (plan_view plan.now)) (groups_view groups.now) }
+    requires free { (race : Race) → ¬ IsRace (plan_view plan.now) race }
+    requires places { length (keys_named (plan_view plan.now)) ≤ (plan_view plan.now).key_places }
+    requires numbers { numbers ≡ nat_le (most_numbers (plan_view plan.now).size) (numbers_drawn (plan_view plan.now)) }
+    ensures { IfOk result (IsProved (plan_view plan.now)) }
+{
+    let contexts = tree.len();
+    let mut noted = none_passed(alloc, contexts)?;
+    let closes = texts_in(groups, keys, contexts);
+    let fails = alike_in(plan, tree, groups, noted.as_mut_slice(), Word::ComputeFail);
+    let gaps = Gaps {
+        closes,
+        fails,
+        numbers,
+    };
+    if gaps.has_any() {
+        return Ok(Proved::Neither(gaps));
+    }
+    if shares_any(plan, tree, groups, noted.as_mut_slice()) {
+        return Ok(Proved::NearReport);
+    }
+    Ok(Proved::OneReport)
+}
+
+// ---- texts of closes
+
+/// The first context among these whose closes may fail with different texts, and two of the texts.
+fn texts_in<'p>(groups: &[Vec<Touch<'p>>], keys: usize, contexts: usize) -> Option<TwoTexts<'p>>
+    requires { length groups.now ≡ contexts * (keys + 1) }
+    ensures { TextsIn keys contexts (groups_view groups.now) result }
+{
+    for context in 0..contexts {
+        let texts = texts_of(context, close_group(groups, keys, context));
+        if texts.is_some() {
+            return texts;
+        }
+    }
+    None
+}
+
+/// The touches whose closes may fail in a context.
+fn close_group<'a, 'p>(
+    groups: &'a [Vec<Touch<'p>>],
+    keys: usize,
+    context: ContextNo,
+) -> &'a [Touch<'p>]
+    requires { HasGroups keys (length groups.now) context }
+    ensures { map touch_view result.now ≡ group_at (groups_view groups.now) (close_group_of keys context) }
+{
+    groups[context * (keys + 1) + keys].as_slice()
+}
+
+/// Two different texts with which closes of this context may fail, if the group has them.
+fn texts_of<'p>(context: ContextNo, group: &[Touch<'p>]) -> Option<TwoTexts<'p>>
+    ensures { TextsOf context (map touch_view group.now) result }
+{
+    let Some(first) = first_failing(group, context) else {
+        return None;
+    };
+    let Some(second) = other_failing(group, context, first.text) else {
+        return None;
+    };
+    Some(TwoTexts {
+        context,
+        first: first.text,
+        second: second.text,
+    })
+}
+
+/// The first touch of a group that may leave a value in this context whose close fails.
+fn first_failing<'a, 'p>(group: &'a [Touch<'p>], context: ContextNo) -> Option<&'a Touch<'p>>
+    ensures { option_map (λ t. t.now) result ≡ find (λ t. fails_in context (touch_view t)) group.now }
+{
+    group.iter().find(|touch| touch.fails_in(context))
+}
+
+/// The first whose close fails there with another text.
+fn other_failing<'a, 'p>(
+    group: &'a [Touch<'p>],
+    context: ContextNo,
+    text: &str,
+) -> Option<&'a Touch<'p>>
+    ensures { option_map (λ t. t.now) result ≡ find (λ t. fails_else context text.now (touch_view t)) group.now }
+{
+    group.iter().find(|touch| touch.fails_else(context, text))
+}
+
+// ---- computes that agree
+
+/// Tests whether nodes that may run beside one another compute the same value in one place.
+fn shares_any<'p>(
+    plan: &Plan,
+    tree: &Tree,
+    groups: &[Vec<Touch<'p>>],
+    passed: &mut [Option<Passed<'p>>],
+) -> bool
+    requires tree { tree.now ≡ ids_of_nodes (plan_view plan.now).nodes }
+    requires count { length passed.old ≡ length tree.now }
+    ensures { SharesIn (plan_view plan.now) (groups_view groups.now) result }
+{
+    if alike_in(plan, tree, groups, passed, Word::Compute).is_some() {
+        return true;
+    }
+    alike_in(plan, tree, groups, passed, Word::ComputeCloseable).is_some()
+}
+
+/// The first two computes of one place with this word and one text, by nodes that may run beside
+/// one another. What is noted in `passed` before does not matter.
+fn alike_in<'p>(
+    plan: &Plan,
+    tree: &Tree,
+    groups: &[Vec<Touch<'p>>],
+    passed: &mut [Option<Passed<'p>>],
+    word: Word,
+) -> Option<Race>
+    requires tree { tree.now ≡ ids_of_nodes (plan_view plan.now).nodes }
+    requires count { length passed.old ≡ length tree.now }
+    ensures { AlikeIn (plan_view plan.now) word (groups_view groups.now) result }
+{
+    for group in groups {
+        let alike = alike_of(plan, tree, group.as_slice(), passed, word);
+        if alike.is_some() {
+            return alike;
+        }
+    }
+    None
+}
+
+/// Two such computes of one group.
+fn alike_of<'p>(
+    plan: &Plan,
+    tree: &Tree,
+    group: &[Touch<'p>],
+    passed: &mut [Option<Passed<'p>>],
+    word: Word,
+) -> Option<Race>
+    requires tree { tree.now ≡ ids_of_nodes (plan_view plan.now).nodes }
+    requires count { length passed.old ≡ length tree.now }
+    ensures { AlikeOf (plan_view plan.now) word (map touch_view group.now) result }
+{
+    if !computes_any(group, word) {
+        return None;
+    }
+    note_group(plan, tree, group, passed);
+    let Some(first) = first_alike(plan, tree, group, passed, word) else {
+        return None;
+    };
+    let Some(second) = other_alike(plan, tree, group, first, word) else {
+        return None;
+    };
+    Some(first.race_with(second))
+}
+
+/// The first touch of a group with which another one agrees.
+fn first_alike<'a, 'p>(
+    plan: &Plan,
+    tree: &Tree,
+    group: &'a [Touch<'p>],
+    passed: &[Option<Passed<'p>>],
+    word: Word,
+) -> Option<&'a Touch<'p>>
+    requires { tree.now ≡ ids_of_nodes (plan_view plan.now).nodes }
+    ensures { option_map (λ t. t.now) result ≡ find (λ t. has_alike (plan_view plan.now) word passed.now group.now (touch_view t)) group.now }
+{
+    group
+        .iter()
+        .find(|touch| has_alike(plan, tree, group, passed, touch, word))
+}
+
+/// The first touch of a group that agrees with this one.
+fn other_alike<'a, 'p>(
+    plan: &Plan,
+    tree: &Tree,
+    group: &'a [Touch<'p>],
+    touch: &Touch<'p>,
+    word: Word,
+) -> Option<&'a Touch<'p>>
+    requires { tree.now ≡ ids_of_nodes (plan_view plan.now).nodes }
+    ensures { option_map (λ t. t.now) result ≡ find (λ u. alike_beside (plan_view plan.now) word (touch_view touch.now) (touch_view u)) group.now }
+{
+    group
+        .iter()
+        .find(|other| are_alike(plan, tree, touch, other, word))
+}
+
+/// Tests whether a touch of the group computes with this word.
+fn computes_any(group: &[Touch<'_>], word: Word) -> bool
+    ensures { result ≡ list_any (λ t. word_eq t.word word) group.now }
+{
+    group.iter().any(|touch| touch.word == word)
+}
+
+/// Tests whether a touch of the group computes the same as this one, by a node that may run beside
+/// its node.
+fn has_alike(
+    plan: &Plan,
+    tree: &Tree,
+    group: &[Touch<'_>],
+    passed: &[Option<Passed<'_>>],
+    touch: &Touch<'_>,
+    word: Word,
+) -> bool
+    requires { tree.now ≡ ids_of_nodes (plan_view plan.now).nodes }
+    ensures { result ≡ has_alike (plan_view plan.now) word passed.now group.now (touch_view touch.now) }
+{
+    touch.word == word
+        && may_meet(plan, tree, passed, touch.node, false)
+        && any_alike(plan, tree, group, touch, word)
+}
+
+/// Tests whether a touch of the group agrees with this one.
+fn any_alike(plan: &Plan, tree: &Tree, group: &[Touch<'_>], touch: &Touch<'_>, word: Word) -> bool
+    requires { tree.now ≡ ids_of_nodes (plan_view plan.now).nodes }
+    ensures { result ≡ list_any (λ u. alike_beside (plan_view plan.now) word (touch_view touch.now) (touch_view u)) group.now }
+{
+    group
+        .iter()
+        .any(|other| are_alike(plan, tree, touch, other, word))
+}
+
+/// Tests whether both compute the same with this word, by nodes that may run beside one another.
+fn are_alike(plan: &Plan, tree: &Tree, touch: &Touch<'_>, other: &Touch<'_>, word: Word) -> bool
+    requires { tree.now ≡ ids_of_nodes (plan_view plan.now).nodes }
+    ensures { result ≡ alike_beside (plan_view plan.now) word (touch_view touch.now) (touch_view other.now) }
+{
+    touch.computes_alike(other, word) && nodes_beside(plan, tree, touch.node, other.node)
+}

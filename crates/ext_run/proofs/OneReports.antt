@@ -1,0 +1,71 @@
+-- What a run that lacked nothing gave, of a plan that has one report.
+use Rattle.std.proofs.Common.{◌≡◌, ℕ, Bool, true, false, List, Some, Result, Ok, Err, IfOk, refl, ap, sym, subst, ◌∙◌}
+use Rattle.ext_lifecycle.specs.FaultTexts.{NodeOutcome}
+use Rattle.ext_plain.specs.PlainRun.{plain_run}
+use Rattle.ext_parallel.specs.Lacking.{may_have_lacked}
+use Rattle.ext_plan_reading.specs.Plans.{PlanText}
+use Rattle.ext_plan_reading.specs.ReadPlans.{IsReadPlan}
+use Rattle.ext_races.specs.OneReports.{HasNearReport, HasOneReport}
+use Rattle.ext_one_report.specs.OneReport.{AreNearReports}
+use Rattle.ext_one_report.specs.Shares.{AreToldNear, Open, shares_in}
+use Rattle.ext_one_report.proofs.Near.{near_report, one_report}
+use Rattle.ext_one_report.proofs.ToldLacks.{tells_lacks}
+use Rattle.ext_run.specs.declared.fault.RunFault.{RunFault}
+use Rattle.ext_run.specs.declared.options.Options.{Options}
+use Rattle.ext_run.specs.declared.runs.Output.{Output}
+use Rattle.ext_run.specs.InnerOutputs.{output_view}
+use Rattle.ext_run.specs.OneReports.{IsOneReport, ReportsOne, plain_report}
+use Rattle.ext_run.specs.Reports.{IsReportOf, IsRunBy, RunReport, run_report_of}
+
+-- ---- results
+
+-- results are near to themselves
+near_itself : (shares : ℕ → Open) (results : List NodeOutcome) → AreNearReports shares results results
+near_itself shares results = record {
+  count = refl;
+  near = λ node one other is is_too.
+      let both : Some one ≡ Some other = sym is ∙ is_too in
+      let same : one ≡ other = cc both in
+      subst (λ there. AreToldNear (shares node) one there) same (record { same = refl; counts = refl; exact = λ nothing. refl });
+}
+
+module _ (plan : PlanText) (lanes : ℕ) (results : List NodeOutcome) (lacked : Bool) (nothing : lacked ≡ false) (read : IsReadPlan plan) where
+  plain_is : IsRunBy true lanes plan results lacked → results ≡ plain_run plan
+  plain_is run = run.unlacked nothing
+
+  spared : (run : IsRunBy false lanes plan results lacked) → may_have_lacked results ≡ false
+  spared run = sym run.1 ∙ nothing
+
+  one_is : HasOneReport plan → (plain : Bool) → IsRunBy plain lanes plan results lacked → results ≡ plain_run plan
+  one_is has true run = plain_is run
+  one_is has false run =
+      let on = run.0 in
+      on.told ∙ one_report plan lanes on.ran read has on.run (tells_lacks plan lanes on.ran read on.run (ap may_have_lacked (sym on.told) ∙ spared run))
+
+  near_is : HasNearReport plan → (plain : Bool) → IsRunBy plain lanes plan results lacked → AreNearReports (shares_in plan) results (plain_run plan)
+  near_is has true run = subst (AreNearReports (shares_in plan) results) (plain_is run) (near_itself (shares_in plan) results)
+  near_is has false run =
+      let on = run.0 in
+      subst (λ here. AreNearReports (shares_in plan) here (plain_run plan)) (sym on.told)
+      (near_report plan lanes on.ran read has on.run (tells_lacks plan lanes on.ran read on.run (ap may_have_lacked (sym on.told) ∙ spared run)))
+
+-- ---- what was given
+
+module _ (options : Options) (plan : PlanText) (given : RunReport) (read : IsReadPlan plan) (of : IsReportOf options plan given) (nothing : given.lacked ≡ false) where
+  given_is : given ≡ run_report_of options.form plan of.results false
+  given_is = of.report_is ∙ ap (run_report_of options.form plan of.results) nothing
+
+  as_plain : of.results ≡ plain_run plan → given ≡ plain_report options.form plan
+  as_plain same = given_is ∙ ap (λ results. run_report_of options.form plan results false) same
+
+  is_one : IsOneReport options plan given
+  is_one = record {
+    plain = λ plain. as_plain (plain_is plan options.lanes of.results given.lacked nothing read (subst (λ b. IsRunBy b options.lanes plan of.results given.lacked) plain of.run));
+    one = λ has. as_plain (one_is plan options.lanes of.results given.lacked nothing read has options.plain of.run);
+    near = λ has. record { results = of.results; near = near_is plan options.lanes of.results given.lacked nothing read has options.plain of.run; report_is = given_is };
+  }
+
+pub ReportsOne-read : (options : Options) (r : Result Output RunFault) (text : PlanText) (read : Result PlanText RunFault) → IsReadPlan text → IfOk r (λ o. IsReportOf options text (output_view o)) → read ≡ Ok text
+    → IfOk r (λ o. ReportsOne options read (output_view o))
+ReportsOne-read options (Ok o) text read good given is = subst (λ p. ReportsOne options p (output_view o)) (sym is) (λ nothing. is_one options text (output_view o) good given nothing)
+ReportsOne-read options (Err e) text read good given is = tt
