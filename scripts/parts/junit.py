@@ -1,6 +1,9 @@
 """Runs the program with `--report junit` on each plan of examples/rows and examples/outside and on examples/junit.toml, as a plain run, and reads what it
 writes with Python's own XML parser. Each suite and each case has to be what the same run says in JSON, with the same message, and the numbers of cases those of
 the report's text: a container that failed or aborted itself is one case more. Prints a line for each plan.
+
+A plan's report has no times and no attempts. One that has them stands in crates/test_runs/src/timed.rt, whose test makes sure that it is written so: it is read here by
+the same parser, and has to have the times and attempts that the engine knew, as TIMED has them, in milliseconds.
 """
 import json
 import pathlib
@@ -15,6 +18,19 @@ TOP = pathlib.Path(__file__).resolve().parent.parent.parent
 FORBIDDEN = re.compile("[\0-\x08\x0b\x0c\x0e-\x1f\ufffe\uffff]")
 
 ELEMENTS = {"failed": "failure", "aborted": "skipped", "skipped": "skipped", "successful": None}
+
+TIMED_REPORT = TOP / "crates" / "test_runs" / "src" / "timed.rt"
+# Of each element what is known of its node: the time, and how many attempts failed before one passed. A container's own case has no time.
+TIMED = [
+    ("testsuites", None, 3_661_999, 0),
+    ("testsuite", "[engine:x]/[class:A]", 1304, 0),
+    ("testcase", "method:a()", 1234, 2),
+    ("testcase", "method:b()", 70, 0),
+    ("testcase", "method:c()", None, 0),
+    ("testsuite", "[engine:x]/[class:B]", 2005, 0),
+    ("testcase", "[engine:x]/[class:B]", None, 0),
+    ("testcase", "method:d()", None, 0),
+]
 
 
 def written(program, form, plan):
@@ -107,8 +123,35 @@ def check(program, plan):
     return sum(len(cases) for _, cases in suites)
 
 
+def timed_elements():
+    """The elements of the report with times that may have one: tag, name, milliseconds, and the attempts of which it tells, which have to be 1, 2 and so on."""
+    text = re.search(r'IN_XML: &str = r#"(.*?)"#;', TIMED_REPORT.read_text(encoding="utf-8"), re.DOTALL)[1]
+    for element in xml.etree.ElementTree.fromstring(text).iter():
+        if element.tag not in ("testsuites", "testsuite", "testcase"):
+            continue
+        told = [it.get("message") for it in element.findall("flakyFailure")]
+        if told != [f"failed at attempt {it + 1}" for it in range(len(told))]:
+            raise ValueError(f"{element.get('name')} tells of the attempts {told}")
+        time = element.get("time")
+        yield element.tag, element.get("name"), time and round(float(time) * 1000), len(told)
+
+
+def check_timed():
+    """Compares the report with times with what the engine knew."""
+    read = list(timed_elements())
+    if read != TIMED:
+        raise ValueError(f"what is told is {read} and not {TIMED}")
+    return len(read)
+
+
 def main(program, _words):
     passed = failed = 0
+    try:
+        told, good = f"{check_timed()} times and attempts in XML", True
+    except (ValueError, xml.etree.ElementTree.ParseError) as fault:
+        told, good = f"NOT as it has to be: {fault}", False
+    passed, failed = passed + good, failed + (not good)
+    print(f"times and attempts: {told}")
     for file in [TOP / "examples/junit.toml", *sorted((TOP / "examples/rows").glob("*.toml")), *sorted((TOP / "examples/outside").glob("*.toml"))]:
         try:
             told, good = f"{check(program, file.read_bytes())} cases in XML", True

@@ -1,6 +1,9 @@
 """Makes a folder with an engine by scripts/new-engine, and runs the engine and its tests there, unproved: it prints what its template has to print, and its status
 is 0.
 
+So does the engine of docs/GUIDE.md, whose author fills in scripts/parts/engine_listing/suite.rt and allows the handle Processes: beside this file there are at most 60 lines
+of code.
+
 The folder has the crates that the engine needs and no others, without their wrong bodies. One that is there and not empty, and what is no name of a crate, are refused
 by one line, and nothing is made. Whether it is proved is not tried here: `rt ci` in such a folder does that.
 """
@@ -12,6 +15,8 @@ import tempfile
 TOP = pathlib.Path(__file__).resolve().parent.parent.parent
 NAME = "my_engine"
 REPORT = TOP / "scripts" / "parts" / "engine_template" / "stdout"
+LISTING = TOP / "scripts" / "parts" / "engine_listing"
+LISTED, OWN_LINES, HANDLES = "shell", 60, "Handles allowed: Threads, Wait, Processes.\n"
 PASSED = re.compile(r"test result: ok\. [1-9]\d* passed; 0 failed")
 WRONG_NAMES = ["My_engine", "my-engine", "2nd", "ext_store", "regex"]
 
@@ -26,6 +31,27 @@ def is_refused(folder, name):
     ran = run(TOP / "scripts" / "new-engine", folder, name)
     after = list(folder.iterdir()) if folder.exists() else None
     return ran.returncode == 1 and re.fullmatch("new-engine: .*\n", ran.stderr) and before == after
+
+
+def code_lines(path):
+    """How many lines of the file are code, and no comment."""
+    return sum(it.strip() != "" and not it.strip().startswith("//") for it in path.read_text(encoding="utf-8").splitlines())
+
+
+def checks_of_listing(folder):
+    """Makes the engine of the listing in the folder, and checks it."""
+    made = run(TOP / "scripts" / "new-engine", folder, LISTED)
+    source = folder / "crates" / LISTED / "src"
+    if made.returncode != 0:
+        return {"the listed engine is made": False}
+    (source / "suite.rt").write_text((LISTING / "suite.rt").read_text(encoding="utf-8"), encoding="utf-8")
+    (folder / "HANDLES").write_text(HANDLES, encoding="utf-8")
+    ran = run("rt", "try", "--steps", "1", cwd=source.parent)
+    return {
+        "the listed engine prints its report": ran.stdout == (LISTING / "stdout").read_text(encoding="utf-8") and ran.returncode == 0,
+        "and tells its five slowest tests": len(re.findall(r"^took \d+\.\d{3} s \[engine:shell\]", ran.stderr, re.M)) == 5,
+        f"its author writes at most {OWN_LINES} lines": code_lines(source / "main.rt") + code_lines(source / "suite.rt") <= OWN_LINES,
+    }
 
 
 def main(_program, _words):
@@ -45,6 +71,7 @@ def main(_program, _words):
             "its exit status is 0": ran.returncode == 0,
             "its tests pass": tested.returncode == 0 and PASSED.search(tested.stdout + tested.stderr),
             "another folder or name is refused": refused,
+            **checks_of_listing(pathlib.Path(name) / "listing"),
         }
     for what, holds in checks.items():
         print(f"new engine: {what}: {'yes' if holds else 'NO'}")

@@ -10,6 +10,7 @@ use Rattle.std.proofs.lemmas.Grind.{flat_map-append}
 use Rattle.ext_tree.specs.Trees.{Id, id_at}
 use Rattle.ext_lifecycle.specs.declared.node_result.NodeResult.{NodeResult}
 use Rattle.ext_lifecycle.specs.FaultTexts.{NodeOutcome, result_view, results_view}
+use Rattle.ext_report.specs.declared.extra.Extra.{Extra}
 use Rattle.ext_report.specs.Groups.{AreGrouped, numbered, shown}
 use Rattle.ext_report.specs.Report.{outcome_part}
 use Rattle.ext_report.specs.TreeLines.{tree_head, tree_line}
@@ -36,16 +37,16 @@ shown_more tell refs i ref less is =
     rw (take_more refs i ref less, map-append, map-append, flat_map-append, ← is, append-nil) refl
 
 -- the lines of one context more
-pub told_more : (ids : List Id) (rs : List NodeResult) (groups : List (Vec (Bor NodeResult))) (order : List ℕ) (i : ℕ) (v : Vec (Bor NodeResult)) (refs : List (Bor NodeResult)) (id : Id) (text more : List ℕ)
+pub told_more : (extras : List Extra) (ids : List Id) (rs : List NodeResult) (groups : List (Vec (Bor NodeResult))) (order : List ℕ) (i : ℕ) (v : Vec (Bor NodeResult)) (refs : List (Bor NodeResult)) (id : Id) (text more : List ℕ)
     → All (λ k. k < length ids) order → i < length order → length groups ≡ length ids → v ≡ get_or groups (get_or order i 0) v → refs ≡ v.items → AreGrouped (length ids) (map (λ r. r.node) rs) rs groups
-    → id ≡ id_at ids (get_or order i 0) → text ≡ flat_map (tree_line ids (results_view rs)) (take i order) → more ≡ text ++ flat_map (λ r. tree_head id ++ outcome_part r) (results_view (shown refs))
-    → more ≡ flat_map (tree_line ids (results_view rs)) (take (i + 1) order)
-told_more ids rs groups order i v refs id text more all less count is same are at so_far told =
+    → id ≡ id_at ids (get_or order i 0) → text ≡ flat_map (tree_line extras ids (results_view rs)) (take i order) → more ≡ text ++ flat_map (λ r. tree_head id ++ outcome_part extras r) (results_view (shown refs))
+    → more ≡ flat_map (tree_line extras ids (results_view rs)) (take (i + 1) order)
+told_more extras ids rs groups order i v refs id text more all less count is same are at so_far told =
     let k = get_or order i 0 in
     let within : k < length ids = All-get_or (λ j. j < length ids) order i 0 less all in
     let kept = read_results (length ids) k rs groups v refs within (subst (λ n. k < n) (sym count) within) is same are in
-    let before = flat_map (tree_line ids (results_view rs)) (take i order) in
-    told ∙ ap (λ t. t ++ flat_map (λ r. tree_head id ++ outcome_part r) (results_view (shown refs))) so_far
-    ∙ ap (λ d. before ++ flat_map (λ r. tree_head d ++ outcome_part r) (results_view (shown refs))) at
-    ∙ ap (λ l. before ++ flat_map (λ r. tree_head (id_at ids k) ++ outcome_part r) l) kept
-    ∙ sym (context-more (tree_line ids (results_view rs)) order i k less (get_or_default order i 0 k less))
+    let before = flat_map (tree_line extras ids (results_view rs)) (take i order) in
+    told ∙ ap (λ t. t ++ flat_map (λ r. tree_head id ++ outcome_part extras r) (results_view (shown refs))) so_far
+    ∙ ap (λ d. before ++ flat_map (λ r. tree_head d ++ outcome_part extras r) (results_view (shown refs))) at
+    ∙ ap (λ l. before ++ flat_map (λ r. tree_head (id_at ids k) ++ outcome_part extras r) l) kept
+    ∙ sym (context-more (tree_line extras ids (results_view rs)) order i k less (get_or_default order i 0 k less))

@@ -6,4 +6,6 @@ mod ContextLines
 mod Indents
 mod XmlTexts
 mod Suites
+mod Attempts
+mod Slowest
 mod Types

@@ -17,9 +17,11 @@ use Rattle.ext_tree.proofs.TreeLaws.{parents_list_children}
 use Rattle.ext_lifecycle.specs.declared.node_result.NodeResult.{NodeResult}
 use Rattle.ext_lifecycle.specs.declared.status.Status.TheVariants as statuses
 use Rattle.ext_lifecycle.specs.FaultTexts.{NodeOutcome, result_view, results_view}
+use Rattle.ext_report.specs.declared.extra.Extra.{Extra}
 use Rattle.ext_report.specs.Groups.{numbered, shown}
 use Rattle.ext_report.specs.InnerSuites.{AreSuites, IsSuiteOf, cases_of, cases_view, counts_of_cases, suite_if_filled, suite_with}
-use Rattle.ext_report.specs.JunitXml.{case_element, count_attributes, counts_where, is_case, is_left_out, stands_in, suite_element, suite_if_any, suite_name}
+use Rattle.ext_report.specs.JunitCases.{case_element, suite_name}
+use Rattle.ext_report.specs.JunitXml.{count_attributes, counts_where, is_case, is_left_out, stands_in, suite_element, suite_if_any, suite_time}
 use Rattle.ext_report.specs.Report.{is_status}
 use Rattle.ext_report.proofs.Groupings.{group_read}
 
@@ -156,37 +158,37 @@ counts_are p rs =
     let skipped = count_kept p (λ r. is_left_out r.status) rs in
     λ i. record { tests = tests i; failures = failures i; skipped = skipped i }
 
-suite_is : (ids : List Id) (k : ℕ) (rs cases : List NodeOutcome) → cases ≡ cases_of ids k rs → suite_with ids k cases ≡ suite_element ids rs k
-suite_is ids k rs cases is =
-    let front = codes "  <testsuite name=\"" ++ suite_name (id_at ids k) ++ codes "\"" in
+suite_is : (extras : List Extra) (ids : List Id) (k : ℕ) (rs cases : List NodeOutcome) → cases ≡ cases_of ids k rs → suite_with extras ids k cases ≡ suite_element extras ids rs k
+suite_is extras ids k rs cases is =
+    let front = codes "  <testsuite name=\"" ++ suite_name (id_at ids k) ++ codes "\"" ++ suite_time extras k in
     let end = codes "  </testsuite>\n" in
     let counts = ap counts_of_cases is ∙ counts_are (stands_in (children_of ids k) k) rs in
-    let told = ap (flat_map (case_element ids k)) is ∙ flat_kept (stands_in (children_of ids k) k) (case_element ids k) rs in
-    ap (λ n. front ++ count_attributes n ++ flat_map (case_element ids k) cases ++ end) counts
+    let told = ap (flat_map (case_element extras ids k)) is ∙ flat_kept (stands_in (children_of ids k) k) (case_element extras ids k) rs in
+    ap (λ n. front ++ count_attributes n ++ flat_map (case_element extras ids k) cases ++ end) counts
     ∙ ap (λ l. front ++ count_attributes (counts_where (stands_in (children_of ids k) k) rs) ++ l ++ end) told
 
-suite_if : (ids : List Id) (k : ℕ) (rs cases : List NodeOutcome) → cases ≡ cases_of ids k rs → suite_if_filled ids k cases ≡ suite_if_any ids rs k
-suite_if ids k rs [] is =
+suite_if : (extras : List Extra) (ids : List Id) (k : ℕ) (rs cases : List NodeOutcome) → cases ≡ cases_of ids k rs → suite_if_filled extras ids k cases ≡ suite_if_any extras ids rs k
+suite_if extras ids k rs [] is =
     let count = length-filter (stands_in (children_of ids k) k) rs in
-    sym (cond-true (count_by (stands_in (children_of ids k) k) rs == 0) [] (suite_element ids rs k) (eq-eqb (count_by (stands_in (children_of ids k) k) rs) 0 (sym count ∙ ap length (sym is))))
-suite_if ids k rs (case ∷ more) is =
+    sym (cond-true (count_by (stands_in (children_of ids k) k) rs == 0) [] (suite_element extras ids rs k) (eq-eqb (count_by (stands_in (children_of ids k) k) rs) 0 (sym count ∙ ap length (sym is))))
+suite_if extras ids k rs (case ∷ more) is =
     let count = length-filter (stands_in (children_of ids k) k) rs in
     let long = ap length is in
-    suite_is ids k rs (case ∷ more) is
-    ∙ sym (cond-false (count_by (stands_in (children_of ids k) k) rs == 0) [] (suite_element ids rs k) (ne_eqb (count_by (stands_in (children_of ids k) k) rs) 0 (λ none. omega (arith, count, long, none))))
+    suite_is extras ids k rs (case ∷ more) is
+    ∙ sym (cond-false (count_by (stands_in (children_of ids k) k) rs == 0) [] (suite_element extras ids rs k) (ne_eqb (count_by (stands_in (children_of ids k) k) rs) 0 (λ none. omega (arith, count, long, none))))
 
-pub suite_told : (ids : List Id) (k : ℕ) (rs : List NodeOutcome) (cases : List (Bor NodeResult)) (text more : List ℕ) → cases_view cases ≡ cases_of ids k rs
-    → more ≡ text ++ suite_if_filled ids k (cases_view cases) → more ≡ text ++ suite_if_any ids rs k
-suite_told ids k rs cases text more is told = told ∙ ap (λ l. text ++ l) (suite_if ids k rs (cases_view cases) is)
+pub suite_told : (extras : List Extra) (ids : List Id) (k : ℕ) (rs : List NodeOutcome) (cases : List (Bor NodeResult)) (text more : List ℕ) → cases_view cases ≡ cases_of ids k rs
+    → more ≡ text ++ suite_if_filled extras ids k (cases_view cases) → more ≡ text ++ suite_if_any extras ids rs k
+suite_told extras ids k rs cases text more is told = told ∙ ap (λ l. text ++ l) (suite_if extras ids k rs (cases_view cases) is)
 
-pub none_filled : (ids : List Id) (k : ℕ) (cases : List (Bor NodeResult)) (text : List ℕ) → length cases ≡ 0 → text ≡ text ++ suite_if_filled ids k (cases_view cases)
-none_filled ids k [] text none = sym (append-nil text)
-none_filled ids k (case ∷ more) text none = absurd (omega (arith, none))
+pub none_filled : (extras : List Extra) (ids : List Id) (k : ℕ) (cases : List (Bor NodeResult)) (text : List ℕ) → length cases ≡ 0 → text ≡ text ++ suite_if_filled extras ids k (cases_view cases)
+none_filled extras ids k [] text none = sym (append-nil text)
+none_filled extras ids k (case ∷ more) text none = absurd (omega (arith, none))
 
-pub some_filled : (ids : List Id) (k : ℕ) (cases : List (Bor NodeResult)) (text more : List ℕ) → (length cases ≡ 0 → ⊥) → more ≡ text ++ suite_with ids k (cases_view cases)
-    → more ≡ text ++ suite_if_filled ids k (cases_view cases)
-some_filled ids k [] text more some told = absurd (some refl)
-some_filled ids k (case ∷ others) text more some told = told
+pub some_filled : (extras : List Extra) (ids : List Id) (k : ℕ) (cases : List (Bor NodeResult)) (text more : List ℕ) → (length cases ≡ 0 → ⊥) → more ≡ text ++ suite_with extras ids k (cases_view cases)
+    → more ≡ text ++ suite_if_filled extras ids k (cases_view cases)
+some_filled extras ids k [] text more some told = absurd (some refl)
+some_filled extras ids k (case ∷ others) text more some told = told
 
 -- the element of one case more
 pub cases_more : (tell : NodeOutcome → List ℕ) (cases : List (Bor NodeResult)) (i : ℕ) (case : Bor NodeResult) → i < length cases → case ≡ get_or cases i case

@@ -6,22 +6,24 @@ use Rattle.std.proofs.lemmas.Option.{get_or_from_slice_get}
 use Rattle.ext_ids.specs.Grammar.{Pair}
 use Rattle.ext_tree.specs.Trees.{Id}
 use Rattle.ext_lifecycle.specs.FaultTexts.{NodeOutcome}
-use Rattle.ext_report.specs.JunitXml.{segment_name, suite_if_any, suites_below, test_name}
+use Rattle.ext_report.specs.declared.extra.Extra.{Extra}
+use Rattle.ext_report.specs.JunitCases.{segment_name, test_name}
+use Rattle.ext_report.specs.JunitXml.{suite_if_any, suites_below}
 use Rattle.ext_report.specs.Xml.{xml_text}
 use Rattle.ext_report.proofs.Lines.{joined}
 
-pub no-suite : (ids : List Id) (rs : List NodeOutcome) (text : List ℕ) → text ≡ text ++ suites_below ids rs 0
+pub no-suite : (extras : List Extra) (ids : List Id) (rs : List NodeOutcome) (text : List ℕ) → text ≡ text ++ suites_below extras ids rs 0
 unfolding suites_below
-no-suite ids rs text = sym (append-nil text)
+no-suite extras ids rs text = sym (append-nil text)
 
-suites-suc : (ids : List Id) (rs : List NodeOutcome) (n : ℕ) → suites_below ids rs (suc n) ≡ suites_below ids rs n ++ suite_if_any ids rs n
+suites-suc : (extras : List Extra) (ids : List Id) (rs : List NodeOutcome) (n : ℕ) → suites_below extras ids rs (suc n) ≡ suites_below extras ids rs n ++ suite_if_any extras ids rs n
 unfolding suites_below
-suites-suc ids rs n = refl
+suites-suc extras ids rs n = refl
 
-pub suites-more : (ids : List Id) (rs : List NodeOutcome) (n : ℕ) (old text more : List ℕ) → text ≡ old ++ suites_below ids rs n → more ≡ text ++ suite_if_any ids rs n → more ≡ old ++ suites_below ids rs (n + 1)
-suites-more ids rs n old text more so is =
-    is ∙ ap (λ t. t ++ suite_if_any ids rs n) so ∙ append_assoc old (suites_below ids rs n) (suite_if_any ids rs n)
-    ∙ ap (λ s. old ++ s) (sym (suites-suc ids rs n) ∙ ap (suites_below ids rs) (sym (add-one n)))
+pub suites-more : (extras : List Extra) (ids : List Id) (rs : List NodeOutcome) (n : ℕ) (old text more : List ℕ) → text ≡ old ++ suites_below extras ids rs n → more ≡ text ++ suite_if_any extras ids rs n → more ≡ old ++ suites_below extras ids rs (n + 1)
+suites-more extras ids rs n old text more so is =
+    is ∙ ap (λ t. t ++ suite_if_any extras ids rs n) so ∙ append_assoc old (suites_below extras ids rs n) (suite_if_any extras ids rs n)
+    ∙ ap (λ s. old ++ s) (sym (suites-suc extras ids rs n) ∙ ap (suites_below extras ids rs) (sym (add-one n)))
 
 -- the last segment was written
 pub name-written : (id : List Pair) (n : ℕ) (segment : Pair) (old kind colon value : List ℕ) → n ≡ length id → slice_get id (n - 1) ≡ Some segment → kind ≡ old ++ xml_text segment.0

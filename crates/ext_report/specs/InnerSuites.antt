@@ -8,8 +8,10 @@ use Rattle.ext_lifecycle.specs.declared.node_result.NodeResult.{NodeResult}
 use Rattle.ext_lifecycle.specs.declared.status.Status.TheVariants as statuses
 use Rattle.ext_lifecycle.specs.FaultTexts.{NodeOutcome, result_view}
 use Rattle.ext_report.specs.declared.cases.CaseCounts.{CaseCounts}
+use Rattle.ext_report.specs.declared.extra.Extra.{Extra}
 use Rattle.ext_report.specs.Groups.{group_at}
-use Rattle.ext_report.specs.JunitXml.{case_element, count_attributes, is_left_out, stands_in, suite_name}
+use Rattle.ext_report.specs.JunitCases.{case_element, suite_name}
+use Rattle.ext_report.specs.JunitXml.{count_attributes, is_left_out, stands_in, suite_time}
 use Rattle.ext_report.specs.Report.{is_status}
 
 -- The result is a case of the suite of the context with this number and of no other; of none if no context has it.
@@ -37,13 +39,13 @@ counts_of_cases cases = record {
 }
 
 -- The element of a suite with these cases.
-abbrev pub suite_with : List Id → ℕ → List NodeOutcome → List ℕ
-suite_with ids suite cases =
-    codes "  <testsuite name=\"" ++ suite_name (id_at ids suite) ++ codes "\""
-    ++ count_attributes (counts_of_cases cases) ++ flat_map (case_element ids suite) cases
+abbrev pub suite_with : List Extra → List Id → ℕ → List NodeOutcome → List ℕ
+suite_with extras ids suite cases =
+    codes "  <testsuite name=\"" ++ suite_name (id_at ids suite) ++ codes "\"" ++ suite_time extras suite
+    ++ count_attributes (counts_of_cases cases) ++ flat_map (case_element extras ids suite) cases
     ++ codes "  </testsuite>\n"
 
 -- The same, if it has a case.
-abbrev pub suite_if_filled : List Id → ℕ → List NodeOutcome → List ℕ
-suite_if_filled ids suite [] = []
-suite_if_filled ids suite (first ∷ more) = suite_with ids suite (first ∷ more)
+abbrev pub suite_if_filled : List Extra → List Id → ℕ → List NodeOutcome → List ℕ
+suite_if_filled extras ids suite [] = []
+suite_if_filled extras ids suite (first ∷ more) = suite_with extras ids suite (first ∷ more)

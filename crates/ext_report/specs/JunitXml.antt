@@ -15,19 +15,27 @@
 -- Cases come in the order of the list.
 --
 -- A fault's text is the message of a `failure`, or of a `skipped` if the node aborted; it is followed in the element by
--- how many more faults and aborts came. No case is an `error`, and none has a time. A line ends with one line feed, and
--- numbers are decimal. `Xml` says how texts are written.
-use Rattle.std.specs.Prelude.{ℕ, zero, suc, ◌-◌, Bool, true, false, not, ◌==◌, ◌&&◌, ◌||◌, codes, List, [], ◌++◌, length, Option, Some, None, if◌then◌else◌}
-use Rattle.std.specs.List.{count_by, flat_map, list_any, slice_index_or}
+-- how many more faults and aborts came. No case is an `error`. A line ends with one line feed, and numbers are decimal.
+-- `JunitCases` has a case, and `Xml` how texts are written.
+--
+-- Where a node's time is known (`Extras`), the suite of its context has it, and so has the case of a test; the root's is
+-- that of all. A container that is a case has it at its suite alone. A successful case that took several attempts has a
+-- `flakyFailure` for each before the last, as with Surefire:
+--
+--         <testcase classname="[engine:x]/[class:A]" name="method:a()" time="0.123"><flakyFailure
+-- message="failed at attempt 1"/></testcase>
+use Rattle.std.specs.Prelude.{ℕ, zero, suc, Bool, true, false, not, ◌==◌, ◌&&◌, ◌||◌, codes, List, [], ◌++◌, length, if◌then◌else◌}
+use Rattle.std.specs.List.{count_by, flat_map, list_any}
 use Rattle.std.specs.Fmt.{decimal}
-use Rattle.ext_ids.specs.Grammar.{Pair, id_text}
 use Rattle.ext_tree.specs.Trees.{Id, children_of, id_at}
 use Rattle.ext_lifecycle.specs.declared.status.Status.{Status}
 use Rattle.ext_lifecycle.specs.declared.status.Status.TheVariants as statuses
 use Rattle.ext_lifecycle.specs.FaultTexts.{NodeOutcome}
 use Rattle.ext_report.specs.declared.cases.CaseCounts.{CaseCounts}
-use Rattle.ext_report.specs.Report.{further_faults, is_status, tells_fault}
-use Rattle.ext_report.specs.Xml.{xml_text}
+use Rattle.ext_report.specs.declared.extra.Extra.{Extra}
+use Rattle.ext_report.specs.Extras.{extra_of}
+use Rattle.ext_report.specs.JunitCases.{case_element, suite_name, time_attribute}
+use Rattle.ext_report.specs.Report.{is_status, tells_fault}
 
 -- ---- which cases there are
 
@@ -57,48 +65,11 @@ counts_where is_counted rs = record {
   skipped = count_by (λ r. is_counted r && is_left_out r.status) rs;
 }
 
--- ---- a case
-
--- What an element says of a fault, if there is one: its text, and the same with the number of further ones.
-abbrev pub fault_element : List ℕ → Option (List ℕ) → ℕ → List ℕ
-fault_element name None more = codes "<" ++ name ++ codes "/>"
-fault_element name (Some fault) more =
-    codes "<" ++ name ++ codes " message=\"" ++ xml_text fault ++ codes "\">" ++ xml_text fault ++ further_faults more
-    ++ codes "</" ++ name ++ codes ">"
-
--- How a case ended. A skipped one has no fault, and nothing is said of a successful one.
-abbrev pub ending_element : Status → Option (List ℕ) → ℕ → List ℕ
-ending_element statuses.Successful fault more = []
-ending_element statuses.Aborted fault more = fault_element (codes "skipped") fault more
-ending_element statuses.Failed fault more = fault_element (codes "failure") fault more
-ending_element statuses.Skipped fault more = codes "<skipped/>"
-
--- An id as it is written in XML.
-abbrev pub suite_name : Id → List ℕ
-suite_name id = xml_text (id_text id)
-
--- The type and the value of a segment, decoded.
-abbrev pub segment_name : Pair → List ℕ
-segment_name segment = xml_text segment.0 ++ codes ":" ++ xml_text segment.1
-
--- The last segment of an id.
-abbrev pub test_name : Id → List ℕ
-test_name id = segment_name (slice_index_or id (length id - 1) ([], []))
-
--- The suite's name, or that of a test in it.
-abbrev pub case_name : List Id → ℕ → ℕ → List ℕ
-case_name ids suite node = if node == suite then suite_name (id_at ids suite) else test_name (id_at ids node)
-
-abbrev pub case_element : List Id → ℕ → NodeOutcome → List ℕ
-case_element ids suite r =
-    codes "    <testcase classname=\"" ++ suite_name (id_at ids suite) ++ codes "\" name=\""
-    ++ case_name ids suite r.node ++ codes "\">"
-    ++ ending_element r.status r.fault r.more ++ codes "</testcase>\n"
-
-abbrev pub case_in : List Id → ℕ → NodeOutcome → List ℕ
-case_in ids suite r = if stands_in (children_of ids suite) suite r then case_element ids suite r else []
-
 -- ---- a suite
+
+abbrev pub case_in : List Extra → List Id → ℕ → NodeOutcome → List ℕ
+case_in extras ids suite r =
+    if stands_in (children_of ids suite) suite r then case_element extras ids suite r else []
 
 -- The counts of a suite, or of all, and the end of their line.
 unfoldable pub count_attributes : CaseCounts → List ℕ
@@ -106,25 +77,34 @@ count_attributes n =
     codes " tests=\"" ++ decimal n.tests ++ codes "\" failures=\"" ++ decimal n.failures
     ++ codes "\" errors=\"0\" skipped=\"" ++ decimal n.skipped ++ codes "\">\n"
 
-abbrev pub suite_element : List Id → List NodeOutcome → ℕ → List ℕ
-suite_element ids rs suite =
-    codes "  <testsuite name=\"" ++ suite_name (id_at ids suite) ++ codes "\""
+-- The time of a context's suite, or of all, at the root.
+abbrev pub suite_time : List Extra → ℕ → List ℕ
+suite_time extras suite = time_attribute (extra_of extras suite).millis
+
+abbrev pub suite_element : List Extra → List Id → List NodeOutcome → ℕ → List ℕ
+suite_element extras ids rs suite =
+    codes "  <testsuite name=\"" ++ suite_name (id_at ids suite) ++ codes "\"" ++ suite_time extras suite
     ++ count_attributes (counts_where (stands_in (children_of ids suite) suite) rs)
-    ++ flat_map (case_in ids suite) rs ++ codes "  </testsuite>\n"
+    ++ flat_map (case_in extras ids suite) rs ++ codes "  </testsuite>\n"
 
 -- The suite of a context, if it has a case.
-abbrev pub suite_if_any : List Id → List NodeOutcome → ℕ → List ℕ
-suite_if_any ids rs suite = if count_by (stands_in (children_of ids suite) suite) rs == 0 then []
-    else suite_element ids rs suite
+abbrev pub suite_if_any : List Extra → List Id → List NodeOutcome → ℕ → List ℕ
+suite_if_any extras ids rs suite = if count_by (stands_in (children_of ids suite) suite) rs == 0 then []
+    else suite_element extras ids rs suite
 
 -- The suites of the first `n` contexts, in order.
-unfoldable pub suites_below : List Id → List NodeOutcome → ℕ → List ℕ
-suites_below ids rs zero = []
-suites_below ids rs (suc n) = suites_below ids rs n ++ suite_if_any ids rs n
+unfoldable pub suites_below : List Extra → List Id → List NodeOutcome → ℕ → List ℕ
+suites_below extras ids rs zero = []
+suites_below extras ids rs (suc n) = suites_below extras ids rs n ++ suite_if_any extras ids rs n
 
 -- ---- the report
 
+-- The report where this is known of the nodes.
+abbrev pub junit_with : List Extra → List Id → List NodeOutcome → List ℕ
+junit_with extras ids rs =
+    codes "<?xml version=\"1.0\" encoding=\"UTF-8\"?>\n<testsuites" ++ suite_time extras 0
+    ++ count_attributes (counts_where is_case rs) ++ suites_below extras ids rs (length ids) ++ codes "</testsuites>\n"
+
+-- The report where nothing is.
 abbrev pub junit_xml : List Id → List NodeOutcome → List ℕ
-junit_xml ids rs =
-    codes "<?xml version=\"1.0\" encoding=\"UTF-8\"?>\n<testsuites" ++ count_attributes (counts_where is_case rs)
-    ++ suites_below ids rs (length ids) ++ codes "</testsuites>\n"
+junit_xml ids rs = junit_with [] ids rs

@@ -1,3 +1,5 @@
+pub mod Extras
+pub mod Slow
 pub mod Report
 pub mod Groups
 pub mod InnerPutting
@@ -5,6 +7,7 @@ pub mod InnerSuites
 pub mod JsonLines
 pub mod TreeLines
 pub mod Xml
+pub mod JunitCases
 pub mod JunitXml
 pub mod Forms
 pub mod Reserve

@@ -7,8 +7,8 @@
 -- ID is the node's id as it is written, STATUS one of `successful`, `aborted`, `failed` and `skipped`, and N how many
 -- values were closed with the node's context. If the node aborted or failed, its fault follows as `: FAULT`, and then
 -- ` (+M)` if M more faults and aborts came. A lack of memory is the fault `no memory`; a fault's text stands as it is.
--- Nothing follows the count if an aborted or failed node has no fault, or if a node is successful or skipped, whatever
--- its fault and its M.
+-- No fault follows if an aborted or failed node has none, or if a node is successful or skipped, whatever its fault and
+-- its M. What is known of the node beside its result comes before the fault (`Extras`).
 --
 -- Two lines of totals follow, the first of tests alone, the second of all nodes:
 --
@@ -23,6 +23,8 @@ use Rattle.ext_ids.specs.Grammar.{Pair, id_text}
 use Rattle.ext_lifecycle.specs.declared.status.Status.{Status}
 use Rattle.ext_lifecycle.specs.declared.status.Status.TheVariants as statuses
 use Rattle.ext_lifecycle.specs.FaultTexts.{NodeOutcome}
+use Rattle.ext_report.specs.declared.extra.Extra.{Extra}
+use Rattle.ext_report.specs.Extras.{extra_of, extra_part}
 use Rattle.ext_report.specs.declared.totals.TestCounts.{TestCounts}
 use Rattle.ext_report.specs.declared.totals.NodeSums.{NodeSums}
 
@@ -48,21 +50,22 @@ tells_fault statuses.Aborted = true
 tells_fault statuses.Failed = true
 tells_fault statuses.Skipped = false
 
--- What follows the count of closed values.
+-- The fault of a node's line.
 abbrev pub fault_part : NodeOutcome → List ℕ
 fault_part r = if tells_fault r.status then fault_and_further r.fault r.more else []
 
 -- How a node ended, and the end of its line.
-abbrev pub outcome_part : NodeOutcome → List ℕ
-outcome_part r =
-    codes " " ++ status_text r.status ++ codes " closed " ++ decimal r.closed ++ fault_part r ++ codes "\n"
+abbrev pub outcome_part : List Extra → NodeOutcome → List ℕ
+outcome_part extras r =
+    codes " " ++ status_text r.status ++ codes " closed " ++ decimal r.closed
+    ++ extra_part r.status (extra_of extras r.node) ++ fault_part r ++ codes "\n"
 
-abbrev pub line_of : List Pair → NodeOutcome → List ℕ
-line_of id r = id_text id ++ outcome_part r
+abbrev pub line_of : List Extra → List Pair → NodeOutcome → List ℕ
+line_of extras id r = id_text id ++ outcome_part extras r
 
 -- The lines of the nodes, in the order of the list.
-abbrev pub lines_of : List (List Pair) → List NodeOutcome → List ℕ
-lines_of ids rs = flat_map (λ r. line_of (slice_index_or ids r.node []) r) rs
+abbrev pub lines_of : List Extra → List (List Pair) → List NodeOutcome → List ℕ
+lines_of extras ids rs = flat_map (λ r. line_of extras (slice_index_or ids r.node []) r) rs
 
 abbrev pub is_status : Status → Status → Bool
 is_status statuses.Successful statuses.Successful = true
@@ -105,8 +108,13 @@ sums_line n =
     codes "computed " ++ decimal n.computed ++ codes " found " ++ decimal n.found
     ++ codes " closed " ++ decimal n.closed ++ codes " close faults " ++ decimal n.close_faults ++ codes "\n"
 
+-- The report where this is known of the nodes.
+abbrev pub report_with : List Extra → List (List Pair) → List NodeOutcome → List ℕ
+report_with extras ids rs = lines_of extras ids rs ++ counts_line (counts_of rs) ++ sums_line (sums_of rs)
+
+-- The report where nothing is.
 abbrev pub report_of : List (List Pair) → List NodeOutcome → List ℕ
-report_of ids rs = lines_of ids rs ++ counts_line (counts_of rs) ++ sums_line (sums_of rs)
+report_of ids rs = report_with [] ids rs
 
 -- A node failed, whether a test or a container.
 abbrev pub any_failed : List NodeOutcome → Bool

@@ -10,6 +10,7 @@ use Rattle.std.specs.List.{flat_map, slice_index_or}
 use Rattle.ext_ids.specs.Grammar.{Pair}
 use Rattle.ext_tree.specs.Trees.{Id, id_at, children_of}
 use Rattle.ext_lifecycle.specs.FaultTexts.{NodeOutcome}
+use Rattle.ext_report.specs.declared.extra.Extra.{Extra}
 use Rattle.ext_report.specs.Report.{outcome_part, counts_line, counts_of, sums_line, sums_of}
 
 -- A context and those below it, down to `levels` levels. Each comes before those below it, and siblings come in the
@@ -36,9 +37,15 @@ unfoldable pub tree_head : Id → List ℕ
 tree_head id = indent (length id - 1) ++ segment_words (slice_index_or id (length id - 1) ([], []))
 
 -- The context's lines, one for each result of it.
-abbrev pub tree_line : List Id → List NodeOutcome → ℕ → List ℕ
-tree_line ids rs context =
-    flat_map (λ r. tree_head (id_at ids context) ++ outcome_part r) (filter (λ r. r.node == context) rs)
+abbrev pub tree_line : List Extra → List Id → List NodeOutcome → ℕ → List ℕ
+tree_line extras ids rs context =
+    flat_map (λ r. tree_head (id_at ids context) ++ outcome_part extras r) (filter (λ r. r.node == context) rs)
 
+-- The tree where this is known of the nodes.
+abbrev pub tree_with : List Extra → List Id → List NodeOutcome → List ℕ
+tree_with extras ids rs =
+    flat_map (tree_line extras ids rs) (depth_first ids) ++ counts_line (counts_of rs) ++ sums_line (sums_of rs)
+
+-- The tree where nothing is.
 abbrev pub tree_of : List Id → List NodeOutcome → List ℕ
-tree_of ids rs = flat_map (tree_line ids rs) (depth_first ids) ++ counts_line (counts_of rs) ++ sums_line (sums_of rs)
+tree_of ids rs = tree_with [] ids rs

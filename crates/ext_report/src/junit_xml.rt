@@ -3,10 +3,12 @@ ghost use Rattle.std.specs.Prelude.{◌≡◌, ◌<◌, ◌++◌, length, option
 ghost use Rattle.std.specs.List.{flat_map};
 ghost use Rattle.ext_lifecycle.specs.FaultTexts.{fault_text, result_view, results_view};
 ghost use Rattle.ext_report.specs.InnerSuites.{cases_view, suite_if_filled, suite_with};
-ghost use Rattle.ext_report.specs.JunitXml.{case_element, case_name, ending_element, fault_element, junit_xml, suite_name, test_name};
+ghost use Rattle.ext_report.specs.JunitCases.{case_element, case_end, case_name, case_time, ending_element, fault_element, flaky_element, flaky_elements, suite_name, test_name, time_attribute};
+ghost use Rattle.ext_report.specs.JunitXml.{junit_with, junit_xml, suite_time};
 ghost use Rattle.ext_tree.specs.Trees.{id_at};
 
 use crate::cases::{CaseCounts, cases_by_suite};
+use crate::extra::{Extra, extra_of, write_seconds};
 use crate::line::{fault_text, write_further};
 use crate::xml::write_xml;
 use ext_ids::UniqueId;
@@ -20,8 +22,7 @@ use std::alloc::{AllocError, Global};
 ///
 /// Each context whose children have tests is a suite, and each of these tests a case of it. A
 /// container that failed or aborted itself is a case of its own suite. The fault of a failed node
-/// is the message of a `failure`, and that of an aborted one the message of a `skipped`. No case
-/// has a time.
+/// is the message of a `failure`, and that of an aborted one the message of a `skipped`.
 ///
 /// Takes memory for the text and for a list of each suite's cases, and fails with `AllocError` only
 /// if that is refused.
@@ -34,12 +35,33 @@ pub fn junit_report(
     ensures { IfOk result
         (λ text. string_bytes text ≡ junit_xml tree.now (results_view results.now)) }
 {
+    junit_report_with(alloc, tree, results, &[])
+}
+
+/// The same, with what is known of the nodes beside their results. The extras stand in the order of
+/// the contexts; there may be fewer, or none.
+///
+/// Where a node's time is known, the suite of its context has it, and so has the case of a test.
+/// The time of context 0 is that of all suites. A successful case that took several attempts has a
+/// `flakyFailure` for each before the last.
+pub fn junit_report_with(
+    alloc: Global,
+    tree: &Tree,
+    results: &[NodeResult],
+    extras: &[Extra],
+) -> Result<String, AllocError>
+    requires in_tree { All (λ r. r.node < length tree.now) results.now }
+    ensures { IfOk result
+        (λ text. string_bytes text ≡ junit_with extras.now tree.now (results_view results.now)) }
+{
     let suites = cases_by_suite(alloc, tree, results)?;
     let mut text = String::new(alloc);
     text.push_str("<?xml version=\"1.0\" encoding=\"UTF-8\"?>\n<testsuites")?;
+    write_suite_time(&mut text, extras, 0)?;
     CaseCounts::among(results).write_to(&mut text)?;
     for suite in 0..tree.len() {
-        write_suite(alloc, &mut text, tree, suites[suite].as_slice(), suite)?;
+        let cases = suites[suite].as_slice();
+        write_suite(alloc, &mut text, extras, tree, cases, suite)?;
     }
     text.push_str("</testsuites>\n")?;
     Ok(text)
@@ -49,6 +71,7 @@ pub fn junit_report(
 fn write_suite(
     alloc: Global,
     text: &mut String,
+    extras: &[Extra],
     tree: &Tree,
     cases: &[&NodeResult],
     suite: ContextNo,
@@ -56,12 +79,12 @@ fn write_suite(
     requires suite { suite < length tree.now }
     requires in_tree { All (λ r. r.node < length tree.now) (cases_view cases.now) }
     ensures { OnOk result
-        (string_bytes text.new ≡ string_bytes text.old ++ suite_if_filled tree.now suite (cases_view cases.now)) }
+        (string_bytes text.new ≡ string_bytes text.old ++ suite_if_filled extras.now tree.now suite (cases_view cases.now)) }
 {
     if cases.is_empty() {
         return Ok(());
     }
-    write_filled_suite(alloc, text, tree, cases, suite)?;
+    write_filled_suite(alloc, text, extras, tree, cases, suite)?;
     Ok(())
 }
 
@@ -69,6 +92,7 @@ fn write_suite(
 fn write_filled_suite(
     alloc: Global,
     text: &mut String,
+    extras: &[Extra],
     tree: &Tree,
     cases: &[&NodeResult],
     suite: ContextNo,
@@ -76,16 +100,40 @@ fn write_filled_suite(
     requires suite { suite < length tree.now }
     requires in_tree { All (λ r. r.node < length tree.now) (cases_view cases.now) }
     ensures { OnOk result
-        (string_bytes text.new ≡ string_bytes text.old ++ suite_with tree.now suite (cases_view cases.now)) }
+        (string_bytes text.new ≡ string_bytes text.old ++ suite_with extras.now tree.now suite (cases_view cases.now)) }
 {
     let name = suite_name(alloc, tree.id(suite))?;
     text.push_str("  <testsuite name=\"")?;
     text.push_str(name.as_str())?;
     text.push_str("\"")?;
+    write_suite_time(text, extras, suite)?;
     CaseCounts::of(cases).write_to(text)?;
-    write_cases(text, tree, cases, suite, name.as_str())?;
+    write_cases(text, extras, tree, cases, suite, name.as_str())?;
     text.push_str("  </testsuite>\n")?;
     Ok(())
+}
+
+/// Writes the time of a context's suite at the end of a text, where it is known.
+fn write_suite_time(text: &mut String, extras: &[Extra], suite: ContextNo) -> Result<(), AllocError>
+    ensures { OnOk result
+        (string_bytes text.new ≡ string_bytes text.old ++ suite_time extras.now suite) }
+{
+    let extra = extra_of(extras, suite);
+    write_time(text, extra.millis)
+}
+
+/// Writes a time as an attribute at the end of a text, where it is known.
+fn write_time(text: &mut String, millis: Option<u64>) -> Result<(), AllocError>
+    ensures { OnOk result (string_bytes text.new ≡ string_bytes text.old ++ time_attribute millis) }
+{
+    match millis {
+        None => Ok(()),
+        Some(millis) => {
+            text.push_str(" time=\"")?;
+            write_seconds(text, millis)?;
+            text.push_str("\"")
+        }
+    }
 }
 
 /// The id of a context, as it is written in XML.
@@ -102,6 +150,7 @@ fn suite_name(alloc: Global, id: &UniqueId) -> Result<String, AllocError>
 /// Writes the cases of a suite with this name at the end of a text.
 fn write_cases(
     text: &mut String,
+    extras: &[Extra],
     tree: &Tree,
     cases: &[&NodeResult],
     suite: ContextNo,
@@ -110,10 +159,10 @@ fn write_cases(
     requires in_tree { All (λ r. r.node < length tree.now) (cases_view cases.now) }
     requires name { name.now ≡ suite_name (id_at tree.now suite) }
     ensures { OnOk result
-        (string_bytes text.new ≡ string_bytes text.old ++ flat_map (case_element tree.now suite) (cases_view cases.now)) }
+        (string_bytes text.new ≡ string_bytes text.old ++ flat_map (case_element extras.now tree.now suite) (cases_view cases.now)) }
 {
     for case in cases {
-        write_case(text, tree, suite, name, case)?;
+        write_case(text, extras, tree, suite, name, case)?;
     }
     Ok(())
 }
@@ -121,6 +170,7 @@ fn write_cases(
 /// Writes a case of a suite with this name at the end of a text.
 fn write_case(
     text: &mut String,
+    extras: &[Extra],
     tree: &Tree,
     suite: ContextNo,
     name: &str,
@@ -129,15 +179,37 @@ fn write_case(
     requires in_tree { node.now.node < length tree.now }
     requires name { name.now ≡ suite_name (id_at tree.now suite) }
     ensures { OnOk result
-        (string_bytes text.new ≡ string_bytes text.old ++ case_element tree.now suite (result_view node.now)) }
+        (string_bytes text.new ≡ string_bytes text.old ++ case_element extras.now tree.now suite (result_view node.now)) }
 {
     text.push_str("    <testcase classname=\"")?;
     text.push_str(name)?;
     text.push_str("\" name=\"")?;
     write_case_name(text, tree, suite, name, node.node)?;
-    text.push_str("\">")?;
-    write_ending(text, node)?;
+    write_case_end(text, extra_of(extras, node.node), node)?;
+    Ok(())
+}
+
+/// Writes what follows a case's name at the end of a text.
+fn write_case_end(text: &mut String, extra: Extra, node: &NodeResult) -> Result<(), AllocError>
+    ensures { OnOk result
+        (string_bytes text.new ≡ string_bytes text.old ++ case_end extra (result_view node.now)) }
+{
+    text.push_str("\"")?;
+    write_case_time(text, node.is_test, extra.millis)?;
+    text.push_str(">")?;
+    write_ending(text, extra.attempt, node)?;
     text.push_str("</testcase>\n")?;
+    Ok(())
+}
+
+/// Writes the time of a case at the end of a text, if it is a test, and where its time is known.
+fn write_case_time(text: &mut String, is_test: bool, millis: Option<u64>) -> Result<(), AllocError>
+    ensures { OnOk result
+        (string_bytes text.new ≡ string_bytes text.old ++ case_time is_test millis) }
+{
+    if is_test {
+        return write_time(text, millis);
+    }
     Ok(())
 }
 
@@ -171,18 +243,40 @@ fn write_test_name(text: &mut String, id: &UniqueId) -> Result<(), AllocError>
     Ok(())
 }
 
-/// Writes how a case ended at the end of a text: nothing if it is successful.
-fn write_ending(text: &mut String, node: &NodeResult) -> Result<(), AllocError>
+/// Writes how a case ended at the end of a text: of a successful one, the attempts before it passed.
+fn write_ending(text: &mut String, attempt: u32, node: &NodeResult) -> Result<(), AllocError>
     ensures { OnOk result
         (string_bytes text.new ≡ string_bytes text.old
-        ++ ending_element node.now.status (option_map fault_text node.now.fault) node.now.more) }
+        ++ ending_element attempt node.now.status (option_map fault_text node.now.fault) node.now.more) }
 {
     match node.status {
-        Status::Successful => Ok(()),
+        Status::Successful => write_flaky(text, attempt.saturating_sub(1)),
         Status::Aborted => write_fault_if_any(text, "skipped", node),
         Status::Failed => write_fault_if_any(text, "failure", node),
         Status::Skipped => text.push_str("<skipped/>"),
     }
+}
+
+/// Writes an element for each of the first attempts, so many, at the end of a text.
+fn write_flaky(text: &mut String, attempts: u32) -> Result<(), AllocError>
+    ensures { OnOk result
+        (string_bytes text.new ≡ string_bytes text.old ++ flaky_elements attempts) }
+{
+    for before in 0..attempts {
+        write_failed_attempt(text, before + 1)?;
+    }
+    Ok(())
+}
+
+/// Writes the element of an attempt that failed at the end of a text.
+fn write_failed_attempt(text: &mut String, attempt: u32) -> Result<(), AllocError>
+    ensures { OnOk result
+        (string_bytes text.new ≡ string_bytes text.old ++ flaky_element attempt) }
+{
+    write!(
+        text,
+        "<flakyFailure message=\"failed at attempt {attempt}\"/>"
+    )
 }
 
 /// Writes an element with a node's fault, if it has one, at the end of a text.

@@ -5,6 +5,7 @@
 #![tactic(auto)]
 
 mod cases;
+mod extra;
 mod form;
 mod grouping;
 mod is_status;
@@ -13,15 +14,18 @@ mod junit_xml;
 mod line;
 mod report;
 mod reserve;
+mod slow;
 mod totals;
 mod tree_lines;
 mod xml;
 
 pub use ext_lifecycle::{NodeResult, Status};
+pub use extra::Extra;
 pub use form::{ReportForm, report_in};
 pub use grouping::grouped;
 pub use json_lines::json_report;
-pub use junit_xml::junit_report;
-pub use report::{any_failed, report_text};
+pub use junit_xml::{junit_report, junit_report_with};
+pub use report::{any_failed, report_text, report_text_with};
 pub use reserve::leave_out_reserve;
-pub use tree_lines::{depth_first, tree_report, write_head};
+pub use slow::slowest_tests;
+pub use tree_lines::{depth_first, tree_report, tree_report_with, write_head};

@@ -3,6 +3,7 @@ ghost use Rattle.std.specs.Prelude.{◌≡◌, ◌++◌, string_bytes, OnOk, Som
 ghost use Rattle.ext_lifecycle.specs.FaultTexts.{fault_text, result_view};
 ghost use Rattle.ext_report.specs.Report.{status_text, fault_part, fault_and_further, further_faults, line_of, outcome_part};
 
+use crate::extra::{Extra, extra_of, write_extra};
 use ext_ids::UniqueId;
 use ext_lifecycle::{NodeResult, Status};
 use ext_model::Fault;
@@ -11,24 +12,30 @@ use std::alloc::AllocError;
 /// Writes the line of a node at the end of a text.
 pub(crate) fn write_line(
     text: &mut String,
+    extras: &[Extra],
     id: &UniqueId,
     node: &NodeResult,
 ) -> Result<(), AllocError>
     ensures { OnOk result
-        (string_bytes text.new ≡ string_bytes text.old ++ line_of id.now (result_view node.now)) }
+        (string_bytes text.new ≡ string_bytes text.old ++ line_of extras.now id.now (result_view node.now)) }
 {
     id.write_to(text)?;
-    write_outcome(text, node)
+    write_outcome(text, extras, node)
 }
 
 /// Writes a node's outcome, which ends its line, at the end of a text.
-pub(crate) fn write_outcome(text: &mut String, node: &NodeResult) -> Result<(), AllocError>
+pub(crate) fn write_outcome(
+    text: &mut String,
+    extras: &[Extra],
+    node: &NodeResult,
+) -> Result<(), AllocError>
     ensures { OnOk result
-        (string_bytes text.new ≡ string_bytes text.old ++ outcome_part (result_view node.now)) }
+        (string_bytes text.new ≡ string_bytes text.old ++ outcome_part extras.now (result_view node.now)) }
 {
     let status = status_text(node.status);
     let closed = node.closed;
     write!(text, " {status} closed {closed}")?;
+    write_extra(text, node.status, extra_of(extras, node.node))?;
     write_fault(text, node)?;
     text.push('\n')
 }

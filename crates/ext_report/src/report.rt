@@ -1,8 +1,9 @@
 //! The report of a run.
 ghost use Rattle.std.specs.Prelude.{◌≡◌, ◌<◌, length, string_bytes, IfOk, All};
 ghost use Rattle.ext_lifecycle.specs.FaultTexts.{results_view};
-ghost use Rattle.ext_report.specs.Report.{report_of, any_failed};
+ghost use Rattle.ext_report.specs.Report.{report_of, report_with, any_failed};
 
+use crate::extra::Extra;
 use crate::is_status::is_status;
 use crate::line::write_line;
 use crate::totals::{NodeSums, TestCounts};
@@ -20,9 +21,25 @@ pub fn report_text(alloc: Global, tree: &Tree, results: &[NodeResult]) -> Result
     ensures { IfOk result
         (λ text. string_bytes text ≡ report_of tree.now (results_view results.now)) }
 {
+    report_text_with(alloc, tree, results, &[])
+}
+
+/// The same, where the line of a node also tells what is known of it beside its result: how long it
+/// took, and at which attempt it passed. The extras stand in the order of the contexts; there may
+/// be fewer, or none.
+pub fn report_text_with(
+    alloc: Global,
+    tree: &Tree,
+    results: &[NodeResult],
+    extras: &[Extra],
+) -> Result<String, AllocError>
+    requires in_tree { All (λ r. r.node < length tree.now) results.now }
+    ensures { IfOk result
+        (λ text. string_bytes text ≡ report_with extras.now tree.now (results_view results.now)) }
+{
     let mut text = String::new(alloc);
     for node in results {
-        write_line(&mut text, tree.id(node.node), node)?;
+        write_line(&mut text, extras, tree.id(node.node), node)?;
     }
     TestCounts::of(results).write_to(&mut text)?;
     NodeSums::of(results).write_to(&mut text)?;

@@ -4,9 +4,10 @@ ghost use Rattle.std.specs.List.{flat_map};
 ghost use Rattle.ext_lifecycle.specs.FaultTexts.{result_view, results_view};
 ghost use Rattle.ext_report.specs.Groups.{AreGrouped, shown};
 ghost use Rattle.ext_report.specs.Report.{outcome_part};
-ghost use Rattle.ext_report.specs.TreeLines.{depth_first, depth_first_from, indent, segment_words, tree_head, tree_of};
+ghost use Rattle.ext_report.specs.TreeLines.{depth_first, depth_first_from, indent, segment_words, tree_head, tree_of, tree_with};
 ghost use Rattle.ext_tree.specs.Trees.{id_at};
 
+use crate::extra::Extra;
 use crate::grouping::grouped;
 use crate::line::write_outcome;
 use crate::totals::{NodeSums, TestCounts};
@@ -29,12 +30,26 @@ pub fn tree_report(alloc: Global, tree: &Tree, results: &[NodeResult]) -> Result
     ensures { IfOk result
         (λ text. string_bytes text ≡ tree_of tree.now (results_view results.now)) }
 {
+    tree_report_with(alloc, tree, results, &[])
+}
+
+/// The same, where the line of a node also tells what is known of it beside its result, as in
+/// `report_text_with`.
+pub fn tree_report_with(
+    alloc: Global,
+    tree: &Tree,
+    results: &[NodeResult],
+    extras: &[Extra],
+) -> Result<String, AllocError>
+    ensures { IfOk result
+        (λ text. string_bytes text ≡ tree_with extras.now tree.now (results_view results.now)) }
+{
     let order = depth_first(alloc, tree)?;
     let of_contexts = results_by_context(alloc, tree, results)?;
     let mut text = String::new(alloc);
     for context in order.as_slice() {
         let of_context = of_contexts[*context].as_slice();
-        write_tree_lines(&mut text, tree.id(*context), of_context)?;
+        write_tree_lines(&mut text, extras, tree.id(*context), of_context)?;
     }
     TestCounts::of(results).write_to(&mut text)?;
     NodeSums::of(results).write_to(&mut text)?;
@@ -103,27 +118,33 @@ fn push_from(
 /// Writes a line for each of these results of the context with this id, at the end of a text.
 fn write_tree_lines(
     text: &mut String,
+    extras: &[Extra],
     id: &UniqueId,
     results: &[&NodeResult],
 ) -> Result<(), AllocError>
     ensures { OnOk result
         (string_bytes text.new ≡ string_bytes text.old
-        ++ flat_map (λ r. tree_head id.now ++ outcome_part r) (results_view (shown results.now))) }
+        ++ flat_map (λ r. tree_head id.now ++ outcome_part extras.now r) (results_view (shown results.now))) }
 {
     for node in results {
-        write_tree_line(text, id, node)?;
+        write_tree_line(text, extras, id, node)?;
     }
     Ok(())
 }
 
 /// Writes the line of a result of the context with this id, at the end of a text.
-fn write_tree_line(text: &mut String, id: &UniqueId, node: &NodeResult) -> Result<(), AllocError>
+fn write_tree_line(
+    text: &mut String,
+    extras: &[Extra],
+    id: &UniqueId,
+    node: &NodeResult,
+) -> Result<(), AllocError>
     ensures { OnOk result
         (string_bytes text.new ≡ string_bytes text.old
-        ++ (tree_head id.now ++ outcome_part (result_view node.now))) }
+        ++ (tree_head id.now ++ outcome_part extras.now (result_view node.now))) }
 {
     write_head(text, id)?;
-    write_outcome(text, node)
+    write_outcome(text, extras, node)
 }
 
 /// Writes the beginning of a context's line at the end of a text: the indentation and the last

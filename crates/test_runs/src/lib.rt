@@ -1,8 +1,10 @@
 //! Tests of runs of trees: recipes, tests that come during the run, refused openings and sizes,
 //! children that run at once, locks that are held until a context is closed, values of a lane that
-//! a run has not in hand.
+//! a run has not in hand, callbacks, reports with times and attempts.
 #![tactic(auto)]
 
+#[cfg(test)]
+mod callbacks;
 #[cfg(test)]
 mod crowd;
 #[cfg(test)]
@@ -21,3 +23,5 @@ mod recipes;
 mod run_opening;
 #[cfg(test)]
 mod texts;
+#[cfg(test)]
+mod timed;

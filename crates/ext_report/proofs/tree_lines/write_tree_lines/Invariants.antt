@@ -8,4 +8,4 @@ use Rattle.ext_report.proofs.tree_lines.write_tree_lines.Given as goal
 
 abbrev pub invariant-loop-node : goal.invariant-loop-node
 invariant-loop-node l =
-    string_bytes l.text ≡ string_bytes l.initial.text ++ flat_map (λ r. tree_head l.id ++ outcome_part r) (results_view (shown (take l.node-index l.results)))
+    string_bytes l.text ≡ string_bytes l.initial.text ++ flat_map (λ r. tree_head l.id ++ outcome_part l.extras r) (results_view (shown (take l.node-index l.results)))

@@ -1,0 +1,42 @@
+-- What an engine knows of its nodes beside their results: how long a node took, by a clock of the engine's, and at which
+-- attempt it passed. The list has one entry a context, in the order of the contexts. Of a context past its end nothing is
+-- known, so of none where the list is empty.
+--
+-- A time is told in seconds with three decimals. An attempt is told of a successful node alone, and from the second on:
+-- one that passed at its first attempt is told like one of which nothing is known. JUnit has neither.
+use Rattle.std.specs.Prelude.{ℕ, ◌/◌, ◌%◌, codes, List, [], ◌++◌, Option, Some, None, if◌then◌else◌, nat_lt}
+use Rattle.std.specs.List.{slice_index_or}
+use Rattle.std.specs.Fmt.{decimal}
+use Rattle.ext_lifecycle.specs.declared.status.Status.{Status}
+use Rattle.ext_lifecycle.specs.declared.status.Status.TheVariants as statuses
+use Rattle.ext_report.specs.declared.extra.Extra.{Extra}
+
+abbrev pub nothing_known : Extra
+nothing_known = record { millis = None; attempt = 0 }
+
+abbrev pub extra_of : List Extra → ℕ → Extra
+extra_of extras node = slice_index_or extras node nothing_known
+
+-- So many milliseconds in seconds, as `0.123`.
+unfoldable pub seconds : ℕ → List ℕ
+seconds millis =
+    decimal (millis / 1000) ++ codes "." ++ decimal (millis / 100 % 10) ++ decimal (millis / 10 % 10) ++ decimal (millis % 10)
+
+-- How long a node took, in its line.
+abbrev pub time_part : Option ℕ → List ℕ
+time_part None = []
+time_part (Some millis) = codes " took " ++ seconds millis ++ codes " s"
+
+-- At which attempt a node passed, if not at the first.
+abbrev pub flaky_part : ℕ → List ℕ
+flaky_part attempt = if nat_lt 1 attempt then codes " flaky, passed at attempt " ++ decimal attempt else []
+
+abbrev pub attempt_part : Status → ℕ → List ℕ
+attempt_part statuses.Successful attempt = flaky_part attempt
+attempt_part statuses.Aborted attempt = []
+attempt_part statuses.Failed attempt = []
+attempt_part statuses.Skipped attempt = []
+
+-- What a node's line tells of it.
+abbrev pub extra_part : Status → Extra → List ℕ
+extra_part status extra = time_part extra.millis ++ attempt_part status extra.attempt

@@ -1,0 +1,87 @@
+//! What an engine knows of its nodes beside their results.
+ghost use Rattle.std.specs.Prelude.{◌≡◌, ◌++◌, string_bytes, OnOk};
+ghost use Rattle.ext_report.specs.Extras.{attempt_part, extra_of, extra_part, flaky_part, seconds, time_part};
+
+use ext_lifecycle::Status;
+use ext_model::ContextNo;
+use std::alloc::AllocError;
+
+/// What an engine knows of a node beside its result, by a clock and a count of its own: a suite
+/// notes it in its calls. Of a node of which nothing is known it is the default.
+#[derive(Clone, Copy, Debug, Default, PartialEq, Eq)]
+pub struct Extra {
+    /// How long the node took, in milliseconds.
+    pub millis: Option<u64>,
+    /// The attempt at which it passed, from 1. It is told from 2 on, and of a successful node
+    /// alone.
+    pub attempt: u32,
+}
+
+/// What is known of a node: nothing past the end of the list.
+pub(crate) fn extra_of(extras: &[Extra], node: ContextNo) -> Extra
+    ensures { result ≡ extra_of extras.now node }
+{
+    match extras.get(node) {
+        Some(extra) => *extra,
+        None => Extra {
+            millis: None,
+            attempt: 0,
+        },
+    }
+}
+
+/// Writes what is known of a node with this status at the end of a text, for its line.
+pub(crate) fn write_extra(text: &mut String, status: Status, extra: Extra) -> Result<(), AllocError>
+    ensures { OnOk result
+        (string_bytes text.new ≡ string_bytes text.old ++ extra_part status extra) }
+{
+    write_time(text, extra.millis)?;
+    write_attempt(text, status, extra.attempt)
+}
+
+/// Writes how long a node took at the end of a text, where it is known.
+fn write_time(text: &mut String, millis: Option<u64>) -> Result<(), AllocError>
+    ensures { OnOk result (string_bytes text.new ≡ string_bytes text.old ++ time_part millis) }
+{
+    match millis {
+        None => Ok(()),
+        Some(millis) => {
+            text.push_str(" took ")?;
+            write_seconds(text, millis)?;
+            text.push_str(" s")
+        }
+    }
+}
+
+/// Writes at which attempt a node with this status passed, at the end of a text: nothing if it was
+/// the first, or if the node is not successful.
+fn write_attempt(text: &mut String, status: Status, attempt: u32) -> Result<(), AllocError>
+    ensures { OnOk result
+        (string_bytes text.new ≡ string_bytes text.old ++ attempt_part status attempt) }
+{
+    match status {
+        Status::Successful => write_flaky(text, attempt),
+        Status::Aborted | Status::Failed | Status::Skipped => Ok(()),
+    }
+}
+
+/// Writes at which attempt a successful node passed, at the end of a text.
+fn write_flaky(text: &mut String, attempt: u32) -> Result<(), AllocError>
+    ensures { OnOk result
+        (string_bytes text.new ≡ string_bytes text.old ++ flaky_part attempt) }
+{
+    if attempt > 1 {
+        write!(text, " flaky, passed at attempt {attempt}")?;
+    }
+    Ok(())
+}
+
+/// Writes milliseconds as seconds with three decimals at the end of a text.
+pub(crate) fn write_seconds(text: &mut String, millis: u64) -> Result<(), AllocError>
+    ensures { OnOk result (string_bytes text.new ≡ string_bytes text.old ++ seconds millis) }
+{
+    let whole = millis / 1000;
+    let (tenths, hundredths) = (millis / 100 % 10, millis / 10 % 10);
+    let thousandths = millis % 10;
+    write!(text, "{whole}.{tenths}{hundredths}{thousandths}")
+}
