@@ -4,6 +4,6 @@ mod SuiteCases
 mod Orders
 mod ContextLines
 mod Indents
-mod XmlTexts
+mod CharacterTexts
 mod Suites
 mod Types

@@ -4,6 +4,7 @@ pub mod InnerPutting
 pub mod InnerSuites
 pub mod JsonLines
 pub mod TreeLines
+pub mod TerminalLines
 pub mod Xml
 pub mod JunitXml
 pub mod Forms

@@ -1,7 +1,7 @@
-//! The report of a test run, as text, as JSON lines, as a tree or in JUnit's XML, from the results
-//! of its nodes (`ext_lifecycle`).
+//! The report of a test run, as text, for people at a terminal, as JSON lines, as a tree or in
+//! JUnit's XML, from the results of its nodes (`ext_lifecycle`).
 //!
-//! JUnit has no report of the first three forms.
+//! JUnit has none of these forms but the last.
 #![tactic(auto)]
 
 mod cases;
@@ -13,8 +13,10 @@ mod junit_xml;
 mod line;
 mod report;
 mod reserve;
+mod terminal_lines;
 mod totals;
 mod tree_lines;
+mod visible;
 mod xml;
 
 pub use ext_lifecycle::{NodeResult, Status};
@@ -24,4 +26,6 @@ pub use json_lines::json_report;
 pub use junit_xml::junit_report;
 pub use report::{any_failed, report_text};
 pub use reserve::leave_out_reserve;
+pub use terminal_lines::terminal_report;
 pub use tree_lines::{depth_first, tree_report, write_head};
+pub use visible::write_visible;
