@@ -4,9 +4,9 @@
 # The options of a command, or of the program where there is none.
 _extrun_options() {
     case $1 in
-        run) echo --lanes --store --report --tree --progress --failures --large --explain --help ;;
-        check) echo --tree --races --all --large --explain --help ;;
-        id) echo --make --explain --help ;;
+        run) echo --lanes --store --report --tree --color --progress --durations --failures --large --explain --brief --help ;;
+        check) echo --tree --races --all --large --explain --brief --help ;;
+        id) echo --make --explain --brief --help ;;
         help) ;;
         *) echo --help --version ;;
     esac
@@ -18,6 +18,7 @@ _extrun_values() {
         --lanes) seq 1 16 ;;
         --store) echo plain cells ;;
         --report) echo text json junit ;;
+        --color) echo auto always never ;;
     esac
 }
 

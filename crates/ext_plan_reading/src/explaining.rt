@@ -8,6 +8,7 @@ mod headers;
 mod ids;
 mod near;
 mod nodes;
+mod places;
 mod steps;
 mod words;
 
@@ -15,22 +16,23 @@ use crate::fault::{Place, PlanFault};
 use ends::with_end;
 use ext_model::Size;
 use fields::{bad_field, bad_label, unknown_field};
-use headers::hint_at;
+use headers::{Hint, hint_at};
 pub use ids::explain_id;
 use nodes::{bad_id, bad_nodes, too_many};
 use std::alloc::{AllocError, Global};
 use steps::bad_step;
 use toml::Table;
 use toml::de::Error;
-use words::said;
+use words::{Meaning, of_no_field, said};
 
 /// Explains why the bytes of a plan were refused, in a line without a line feed. The line begins
 /// with the place that the fault names (`the plan`, `key 1` or `node 2`) and a colon. Then it names
 /// the field, the label, the id with its own fault, the lock or the step at fault, or the place in
 /// the text. It says what was meant where that is likely, such as the nearest name of a field.
-/// Texts of the plan are quoted, with a line feed as `\n`. At the end are the line of the plan
-/// where the table of the key or node begins, if the table has a header of its own, and the node's
-/// id, if it has one. The contract covers only the place that the fault names.
+/// Texts of the plan are quoted, with a line feed as `\n`. At the end are the node's id, if it has
+/// one, and the line of the plan where the field or the step at fault stands, or else the table of
+/// the key or node begins, if the table has a header of its own. The contract covers only the place
+/// that the fault names.
 ///
 /// The fault is one of `all_faults` of this text and size, such as the answer of
 /// `read_plan_within`; or `NotUtf8` if the bytes are no text. For any other fault the line says
@@ -92,7 +94,7 @@ fn meaning(
 ) -> Result<Option<String>, PlanFault> {
     let text = match std::str::from_utf8(input) {
         Ok(text) => text,
-        Err(e) => return no_utf8(alloc, e.valid_up_to()),
+        Err(e) => return no_utf8(alloc, input, e.valid_up_to()),
     };
     match toml::table_from_str(alloc, text) {
         Ok(top) => meaning_with_end(alloc, text, &top, size, fault),
@@ -100,9 +102,15 @@ fn meaning(
     }
 }
 
-/// Says up to which byte the bytes are UTF-8.
-fn no_utf8(alloc: Global, at: usize) -> Result<Option<String>, PlanFault> {
-    Ok(Some(format!(in alloc; "it is no UTF-8 at byte {at}")?))
+/// Says up to which byte the bytes are UTF-8, and which form of Unicode they may be in.
+fn no_utf8(alloc: Global, input: &[u8], at: usize) -> Result<Option<String>, PlanFault> {
+    let line = line_in(input, at);
+    let hint = if input.starts_with(&[0xFF, 0xFE]) || input.starts_with(&[0xFE, 0xFF]) {
+        ": it begins as UTF-16 does"
+    } else {
+        ""
+    };
+    Ok(Some(format!(in alloc; "it is no UTF-8 at byte {at}, in line {line}{hint}")?))
 }
 
 /// Says where and why a text is no TOML document, in the words of the TOML parser, and how an array
@@ -113,22 +121,33 @@ fn no_toml(alloc: Global, text: &str, error: &Error) -> Result<Option<String>, P
     };
     let line = line_at(text, span.start);
     let message = error.message();
-    let hint = match message {
-        "duplicate key" => hint_at(text, line),
-        _ => "",
-    };
-    Ok(Some(format!(in alloc; "line {line}: {message}{hint}")?))
+    if message == "duplicate key"
+        && let Some(hint) = hint_at(text, line)
+    {
+        let Hint {
+            meant,
+            line: single,
+        } = hint;
+        return Ok(Some(format!(in alloc;
+            "it is no TOML in line {line}: {message}: in line {single} write {meant}"
+        )?));
+    }
+    Ok(Some(format!(in alloc; "it is no TOML in line {line}: {message}")?))
 }
 
 /// The number, from 1, of the line that contains a byte of a text.
 fn line_at(text: &str, byte: usize) -> usize {
-    let before = text.as_bytes().iter().take(byte);
+    line_in(text.as_bytes(), byte)
+}
+
+/// The number, from 1, of the line that contains one of these bytes.
+fn line_in(bytes: &[u8], byte: usize) -> usize {
+    let before = bytes.iter().take(byte);
     let feeds = before.filter(|byte| **byte == b'\n').count();
     feeds.saturating_add(1)
 }
 
-/// The meaning of a fault of a document, if it has it, and the line where the table with the fault
-/// begins.
+/// The meaning of a fault of a document, if it has it, and the line where it stands.
 fn meaning_with_end(
     alloc: Global,
     text: &str,
@@ -138,7 +157,7 @@ fn meaning_with_end(
 ) -> Result<Option<String>, PlanFault> {
     match meaning_in(alloc, top, size, fault)? {
         None => Ok(None),
-        Some(meaning) => { Ok(Some(with_end(alloc, text, top, fault, meaning.as_str())?)) }
+        Some(meaning) => { Ok(Some(with_end(alloc, text, top, fault, &meaning)?)) }
     }
 }
 
@@ -148,7 +167,7 @@ fn meaning_in(
     top: &Table,
     size: Size,
     fault: PlanFault,
-) -> Result<Option<String>, PlanFault> {
+) -> Result<Option<Meaning>, PlanFault> {
     match fault {
         PlanFault::NotUtf8 | PlanFault::NotToml => Ok(None),
         PlanFault::UnknownField(place) => unknown_field(alloc, top, place),
@@ -160,6 +179,6 @@ fn meaning_in(
             bad_nodes(alloc, top, size, fault)
         }
         PlanFault::TooMany => too_many(alloc, top),
-        PlanFault::Memory => said(alloc, "memory was refused while it was read"),
+        PlanFault::Memory => Ok(of_no_field(said(alloc, "memory was refused while it was read")?)),
     }
 }

@@ -4,7 +4,7 @@ mod SuiteCases
 mod Orders
 mod ContextLines
 mod Indents
-mod XmlTexts
+mod CharacterTexts
 mod Suites
 mod Attempts
 mod Slowest

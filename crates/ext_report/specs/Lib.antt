@@ -6,6 +6,7 @@ pub mod InnerPutting
 pub mod InnerSuites
 pub mod JsonLines
 pub mod TreeLines
+pub mod TerminalLines
 pub mod Xml
 pub mod JunitCases
 pub mod JunitXml

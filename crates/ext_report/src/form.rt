@@ -6,6 +6,7 @@ ghost use Rattle.ext_report.specs.Forms.{report_in};
 use crate::json_lines::json_report;
 use crate::junit_xml::junit_report;
 use crate::report::report_text;
+use crate::terminal_lines::terminal_report;
 use crate::tree_lines::tree_report;
 use ext_lifecycle::NodeResult;
 use ext_tree::Tree;
@@ -23,6 +24,9 @@ pub enum ReportForm {
     Tree,
     /// JUnit's XML, with a suite for each container that has tests: `junit_report`.
     Junit,
+    /// A line for each node and two lines of totals, for people at a terminal, with colours or
+    /// without: `terminal_report`.
+    Terminal { colored: bool },
 }
 
 /// Returns the report of results in this form, as UTF-8 bytes. Each result is of a context of the
@@ -41,5 +45,8 @@ pub fn report_in(
         ReportForm::Json => json_report(alloc, tree, results),
         ReportForm::Tree => Ok(tree_report(alloc, tree, results)?.into_bytes()),
         ReportForm::Junit => Ok(junit_report(alloc, tree, results)?.into_bytes()),
+        ReportForm::Terminal { colored } => {
+            Ok(terminal_report(alloc, tree, results, colored)?.into_bytes())
+        }
     }
 }

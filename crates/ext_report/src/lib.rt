@@ -1,7 +1,7 @@
-//! The report of a test run, as text, as JSON lines, as a tree or in JUnit's XML, from the results
-//! of its nodes (`ext_lifecycle`).
+//! The report of a test run, as text, for people at a terminal, as JSON lines, as a tree or in
+//! JUnit's XML, from the results of its nodes (`ext_lifecycle`).
 //!
-//! JUnit has no report of the first three forms.
+//! JUnit has none of these forms but the last.
 #![tactic(auto)]
 
 mod cases;
@@ -15,8 +15,10 @@ mod line;
 mod report;
 mod reserve;
 mod slow;
+mod terminal_lines;
 mod totals;
 mod tree_lines;
+mod visible;
 mod xml;
 
 pub use ext_lifecycle::{NodeResult, Status};
@@ -28,4 +30,6 @@ pub use junit_xml::{junit_report, junit_report_with};
 pub use report::{any_failed, report_text, report_text_with};
 pub use reserve::leave_out_reserve;
 pub use slow::slowest_tests;
+pub use terminal_lines::terminal_report;
 pub use tree_lines::{depth_first, tree_report, tree_report_with, write_head};
+pub use visible::write_visible;

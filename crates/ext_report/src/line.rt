@@ -41,7 +41,7 @@ pub(crate) fn write_outcome(
 }
 
 /// Writes a node's faults at the end of a text: nothing unless it aborted or failed.
-fn write_fault(text: &mut String, node: &NodeResult) -> Result<(), AllocError>
+pub(crate) fn write_fault(text: &mut String, node: &NodeResult) -> Result<(), AllocError>
     ensures { OnOk result
         (string_bytes text.new ≡ string_bytes text.old ++ fault_part (result_view node.now)) }
 {

@@ -10,8 +10,8 @@
 //! `explain_keys` serve callers that say why a plan was refused, or a key had no place. `read_id`
 //! writes the lines of an id, `make_id` that of one made of parts, and `status_of` is the exit
 //! status of a program for any of these requests. This crate also exports the names of `ext_ids`,
-//! `ext_model`, `ext_plan_reading`, `ext_plain`, `ext_lifecycle` and `ext_report` that its callers
-//! need.
+//! `ext_model`, `ext_parallel`, `ext_plan_reading`, `ext_plain`, `ext_lifecycle` and `ext_report`
+//! that its callers need.
 //!
 //! JUnit has no plans.
 #![tactic(auto)]
@@ -33,6 +33,7 @@ pub use drawing::draw;
 pub use ext_ids::{IdFault, PartFault};
 pub use ext_lifecycle::{NoListener, NodeResult, RunListener, Status};
 pub use ext_model::Size;
+pub use ext_parallel::EngineFault;
 pub use ext_plain::plain_run_laws;
 pub use ext_plan_reading::{
     LabelNo, Place, Plan, PlanFault, PlanKey, PlanLock, PlanNode, Step, explain, explain_id,

@@ -33,9 +33,9 @@ takes_more old new arg rule name rules before adds is local =
 abbrev line_with : Shape → App
 line_with run = record { top = program; subs = run ∷ check ∷ id ∷ [] }
 
-is_simple_line : (store form : ValueParser) → is_simple (line_with (run_of store form)) ≡ true
+is_simple_line : (store form color : ValueParser) → is_simple (line_with (run_of store form color)) ≡ true
 unfolding clap_on_literals
-is_simple_line store form = refl
+is_simple_line store form color = refl
 
 pub line_is_simple : (line : App) → IsCommandLine line → is_simple line ≡ true
-line_is_simple line is = ap is_simple (is.line_is ∙ ap line_with is.is_run.shape_is) ∙ is_simple_line is.is_run.store is.is_run.form
+line_is_simple line is = ap is_simple (is.line_is ∙ ap line_with is.is_run.shape_is) ∙ is_simple_line is.is_run.store is.is_run.form is.is_run.color

@@ -31,6 +31,10 @@ option name value default = record (new_rule name) {
   defaults = default ∷ [];
 }
 
+-- `--name VALUE`, with none.
+abbrev pub free_option : Text → ValueParser → Rule
+free_option name value = record (option name value []) { defaults = [] }
+
 -- A value that is one of these texts.
 abbrev pub IsOneOf : ValueParser → List Text → Type 0
 IsOneOf value names = (given : Bor (List (Bor Text))) × (value ≡ values.Names given)
@@ -56,28 +60,33 @@ tree = record (flag (codes "tree")) { is_free = false }
 abbrev pub command : Text → List Rule → Shape
 command name rules = record (new_app name).top { rules = rules }
 
--- `run`, with these values for the store and for the form of the report.
-abbrev pub run_of : ValueParser → ValueParser → Shape
-run_of store form = command (codes "run")
-    (plan_file ∷ lanes ∷ option (codes "store") store (codes "cells") ∷ option (codes "report") form (codes "text")
-    ∷ tree
-    ∷ flag (codes "progress") ∷ flag (codes "failures") ∷ flag (codes "large") ∷ flag (codes "explain") ∷ [])
+-- `run`, with these values for the store, for the form of the report and for its colours.
+abbrev pub run_of : ValueParser → ValueParser → ValueParser → Shape
+run_of store form color = command (codes "run")
+    (plan_file ∷ lanes ∷ option (codes "store") store (codes "cells") ∷ free_option (codes "report") form
+    ∷ tree ∷ option (codes "color") color (codes "auto")
+    ∷ flag (codes "progress") ∷ flag (codes "durations") ∷ flag (codes "failures") ∷ flag (codes "large")
+    ∷ flag (codes "explain") ∷ flag (codes "brief") ∷ [])
 
--- The shape of `run`: its stores are `plain` and `cells`, its forms `text`, `json` and `junit`.
+-- The shape of `run`: its stores are `plain` and `cells`, its forms `text`, `json` and `junit`, its colours `auto`,
+-- `always` and `never`.
 pub record IsRun (shape : Shape) : Type 0 where
   pub store : ValueParser
   pub form : ValueParser
+  pub color : ValueParser
   pub stores : IsOneOf store (codes "plain" ∷ codes "cells" ∷ [])
   pub forms : IsOneOf form (codes "text" ∷ codes "json" ∷ codes "junit" ∷ [])
-  pub shape_is : shape ≡ run_of store form
+  pub colors : IsOneOf color (codes "auto" ∷ codes "always" ∷ codes "never" ∷ [])
+  pub shape_is : shape ≡ run_of store form color
 
 abbrev pub check : Shape
 check = command (codes "check")
     (plan_file ∷ flag (codes "tree") ∷ flag (codes "races") ∷ flag (codes "all")
-    ∷ flag (codes "large") ∷ flag (codes "explain") ∷ [])
+    ∷ flag (codes "large") ∷ flag (codes "explain") ∷ flag (codes "brief") ∷ [])
 
 abbrev pub id : Shape
-id = command (codes "id") (id_texts ∷ flag (codes "make") ∷ flag (codes "explain") ∷ [])
+id = command (codes "id")
+    (id_texts ∷ flag (codes "make") ∷ flag (codes "explain") ∷ flag (codes "brief") ∷ [])
 
 -- The program itself, which has a version.
 abbrev pub program : Shape
@@ -93,8 +102,8 @@ pub record IsCommandLine (line : App) : Type 0 where
 
 -- Nothing is left to do: the help or the version was printed, or could not be, or a mistake was reported.
 abbrev pub AsksNothing : Request → Type 0
-AsksNothing (requests.Plan _ _ _) = ⊥
-AsksNothing (requests.Id _ _) = ⊥
+AsksNothing (requests.Plan _ _ _ _) = ⊥
+AsksNothing (requests.Id _ _ _) = ⊥
 AsksNothing (requests.MakeId _) = ⊥
 AsksNothing requests.Help = Unit {0}
 AsksNothing requests.Refused = Unit {0}

@@ -1,70 +1,14 @@
 -- What the words of a command line ask for, by the rows that clap found: the texts under the name of each option. Texts
 -- are lists of bytes.
-use Rattle.std.specs.Prelude.{◌≡◌, ◌≢◌, ◌↔◌, ◌<◌, ◌&&◌, ◌||◌, ℕ, Bool, true, false, codes, List, [], ◌∷◌, map, Option, Some, None, IsTrue, if◌then◌else◌, option_map, string_bytes, unwrap_or}
-use Rattle.std.specs.Str.Parse.{IsNumeral, digits_value, without_leading_plus}
+use Rattle.std.specs.Prelude.{◌≡◌, ◌≢◌, ◌&&◌, ◌||◌, ℕ, Bool, true, false, codes, List, [], ◌∷◌, map, Option, Some, None, if◌then◌else◌, option_map, string_bytes, unwrap_or}
 use Rattle.clap.specs.Walk.{Row, Text, all_of, first_of, one_of}
 use Rattle.ext_model.specs.declared.size.Size.{Size}
-use Rattle.ext_model.specs.declared.size.Size.TheVariants as sizes
-use Rattle.ext_report.specs.declared.form.ReportForm.{ReportForm}
-use Rattle.ext_report.specs.declared.form.ReportForm.TheVariants as forms
-use Rattle.ext_run.specs.declared.options.Options.{Options}
+use Rattle.extrun.specs.Flags.{IsFlag, IsSize}
+use Rattle.extrun.specs.RunWords.{AsksRun, wordless_run}
 use Rattle.extrun.specs.declared.command.Request.{Request}
 use Rattle.extrun.specs.declared.command.Request.TheVariants as requests
 use Rattle.extrun.specs.declared.command.Task.{Task}
 use Rattle.extrun.specs.declared.command.Task.TheVariants as tasks
-
--- The number that the text after `--lanes` spells, or 4 if there is none.
-pub record IsLaneCount (text : Option (List ℕ)) (lanes : ℕ) : Type 0 where
-  pub none : text ≡ None → lanes ≡ 4
-  pub value : (t : List ℕ) → text ≡ Some t → IsNumeral 10 (without_leading_plus t)
-      → digits_value 10 (without_leading_plus t) < 256 → lanes ≡ digits_value 10 (without_leading_plus t)
-
--- A flag, which is set if its text is `true`.
-pub record IsFlag (text : Option (List ℕ)) (flag : Bool) : Type 0 where
-  pub none : text ≡ None → flag ≡ false
-  pub set : text ≡ Some (codes "true") → flag ≡ true
-  pub unset : text ≡ Some (codes "false") → flag ≡ false
-
-abbrev pub form_of : Bool → Bool → Bool → ReportForm
-form_of tree json junit = if tree then forms.Tree else if json then forms.Json else if junit then forms.Junit
-    else forms.Text
-
--- The form of the report: a tree if `--tree` is set, otherwise JSON or JUnit's XML if the text after `--report` is
--- `json` or `junit`, otherwise text.
-pub record IsForm (rows : List Row) (form : ReportForm) : Type 0 where
-  pub tree : Bool
-  pub json : Bool
-  pub junit : Bool
-  pub drawn : IsFlag (one_of (codes "tree") rows) tree
-  pub by_lines : IsTrue json ↔ (first_of (codes "report") rows ≡ Some (codes "json"))
-  pub by_suites : IsTrue junit ↔ (first_of (codes "report") rows ≡ Some (codes "junit"))
-  pub form_is : form ≡ form_of tree json junit
-
-abbrev pub size_of : Bool → Size
-size_of large = if large then sizes.Large else sizes.Usual
-
--- How large the plan may be: large if `--large` is set.
-pub record IsSize (rows : List Row) (size : Size) : Type 0 where
-  pub large : Bool
-  pub asked : IsFlag (one_of (codes "large") rows) large
-  pub size_is : size ≡ size_of large
-
--- A run on some number of lanes, or a plain run if the text after `--store` is `plain`; the form of its report; how
--- large the plan may be; whether its progress is shown; and whether its faults are listed once more.
-pub record AsksRunBy (rows : List Row) (options : Options) (progress failures : Bool) : Type 0 where
-  pub lanes : IsLaneCount (one_of (codes "lanes") rows) options.lanes
-  pub plain : IsTrue options.plain ↔ (first_of (codes "store") rows ≡ Some (codes "plain"))
-  pub form : IsForm rows options.form
-  pub size : IsSize rows options.size
-  pub told : IsFlag (one_of (codes "progress") rows) progress
-  pub again : IsFlag (one_of (codes "failures") rows) failures
-
-abbrev pub AsksRun : List Row → Task → Type 0
-AsksRun rows (tasks.Run options progress failures) = AsksRunBy rows options progress failures
-AsksRun rows (tasks.Check size) = ⊥
-AsksRun rows (tasks.CheckAll size) = ⊥
-AsksRun rows (tasks.Draw size) = ⊥
-AsksRun rows (tasks.CheckRaces size) = ⊥
 
 -- To check a plan of this size with all faults, unless another flag is set.
 abbrev pub checks_all : Bool → Size → Option Task
@@ -80,12 +24,13 @@ check_as races tree all size =
     else if tree then Some (tasks.Draw size)
     else Some (tasks.Check size)
 
--- To do such a task with the plan of the named file, or of standard input, explained or not.
+-- To do such a task with the plan of the named file, or of standard input. It is explained why it is not done if
+-- `--explain` is set, and only then if `--brief` is.
 abbrev pub AsksOfPlan : List Row → (Task → Type 0) → Request → Type 0
-AsksOfPlan rows asks (requests.Plan task file explain) =
+AsksOfPlan rows asks (requests.Plan task file explain brief) =
     asks task × (option_map string_bytes file ≡ first_of (codes "FILE") rows)
-    × IsFlag (one_of (codes "explain") rows) explain
-AsksOfPlan rows asks (requests.Id text explain) = ⊥
+    × IsFlag (one_of (codes "explain") rows) explain × IsFlag (one_of (codes "brief") rows) brief
+AsksOfPlan rows asks (requests.Id text explain brief) = ⊥
 AsksOfPlan rows asks (requests.MakeId parts) = ⊥
 AsksOfPlan rows asks requests.Help = ⊥
 AsksOfPlan rows asks requests.Refused = ⊥
@@ -116,41 +61,44 @@ pub record AsksCheck (rows : List Row) (request : Request) : Type 0 where
 abbrev pub texts_of : List Row → List Text
 texts_of rows = unwrap_or (all_of (codes "TEXT") rows) []
 
--- To read this id, explained or not.
-abbrev pub IsReadingOf : Text → Bool → Request → Type 0
-IsReadingOf text explain (requests.Plan _ _ _) = ⊥
-IsReadingOf text explain (requests.Id own explained) = (string_bytes own ≡ text) × (explained ≡ explain)
-IsReadingOf text explain (requests.MakeId _) = ⊥
-IsReadingOf text explain requests.Help = ⊥
-IsReadingOf text explain requests.Refused = ⊥
-IsReadingOf text explain requests.Unwritten = ⊥
-IsReadingOf text explain requests.Memory = ⊥
+-- To read this id, explained by the same two words.
+abbrev pub IsReadingOf : Text → Bool → Bool → Request → Type 0
+IsReadingOf text explain brief (requests.Plan _ _ _ _) = ⊥
+IsReadingOf text explain brief (requests.Id own explained short) =
+    (string_bytes own ≡ text) × (explained ≡ explain) × (short ≡ brief)
+IsReadingOf text explain brief (requests.MakeId _) = ⊥
+IsReadingOf text explain brief requests.Help = ⊥
+IsReadingOf text explain brief requests.Refused = ⊥
+IsReadingOf text explain brief requests.Unwritten = ⊥
+IsReadingOf text explain brief requests.Memory = ⊥
 
 -- To make the id of these parts.
 abbrev pub IsMakingOf : List Text → Request → Type 0
-IsMakingOf texts (requests.Plan _ _ _) = ⊥
-IsMakingOf texts (requests.Id _ _) = ⊥
+IsMakingOf texts (requests.Plan _ _ _ _) = ⊥
+IsMakingOf texts (requests.Id _ _ _) = ⊥
 IsMakingOf texts (requests.MakeId parts) = map string_bytes parts.items ≡ texts
 IsMakingOf texts requests.Help = ⊥
 IsMakingOf texts requests.Refused = ⊥
 IsMakingOf texts requests.Unwritten = ⊥
 IsMakingOf texts requests.Memory = ⊥
 
--- What these texts ask for, by `--make` and `--explain`. Without `--make` one is read, and several are a mistake, which
--- is reported.
-abbrev pub AsksOfTexts : Bool → Bool → List Text → Request → Type 0
-AsksOfTexts true explain texts request = IsMakingOf texts request
-AsksOfTexts false explain [] request = request ≡ requests.Refused
-AsksOfTexts false explain (text ∷ []) request = IsReadingOf text explain request
-AsksOfTexts false explain (text ∷ second ∷ others) request = request ≡ requests.Refused
+-- What these texts ask for, by `--make`, `--explain` and `--brief`. Without `--make` one is read, and several are a
+-- mistake, which is reported.
+abbrev pub AsksOfTexts : Bool → Bool → Bool → List Text → Request → Type 0
+AsksOfTexts true explain brief texts request = IsMakingOf texts request
+AsksOfTexts false explain brief [] request = request ≡ requests.Refused
+AsksOfTexts false explain brief (text ∷ []) request = IsReadingOf text explain brief request
+AsksOfTexts false explain brief (text ∷ second ∷ others) request = request ≡ requests.Refused
 
--- To make an id of all texts if `--make` is set, and otherwise to read the one text, explained or not.
+-- To make an id of all texts if `--make` is set, and otherwise to read the one text, explained by the other two words.
 pub record AsksId (rows : List Row) (request : Request) : Type 0 where
   pub make : Bool
   pub explain : Bool
+  pub brief : Bool
   pub making : IsFlag (one_of (codes "make") rows) make
   pub explained : IsFlag (one_of (codes "explain") rows) explain
-  pub asks : AsksOfTexts make explain (texts_of rows) request
+  pub short : IsFlag (one_of (codes "brief") rows) brief
+  pub asks : AsksOfTexts make explain brief (texts_of rows) request
 
 -- ---- the commands
 
@@ -160,9 +108,6 @@ pub record AsksCommand (name : List ℕ) (rows : List Row) (request : Request) :
   pub check : name ≡ codes "check" → AsksCheck rows request
   pub run : name ≢ codes "id" → name ≢ codes "check" → AsksOfPlan rows (AsksRun rows) request
 
--- Without a command: a run on four lanes, over the store for several threads, of a plan of usual size.
 abbrev pub AsksFor : Option (List ℕ × List Row) → Request → Type 0
-AsksFor None request =
-    request ≡ requests.Plan
-    (tasks.Run (record { lanes = 4; plain = false; form = forms.Text; size = sizes.Usual }) false false) None false
+AsksFor None request = request ≡ requests.Plan wordless_run None false false
 AsksFor (Some command) request = AsksCommand command.0 command.1 request

@@ -1,3 +1,5 @@
+pub mod Flags
+pub mod RunWords
 pub mod CommandWords
 pub mod CommandLine
 pub mod Tasks

@@ -23,7 +23,7 @@ IsReported options input summary Written =
 -- The task was done with the plan of this input. What was written is the report of a run with exactly these options,
 -- the line of the plan's counts, its drawing, or its races; then the summary says whether there is one.
 abbrev pub IsDone : Task → List ℕ → Summary → (List ℕ → Type 0) → Type 0
-IsDone (tasks.Run options progress failures) input summary Written =
+IsDone (tasks.Run options asked color told) input summary Written =
     AsksLanes options → IsReported options input summary Written
 IsDone (tasks.Check size) input summary Written = (line : List ℕ) × IsCountsOf (plan_of_input size input) line
     × Written line
@@ -41,7 +41,7 @@ IsRefused options input fault = RefusedAs options fault (plan_of_input options.s
 
 -- The task was not done with the plan of this input, which is refused as by the call of `ext_run`.
 abbrev pub IsUndone : Task → List ℕ → RunFault → Type 0
-IsUndone (tasks.Run options progress failures) input fault = AsksLanes options → IsRefused options input fault
+IsUndone (tasks.Run options asked color told) input fault = AsksLanes options → IsRefused options input fault
 IsUndone (tasks.Check size) input fault = RefusedUnrun fault (plan_of_input size input)
 IsUndone (tasks.CheckAll size) input fault = RefusedUnrun fault (plan_of_input size input)
 IsUndone (tasks.Draw size) input fault = RefusedUnrun fault (plan_of_input size input)

@@ -49,18 +49,33 @@ pub(crate) fn store_option<'a>(alloc: Global) -> Arg<'a>
 
 pub(crate) fn report_option<'a>(alloc: Global) -> Arg<'a>
     ensures rule { (value : ValueParser) × IsOneOf value (codes "text" ∷ codes "json" ∷ codes "junit" ∷ [])
-        × (rule_of result ≡ line.option (codes "report") value (codes "text")) }
+        × (rule_of result ≡ line.free_option (codes "report") value) }
     ensures local { result.global ≡ false }
 {
     Arg::new(alloc, "report")
         .long("report")
         .value_name("FORM")
         .help(
-            "How the report is written: `text` by lines, `json` as one object a node, by lines, `junit` as JUnit's XML",
+            "How the report is written: `text` by lines, `json` as one object a node, by lines, `junit` as JUnit's XML; without it by lines, at a terminal for people",
         )
         .action(ArgAction::Set)
         .value_parser(["text", "json", "junit"].as_slice())
-        .default_value("text")
+}
+
+pub(crate) fn color_option<'a>(alloc: Global) -> Arg<'a>
+    ensures rule { (value : ValueParser) × IsOneOf value (codes "auto" ∷ codes "always" ∷ codes "never" ∷ [])
+        × (rule_of result ≡ line.option (codes "color") value (codes "auto")) }
+    ensures local { result.global ≡ false }
+{
+    Arg::new(alloc, "color")
+        .long("color")
+        .value_name("WHEN")
+        .help(
+            "When a report for people has colours: `auto` is at a terminal, unless NO_COLOR is set or TERM is dumb",
+        )
+        .action(ArgAction::Set)
+        .value_parser(["auto", "always", "never"].as_slice())
+        .default_value("auto")
 }
 
 /// The flag `--tree` of the command `run`.
@@ -95,6 +110,16 @@ pub(crate) fn failures_flag<'a>(alloc: Global) -> Arg<'a>
         .help(
             "Says all faults of the nodes that failed or were aborted once more at the end, on standard error",
         )
+        .action(ArgAction::SetTrue)
+}
+
+pub(crate) fn durations_flag<'a>(alloc: Global) -> Arg<'a>
+    ensures rule { rule_of result ≡ line.flag (codes "durations") }
+    ensures local { result.global ≡ false }
+{
+    Arg::new(alloc, "durations")
+        .long("durations")
+        .help("Says on standard error how long the five slowest nodes and the whole run took")
         .action(ArgAction::SetTrue)
 }
 
@@ -149,7 +174,9 @@ pub(crate) fn explain_flag<'a>(alloc: Global) -> Arg<'a>
 {
     Arg::new(alloc, "explain")
         .long("explain")
-        .help("Says in a second line on standard error what is meant, where the plan is refused")
+        .help(
+            "Says in a second line on standard error what is meant, where the plan is refused; at a terminal it is there without this word",
+        )
         .action(ArgAction::SetTrue)
 }
 
@@ -160,7 +187,20 @@ pub(crate) fn explain_id_flag<'a>(alloc: Global) -> Arg<'a>
 {
     Arg::new(alloc, "explain")
         .long("explain")
-        .help("Says in a second line on standard error what is meant, where the text is no id")
+        .help(
+            "Says in a second line on standard error what is meant, where the text is no id; at a terminal it is there without this word",
+        )
+        .action(ArgAction::SetTrue)
+}
+
+/// The flag `--brief` of all commands.
+pub(crate) fn brief_flag<'a>(alloc: Global) -> Arg<'a>
+    ensures rule { rule_of result ≡ line.flag (codes "brief") }
+    ensures local { result.global ≡ false }
+{
+    Arg::new(alloc, "brief")
+        .long("brief")
+        .help("Leaves that line out at a terminal, too")
         .action(ArgAction::SetTrue)
 }
 

@@ -1,5 +1,5 @@
 //! The command line, over clap.
-ghost use Rattle.std.specs.Prelude.{◌≡◌, ◌↔◌, codes, List, map, true, false, option_map, string_bytes, Some, Ok, IfOk, IsTrue};
+ghost use Rattle.std.specs.Prelude.{◌≡◌, ◌↔◌, ◌||◌, codes, List, map, true, false, option_map, string_bytes, Some, Ok, IfOk, IsTrue};
 ghost use Rattle.clap.specs.Matches.{found_of, first_value, one_text};
 ghost use Rattle.clap.specs.Words.{app_of, shape_of, with_subcommand};
 ghost use Rattle.clap.specs.declared.builder.command.Command.TheViews.{out-Command};
@@ -8,13 +8,16 @@ ghost use Rattle.clap.specs.Simple.{subcommand_rows_of};
 ghost use Rattle.clap.specs.Walk.{rows_of};
 ghost use Rattle.extrun.specs.CommandLine as line;
 ghost use Rattle.extrun.specs.CommandLine.{AsksBy, AsksNothing, IsCommandLine, IsRun};
-ghost use Rattle.extrun.specs.CommandWords.{AsksCheck, AsksCommand, AsksFor, AsksId, AsksOfPlan, AsksOfTexts, AsksRun, IsFlag, IsLaneCount, IsMakingOf, IsSize, check_as, checks_all, form_of, size_of};
+ghost use Rattle.extrun.specs.CommandWords.{AsksCheck, AsksCommand, AsksFor, AsksId, AsksOfPlan, AsksOfTexts, IsMakingOf, check_as, checks_all};
+ghost use Rattle.extrun.specs.Flags.{IsFlag, IsSize, size_of};
+ghost use Rattle.extrun.specs.RunWords.{AreOptions, AsksBeside, AsksForm, AsksRun, IsColor, IsForm, IsLaneCount, color_choice, form_of, wordless_run};
 
 use crate::args::{
-    all_flag, draw_flag, explain_flag, explain_id_flag, failures_flag, id_texts, lanes_option,
-    large_flag, make_flag, plan_file, progress_flag, races_flag, report_option, report_tree_flag,
-    store_option,
+    all_flag, brief_flag, color_option, draw_flag, durations_flag, explain_flag, explain_id_flag,
+    failures_flag, id_texts, lanes_option, large_flag, make_flag, plan_file, progress_flag,
+    races_flag, report_option, report_tree_flag, store_option,
 };
+use crate::color::ColorChoice;
 use crate::help::{AFTER_HELP, VERSION};
 use clap::error::ErrorKind;
 use clap::{ArgMatches, Command, Error};
@@ -29,17 +32,19 @@ const LANES: u8 = 4;
 /// What a command line asks for.
 #[derive(Debug, Drop)]
 pub(crate) enum Request {
-    /// A task for the plan in this file, or from standard input, and whether to explain its fault
-    /// if it is refused.
+    /// A task for the plan in this file, or from standard input, and whether to explain why it is
+    /// not done: in any case, or never.
     Plan {
         task: Task,
         file: Option<String>,
         explain: bool,
+        brief: bool,
     },
-    /// Reading this id, and whether to explain its fault if it is none.
+    /// Reading this id, and whether to explain its fault if it is none, by the same two words.
     Id {
         text: String,
         explain: bool,
+        brief: bool,
     },
     /// Making the id of these parts, each `TYPE=VALUE`.
     MakeId {
@@ -58,12 +63,12 @@ pub(crate) enum Request {
 /// A task for a plan.
 #[derive(Clone, Copy, Debug, PartialEq, Eq)]
 pub(crate) enum Task {
-    /// Runs it and writes its report, with or without the progress of the run, and its faults
-    /// repeated at the end.
+    /// Runs it and writes its report, whose form is asked for or not, and says this beside it.
     Run {
         options: Options,
-        progress: bool,
-        failures: bool,
+        form_asked: bool,
+        color: ColorChoice,
+        told: Told,
     },
     /// Writes how many nodes, tests and keys it has, if it is no larger than this.
     Check(Size),
@@ -73,6 +78,17 @@ pub(crate) enum Task {
     Draw(Size),
     /// Writes its races, if it is no larger than this.
     CheckRaces(Size),
+}
+
+/// What a run says on standard error.
+#[derive(Clone, Copy, Debug, PartialEq, Eq)]
+pub(crate) struct Told {
+    /// How far it is.
+    pub(crate) progress: bool,
+    /// The slowest nodes, at the end.
+    pub(crate) durations: bool,
+    /// All faults of its nodes, behind all else.
+    pub(crate) failures: bool,
 }
 
 impl Task {
@@ -89,11 +105,12 @@ impl Task {
 /// Parses the command line. The commands are
 ///
 /// - `run`, with `--lanes` of 1 to 16, `--store plain` or `cells`, `--report text`, `json` or
-///   `junit` or else `--tree`, `--progress` and `--failures`;
+///   `junit` or else `--tree`, `--color` of `auto`, `always` or `never`, `--progress`,
+///   `--durations` and `--failures`;
 /// - `check`, with `--races`, `--tree` or `--all`;
-/// - `id`, with one text and `--explain`, or with `--make` and parts.
+/// - `id`, with one text, or with `--make` and parts.
 ///
-/// `run` and `check` take a file, `--large` and `--explain`. No word at all is `run` on 4 lanes
+/// `run` and `check` take a file and `--large`, and all take `--explain` and `--brief`. No word at all is `run` on 4 lanes
 /// over the store for several threads, of a plan of usual size. But where standard input is a
 /// terminal (`is_typed`), nobody waits for a plan there: the help is printed to standard error, and
 /// the command line is refused.
@@ -158,10 +175,32 @@ fn asked_for<R: AllocGlobal + Eprint>(
     match matches.subcommand() {
         Some((name, words)) => asked_by(rt, name, words),
         None => Ok(Request::Plan {
-            task: run_on(LANES, false, ReportForm::Text, Size::Usual, false, false),
+            task: wordless_run(),
             file: None,
             explain: false,
+            brief: false,
         }),
+    }
+}
+
+/// The run that no word asks for.
+fn wordless_run() -> Task
+    ensures { result ≡ wordless_run }
+{
+    Task::Run {
+        options: Options {
+            lanes: usize::from(LANES),
+            plain: false,
+            form: ReportForm::Text,
+            size: Size::Usual,
+        },
+        form_asked: false,
+        color: ColorChoice::Auto,
+        told: Told {
+            progress: false,
+            durations: false,
+            failures: false,
+        },
     }
 }
 
@@ -192,7 +231,8 @@ fn id_request<R: AllocGlobal + Eprint>(
     let texts = words.get_strs("TEXT").unwrap_or(&[]);
     let make = is_set(words, "make");
     let explain = is_set(words, "explain");
-    request_of_texts(rt, texts, make, explain)
+    let brief = is_set(words, "brief");
+    request_of_texts(rt, texts, make, explain, brief)
 }
 
 /// The request to make the id of these parts, or to read the only text.
@@ -201,8 +241,9 @@ fn request_of_texts<R: AllocGlobal + Eprint>(
     texts: &[&str],
     make: bool,
     explain: bool,
+    brief: bool,
 ) -> Result<Request, AllocError>
-    ensures { IfOk result (AsksOfTexts make explain (map (λ text. text.now) texts.now)) }
+    ensures { IfOk result (AsksOfTexts make explain brief (map (λ text. text.now) texts.now)) }
 {
     if make {
         return making_of(rt.alloc(), texts);
@@ -211,6 +252,7 @@ fn request_of_texts<R: AllocGlobal + Eprint>(
         [text] => Ok(Request::Id {
             text: String::from_str(rt.alloc(), text)?,
             explain,
+            brief,
         }),
         _ => Ok(mistake(rt, "one id is read; --make makes one of several parts")),
     }
@@ -292,14 +334,77 @@ fn clash_of(races: bool, tree: bool) -> &'static str {
 fn run_of(words: &ArgMatches<'_>) -> Task
     ensures { AsksRun (rows_of (found_of words.now)) result }
 {
-    run_on(
-        lanes_of(words),
-        is_plain(words),
-        form_of(is_set(words, "tree"), is_json(words), is_junit(words)),
-        size_in(words),
-        is_set(words, "progress"),
-        is_set(words, "failures"),
+    Task::Run {
+        options: options_in(words),
+        form_asked: asks_for_form(words),
+        color: color_in(words),
+        told: told_in(words),
+    }
+}
+
+/// How the plan is run, and the form of its report.
+fn options_in(words: &ArgMatches<'_>) -> Options
+    ensures { AreOptions (rows_of (found_of words.now)) result }
+{
+    Options {
+        lanes: usize::from(lanes_of(words)),
+        plain: is_plain(words),
+        form: form_in(words),
+        size: size_in(words),
+    }
+}
+
+/// What is said beside the report.
+fn told_in(words: &ArgMatches<'_>) -> Told
+    ensures { AsksBeside (rows_of (found_of words.now)) result }
+{
+    Told {
+        progress: is_set(words, "progress"),
+        durations: is_set(words, "durations"),
+        failures: is_set(words, "failures"),
+    }
+}
+
+/// Tests whether a form of the report is asked for.
+fn asks_for_form(words: &ArgMatches<'_>) -> bool
+    ensures { AsksForm (rows_of (found_of words.now)) result }
+{
+    either(is_set(words, "tree"), words.get_str("report").is_some())
+}
+
+fn either(one: bool, other: bool) -> bool
+    ensures { result ≡ one || other }
+{
+    one || other
+}
+
+/// When a report for people has colours, by `--color`.
+fn color_in(words: &ArgMatches<'_>) -> ColorChoice
+    ensures { IsColor (first_value (found_of words.now) (codes "color")) result }
+{
+    color_choice(
+        words.get_str("color") == Some("always"),
+        words.get_str("color") == Some("never"),
     )
+}
+
+fn color_choice(always: bool, never: bool) -> ColorChoice
+    ensures { result ≡ color_choice always never }
+{
+    if always {
+        ColorChoice::Always
+    } else if never {
+        ColorChoice::Never
+    } else {
+        ColorChoice::Auto
+    }
+}
+
+/// The form of the report, by `--tree` and `--report`.
+fn form_in(words: &ArgMatches<'_>) -> ReportForm
+    ensures { IsForm (rows_of (found_of words.now)) result }
+{
+    form_of(is_set(words, "tree"), is_json(words), is_junit(words))
 }
 
 /// The value of `--lanes`, or 4.
@@ -365,30 +470,6 @@ fn is_set(words: &ArgMatches<'_>, name: &str) -> bool
     words.get_flag(name)
 }
 
-/// The task to run the plan with these options.
-fn run_on(
-    lanes: u8,
-    plain: bool,
-    form: ReportForm,
-    size: Size,
-    progress: bool,
-    failures: bool,
-) -> Task
-    ensures { result ≡ Task.Run (record { lanes = lanes; plain = plain; form = form; size = size }) progress failures }
-{
-    let options = Options {
-        lanes: usize::from(lanes),
-        plain,
-        form,
-        size,
-    };
-    Task::Run {
-        options,
-        progress,
-        failures,
-    }
-}
-
 /// The request of a task for the plan in a file or from standard input.
 fn plan_request(alloc: Global, task: Task, words: &ArgMatches<'_>) -> Result<Request, AllocError>
     ensures { IfOk result (AsksOfPlan (rows_of (found_of words.now)) (λ asked. asked ≡ task)) }
@@ -397,6 +478,7 @@ fn plan_request(alloc: Global, task: Task, words: &ArgMatches<'_>) -> Result<Req
         task,
         file: file_of(alloc, words)?,
         explain: is_set(words, "explain"),
+        brief: is_set(words, "brief"),
     })
 }
 
@@ -483,10 +565,13 @@ fn run_command<'a>(alloc: Global) -> Result<Command<'a>, AllocError>
         .arg(store_option(alloc))?
         .arg(report_option(alloc))?
         .arg(report_tree_flag(alloc)?)?
+        .arg(color_option(alloc))?
         .arg(progress_flag(alloc))?
+        .arg(durations_flag(alloc))?
         .arg(failures_flag(alloc))?
         .arg(large_flag(alloc))?
-        .arg(explain_flag(alloc))
+        .arg(explain_flag(alloc))?
+        .arg(brief_flag(alloc))
 }
 
 fn check_command<'a>(alloc: Global) -> Result<Command<'a>, AllocError>
@@ -500,7 +585,8 @@ fn check_command<'a>(alloc: Global) -> Result<Command<'a>, AllocError>
         .arg(races_flag(alloc))?
         .arg(all_flag(alloc))?
         .arg(large_flag(alloc))?
-        .arg(explain_flag(alloc))
+        .arg(explain_flag(alloc))?
+        .arg(brief_flag(alloc))
 }
 
 fn id_command<'a>(alloc: Global) -> Result<Command<'a>, AllocError>
@@ -513,5 +599,6 @@ fn id_command<'a>(alloc: Global) -> Result<Command<'a>, AllocError>
         )
         .arg(id_texts(alloc))?
         .arg(make_flag(alloc))?
-        .arg(explain_id_flag(alloc))
+        .arg(explain_id_flag(alloc))?
+        .arg(brief_flag(alloc))
 }

@@ -3,34 +3,34 @@ ghost use Rattle.std.specs.Prelude.{◌≡◌, ◌≤◌, false, IfErr, IfOk};
 ghost use Rattle.std.specs.Io.KnownBytes.{Appends};
 ghost use Rattle.extrun.specs.Tasks.{IsRefused, IsReported};
 
-use ext_run::{
-    Failures, Options, RunFault, RunListener, Size, Summary, ToldFaults, failures_text,
-    run_with_listener,
-};
+use crate::command::Told;
+use crate::durations::run_timed;
+use ext_run::{Failures, Options, RunFault, RunListener, Size, Summary, ToldFaults, failures_text};
 use std::io::Write;
 use std::sync::Wait;
 use std::thread::Threads;
+use std::time::Clock;
 
-/// Runs the plan in these bytes and, if `failures` is set, repeats its faults at the end.
+/// Runs the plan in these bytes, and then prints what is asked for beside its progress: the slowest
+/// nodes, and at the end the faults of its nodes.
 pub(crate) fn run_plan<R, W: Write, L: RunListener + Sync>(
     rt: &R,
     input: &[u8],
     writer: &mut W,
     options: Options,
     listener: &L,
-    failures: bool,
+    told: Told,
 ) -> Result<Summary, RunFault>
 where
-    R: Threads + Wait + Sync + AllocGlobal + Eprint,
+    R: Threads + Wait + Sync + Clock + AllocGlobal + Eprint,
     requires lanes { options.plain ≡ false → (1 ≤ options.lanes) × (options.lanes ≤ 16) }
     ensures done { IfOk result (λ summary. IsReported options input.now summary (Appends (W.contents writer.old) (W.contents writer.new))) }
     ensures refused { IfErr result (λ fault. IsRefused options input.now fault) }
 {
-    if failures {
-        return run_with_failures(rt, input, writer, options, listener);
+    if told.failures {
+        return run_with_failures(rt, input, writer, options, listener, told.durations);
     }
-    let mut reader = input;
-    run_with_listener(rt, rt.alloc(), &mut reader, writer, options, listener)
+    run_timed(rt, input, writer, options, listener, told.durations)
 }
 
 /// Runs the plan in these bytes, and repeats all faults of its nodes after everything else.
@@ -40,16 +40,16 @@ fn run_with_failures<'a, R, W: Write, L: RunListener + Sync>(
     writer: &mut W,
     options: Options,
     listener: &'a L,
+    durations: bool,
 ) -> Result<Summary, RunFault>
 where
-    R: Threads + Wait + Sync + AllocGlobal + Eprint,
+    R: Threads + Wait + Sync + Clock + AllocGlobal + Eprint,
     requires lanes { options.plain ≡ false → (1 ≤ options.lanes) × (options.lanes ≤ 16) }
     ensures done { IfOk result (λ summary. IsReported options input.now summary (Appends (W.contents writer.old) (W.contents writer.new))) }
     ensures refused { IfErr result (λ fault. IsRefused options input.now fault) }
 {
     let failures = Failures::new(rt, rt.alloc(), listener);
-    let mut reader = input;
-    let outcome = run_with_listener(rt, rt.alloc(), &mut reader, writer, options, &failures);
+    let outcome = run_timed(rt, input, writer, options, &failures, durations);
     if outcome.is_ok() {
         tell_failures(rt, input, options.size, &failures.into_told());
     }

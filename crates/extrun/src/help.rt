@@ -50,5 +50,5 @@ Exit status:
   3  reading, writing or memory failed, or a context could not be closed
 
 Reports go to standard output, and why there is none to standard error, in one line such as 'plan: P8 node 2'.
-With --explain a second line says what that means.
+At a terminal, or with --explain, a second line says what that means.
 --failures says all faults once more at the end, on standard error."#;

@@ -4,12 +4,16 @@
 //! The exit status is 0 if the request was done, but 1 if a node failed or a race was found. It is
 //! 2 if the command line, the plan or the id is refused, and 3 if reading, writing or memory
 //! failed, or a context could not be closed. Reports go to standard output. A fault is one line on
-//! standard error, and `--explain` adds a second one that explains it; `check --all` prints all
-//! faults of a plan.
+//! standard error, and at a terminal or with `--explain` a second one explains it; `check --all`
+//! prints all faults of a plan.
 #![tactic(auto)]
 
+ghost use Rattle.std.specs.Prelude.{◌≡◌, ◌||◌, ◌&&◌, not};
+
 mod args;
+mod color;
 mod command;
+mod durations;
 mod failing;
 mod help;
 mod ids;
@@ -18,7 +22,10 @@ mod progress;
 mod refusing;
 mod running;
 mod telling;
+mod times;
+mod unread;
 
+use color::shown_at;
 use command::{Request, request_of};
 use ext_run::{RequestFault, RunFault, Summary, status_of};
 use ids::{outcome_of_id, outcome_of_parts};
@@ -32,27 +39,56 @@ use std::time::Clock;
 use telling::tell;
 
 fn main(rt: HostRuntime) -> ExitCode {
-    let is_typed = rt.stdin().is_terminal();
+    let terminals = Terminals {
+        input: rt.stdin().is_terminal(),
+        output: rt.stdout().is_terminal(),
+        errors: rt.stderr().is_terminal(),
+    };
     // An error out of `main` would be status 1, which says that a node failed.
-    let outcome = outcome_of(&rt, is_typed);
+    let outcome = outcome_of(&rt, terminals);
     ExitCode::from(status_of(&outcome))
 }
 
-/// Does what the command line asks, and prints why if it was not done. `is_typed` says whether
-/// standard input is a terminal.
-fn outcome_of<R>(rt: &R, is_typed: bool) -> Result<Summary, RequestFault>
+/// Which of the standard streams are terminals.
+#[derive(Clone, Copy)]
+struct Terminals {
+    input: bool,
+    output: bool,
+    errors: bool,
+}
+
+/// Tests whether a fault is explained: if that is asked for, and at a terminal unless only its line
+/// is.
+fn is_explained(explain: bool, brief: bool, at_terminal: bool) -> bool
+    ensures { result ≡ explain || (at_terminal && not brief) }
+{
+    explain || (at_terminal && !brief)
+}
+
+/// Does what the command line asks, and prints why if it was not done.
+fn outcome_of<R>(rt: &R, terminals: Terminals) -> Result<Summary, RequestFault>
 where
     R: Threads + Wait + Sync + Clock + Env + Files + AllocGlobal + Input + Print + Eprint,
 {
     let mut writer = io::writer(rt);
-    let outcome = match request_of(rt, is_typed) {
+    let outcome = match request_of(rt, terminals.input) {
         Request::Plan {
             task,
             file,
             explain,
-        } => return outcome_of_source(rt, &mut writer, task, &file, explain),
-        Request::Id { text, explain } => {
-            return outcome_of_id(rt, &mut writer, text.as_str(), explain);
+            brief,
+        } => {
+            let task = shown_at(rt, task, terminals.output);
+            let explained = is_explained(explain, brief, terminals.errors);
+            return outcome_of_source(rt, &mut writer, task, &file, explained);
+        }
+        Request::Id {
+            text,
+            explain,
+            brief,
+        } => {
+            let explained = is_explained(explain, brief, terminals.errors);
+            return outcome_of_id(rt, &mut writer, text.as_str(), explained);
         }
         Request::MakeId { parts } => {
             return outcome_of_parts(rt, &mut writer, parts.as_slice());

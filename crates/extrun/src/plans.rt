@@ -8,16 +8,18 @@ use crate::failing::run_plan;
 use crate::progress::run_told;
 use crate::refusing::{explain_fault, tell_faults};
 use crate::telling::tell;
+use crate::times::seconds;
+use crate::unread::{Source, explain_cause, explain_undone, explain_unread};
 use ext_run::{
-    NoListener, Options, RequestFault, RunFault, Size, Summary, check, check_races, draw,
-    explain_keys, read_input,
+    NoListener, Options, ReportForm, RequestFault, RunFault, Size, Summary, check, check_races,
+    draw, explain_keys, read_input,
 };
 use std::fs;
-use std::io::{Input, Write};
+use std::io::{Input, Read, Write};
 use std::rt::Files;
 use std::sync::Wait;
 use std::thread::Threads;
-use std::time::Clock;
+use std::time::{Clock, Instant};
 
 /// Reads the whole plan from this file, or from standard input if there is none or it is `-`, and
 /// then does the task. Prints why if it was not done.
@@ -33,8 +35,13 @@ where
     W: Write,
 {
     let input = match file {
-        Some(name) if name.as_str() != "-" => input_of_file(rt, name.as_str(), task.size()),
-        _ => told(rt, read_input(rt.alloc(), &mut rt.reader(), task.size())),
+        Some(name) if name.as_str() != "-" => {
+            input_of_file(rt, name.as_str(), task.size(), explained)
+        }
+        _ => {
+            let source = Source::StandardInput;
+            input_of(rt, &mut rt.reader(), source, task.size(), explained)
+        }
     };
     match input {
         Err(fault) => Err(fault),
@@ -47,14 +54,36 @@ fn input_of_file<R: Files + AllocGlobal + Eprint>(
     rt: &R,
     name: &str,
     size: Size,
+    explained: bool,
 ) -> Result<Vec<u8>, RequestFault> {
+    let source = Source::File(name);
     match fs::open(rt, name) {
-        Ok(mut file) => told(rt, read_input(rt.alloc(), &mut file, size)),
-        Err(_) => {
+        Ok(mut file) => input_of(rt, &mut file, source, size, explained),
+        Err(cause) => {
             let _ = eprintln!(rt; "read failed: {name:?} can't be opened");
+            if explained {
+                explain_cause(rt, source, cause);
+            }
             Err(RequestFault::Run(RunFault::Read))
         }
     }
+}
+
+/// All bytes of this reader, of a plan of this size. Prints why if they cannot be read.
+fn input_of<R: AllocGlobal + Eprint, I: Read>(
+    rt: &R,
+    reader: &mut I,
+    source: Source<'_>,
+    size: Size,
+    explained: bool,
+) -> Result<Vec<u8>, RequestFault> {
+    let input = read_input(rt.alloc(), reader, size);
+    let fault = input.as_ref().err().copied();
+    let input = told(rt, input);
+    if explained && let Some(fault) = fault {
+        explain_unread(rt, reader, source, size, fault);
+    }
+    input
 }
 
 /// Does the task with the plan in these bytes. Prints why if it was not done.
@@ -69,8 +98,8 @@ where
     R: Threads + Wait + Sync + Clock + AllocGlobal + Eprint,
     W: Write,
 {
-    let runs = matches!(task, Task::Run { .. });
     let size = task.size();
+    let begun = Instant::now(rt).ok();
     let done = outcome_of_task(rt, input, writer, task);
     if let Task::CheckAll(_) = task
         && let Err(RunFault::Plan(fault)) = done
@@ -78,15 +107,51 @@ where
         tell_faults(rt, input, size, fault, explained);
         return Err(RequestFault::Run(RunFault::Plan(fault)));
     }
+    if is_for_people(task) && done.is_ok() {
+        write_time(rt, writer, begun);
+    }
     let outcome = told(rt, done);
     if explained {
-        match outcome {
-            Err(RequestFault::Run(RunFault::Plan(fault))) => explain_fault(rt, input, size, fault),
-            Ok(summary) if runs && summary.failed => explain_full_keys(rt, input, size),
-            _ => {}
-        }
+        explain_outcome(rt, input, task, outcome);
     }
     outcome
+}
+
+/// Tests whether this is a run whose report is for people at a terminal.
+fn is_for_people(task: Task) -> bool {
+    match task {
+        Task::Run { options, .. } => matches!(options.form, ReportForm::Terminal { .. }),
+        _ => false,
+    }
+}
+
+/// Writes the time since a run began behind its report.
+fn write_time<R: Clock + AllocGlobal, W: Write>(rt: &R, writer: &mut W, begun: Option<Instant>) {
+    if let Some(begun) = begun
+        && let Ok(took) = begun.elapsed(rt)
+        && let Ok(time) = seconds(rt.alloc(), took)
+    {
+        let _ = writeln!(writer, "ran in {}", time.as_str());
+    }
+}
+
+/// Prints why a task was not done, or why keys of a run that failed have no place.
+fn explain_outcome<R: AllocGlobal + Eprint>(
+    rt: &R,
+    input: &[u8],
+    task: Task,
+    outcome: Result<Summary, RequestFault>,
+) {
+    match (task, outcome) {
+        (_, Err(RequestFault::Run(RunFault::Plan(fault)))) => {
+            explain_fault(rt, input, task.size(), fault);
+        }
+        (_, Err(RequestFault::Run(fault))) => explain_undone(rt, fault),
+        (Task::Run { .. }, Ok(summary)) if summary.failed => {
+            explain_full_keys(rt, input, task.size());
+        }
+        _ => {}
+    }
 }
 
 /// Prints why keys of the plan in these bytes have no place, if there are any.
@@ -119,16 +184,12 @@ fn outcome_of_task<R: Threads + Wait + Sync + Clock + AllocGlobal + Eprint, W: W
 {
     let mut reader = input;
     match task {
-        Task::Run {
-            options,
-            progress,
-            failures,
-        } => {
+        Task::Run { options, told, .. } => {
             let options = in_range(options);
-            if progress {
-                return run_told(rt, input, writer, options, failures);
+            if told.progress {
+                return run_told(rt, input, writer, options, told);
             }
-            run_plan(rt, input, writer, options, &NoListener, failures)
+            run_plan(rt, input, writer, options, &NoListener, told)
         }
         Task::Check(size) | Task::CheckAll(size) => {
             check(rt.alloc(), &mut reader, writer, size)?;

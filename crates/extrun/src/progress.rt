@@ -4,6 +4,7 @@ ghost use Rattle.std.specs.Io.KnownBytes.{Appends};
 ghost use Rattle.extrun.specs.Tasks.{IsRefused, IsReported};
 ghost use denote.Param.Send.{IsSync};
 
+use crate::command::Told;
 use crate::failing::run_plan;
 use crate::running::Running;
 use ext_run::{Options, RunFault, RunListener, Size, Summary, read_plan_within};
@@ -17,7 +18,7 @@ use std::time::{Clock, Duration, Instant};
 const INTERVAL: u64 = 1_000;
 
 /// Runs the plan in these bytes, by the contract of `ext_run::run`, and prints the progress of the
-/// run on standard error. If `failures` is set, it repeats the plan's faults at the end.
+/// run on standard error, and beside it what else is asked for.
 ///
 /// Once a second, a thread of its own prints a line with the number of nodes that have ended and
 /// the nodes that run, if a node started or ended since the line before. So the last line of a run
@@ -32,14 +33,14 @@ pub(crate) fn run_told<R: Threads + Wait + Sync + Clock + AllocGlobal + Eprint, 
     input: &[u8],
     writer: &mut W,
     options: Options,
-    failures: bool,
+    told: Told,
 ) -> Result<Summary, RunFault>
     requires lanes { options.plain ≡ false → (1 ≤ options.lanes) × (options.lanes ≤ 16) }
     ensures done { IfOk result (λ summary. IsReported options input.now summary (Appends (W.contents writer.old) (W.contents writer.new))) }
     ensures refused { IfErr result (λ fault. IsRefused options input.now fault) }
 {
     let progress = Progress::of(rt, input, options.size)?;
-    run_beside(rt, input, writer, options, &progress, failures)
+    run_beside(rt, input, writer, options, &progress, told)
 }
 
 /// Runs the plan beside a thread that prints the progress.
@@ -49,7 +50,7 @@ fn run_beside<R: Threads + Wait + Sync + Clock + AllocGlobal + Eprint, W: Write>
     writer: &mut W,
     options: Options,
     progress: &Progress<'_, R>,
-    failures: bool,
+    told: Told,
 ) -> Result<Summary, RunFault>
     requires lanes { options.plain ≡ false → (1 ≤ options.lanes) × (options.lanes ≤ 16) }
     ensures done { IfOk result (λ summary. IsReported options input.now summary (Appends (W.contents writer.old) (W.contents writer.new))) }
@@ -60,7 +61,7 @@ fn run_beside<R: Threads + Wait + Sync + Clock + AllocGlobal + Eprint, W: Write>
         requires { IsSync R.row × (options.plain ≡ false → (1 ≤ options.lanes) × (options.lanes ≤ 16)) }
         ensures { IfOk result (λ summary. IsReported options input.entry.now summary (Appends (W.contents writer.entry.now) (W.contents writer.exit.now)))
             × IfErr result (λ fault. IsRefused options input.entry.now fault) }
-    { run_to_the_end(rt, input, options, progress, writer, failures) };
+    { run_to_the_end(rt, input, options, progress, writer, told) };
     let ((), outcome) = join_mut(rt, &mut tell, &mut run);
     outcome
 }
@@ -72,13 +73,13 @@ fn run_to_the_end<R: Threads + Wait + Sync + Clock + AllocGlobal + Eprint, W: Wr
     options: Options,
     progress: &Progress<'_, R>,
     writer: &mut W,
-    failures: bool,
+    told: Told,
 ) -> Result<Summary, RunFault>
     requires lanes { options.plain ≡ false → (1 ≤ options.lanes) × (options.lanes ≤ 16) }
     ensures done { IfOk result (λ summary. IsReported options input.now summary (Appends (W.contents writer.old) (W.contents writer.new))) }
     ensures refused { IfErr result (λ fault. IsRefused options input.now fault) }
 {
-    let outcome = run_plan(rt, input, writer, options, progress, failures);
+    let outcome = run_plan(rt, input, writer, options, progress, told);
     progress.end();
     outcome
 }
@@ -175,7 +176,7 @@ impl<R: Wait> RunListener for Progress<'_, R> {
 }
 
 /// The ids of the nodes of the plan in these bytes. A plan that is refused has none.
-fn ids_of(alloc: Global, input: &[u8], size: Size) -> Result<Vec<String>, AllocError> {
+pub(crate) fn ids_of(alloc: Global, input: &[u8], size: Size) -> Result<Vec<String>, AllocError> {
     let mut ids = Vec::new(alloc);
     let Ok(text) = std::str::from_utf8(input) else {
         return Ok(ids);

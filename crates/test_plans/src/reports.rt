@@ -2,7 +2,10 @@
 use crate::same::same;
 use crate::trees::push_ids;
 use ext_model::{ContextNo, Fault};
-use ext_report::{NodeResult, Status, any_failed, leave_out_reserve, report_text, tree_report};
+use ext_report::{
+    NodeResult, Status, any_failed, leave_out_reserve, report_text, terminal_report, tree_report,
+    write_visible,
+};
 use ext_tree::Tree;
 use std::alloc::{AllocError, Global};
 use std::process::Abort;
@@ -185,6 +188,97 @@ fn tree_without_a_result(rt: HostRuntime) -> Result<(), Fail> {
     results.retain(|r| r.node != 2);
     let text = tree_report(rt.alloc(), &tree, results.as_slice())?;
     same(&rt, text.as_str(), TREE_WITHOUT_A_METHOD, "the tree");
+    Ok(())
+}
+
+/// A class that failed, whose test was skipped, and a successful engine.
+const WITH_A_FAILED_CLASS: [Ended; 3] = [
+    CONTAINER,
+    Ended {
+        node: 1,
+        status: Status::Failed,
+        fault: "\x1b[2J\nthen",
+        more: 2,
+        closed: 3,
+        ..CONTAINER
+    },
+    Ended {
+        node: 2,
+        status: Status::Skipped,
+        ..TEST
+    },
+];
+
+/// Asserts that the results of a chain have this report for people.
+fn shows<R: Abort>(
+    rt: &R,
+    alloc: Global,
+    rows: &[Ended],
+    colored: bool,
+    wanted: &str,
+) -> Result<(), Fail> {
+    let tree = tree_of(alloc, CHAIN)?;
+    let results = results_of(alloc, rows)?;
+    assert!(rt; results.iter().all(|r| r.node < tree.len()));
+    let text = terminal_report(alloc, &tree, results.as_slice(), colored)?;
+    same(rt, text.as_str(), wanted, "the report for people");
+    Ok(())
+}
+
+/// Tests `terminal_report`: a status has its colour, a node that failed or was aborted a second line
+/// behind the totals, and a fault no control character.
+#[test]
+fn report_for_people(rt: HostRuntime) -> Result<(), Fail> {
+    let plain = "[engine:x] successful closed 0\n\
+         [engine:x]/[class:A] failed closed 3: \\u{1b}[2J\\nthen (+2)\n\
+         [engine:x]/[class:A]/[method:m()] skipped closed 0\n\
+         tests 1 successful 0 aborted 0 failed 0 skipped 1\n\
+         computed 0 found 0 closed 3 close faults 0\n\
+         \n\
+         [engine:x]/[class:A] failed closed 3: \\u{1b}[2J\\nthen (+2)\n";
+    shows(&rt, rt.alloc(), &WITH_A_FAILED_CLASS, false, plain)?;
+    let colored = "[engine:x] \x1b[32msuccessful\x1b[0m closed 0\n\
+         [engine:x]/[class:A] \x1b[31mfailed\x1b[0m closed 3: \\u{1b}[2J\\nthen (+2)\n\
+         [engine:x]/[class:A]/[method:m()] \x1b[2mskipped\x1b[0m closed 0\n\
+         tests 1 successful 0 aborted 0 failed 0 skipped 1\n\
+         computed 0 found 0 closed 3 close faults 0\n\
+         \n\
+         [engine:x]/[class:A] \x1b[31mfailed\x1b[0m closed 3: \\u{1b}[2J\\nthen (+2)\n";
+    shows(&rt, rt.alloc(), &WITH_A_FAILED_CLASS, true, colored)
+}
+
+/// An aborted test alone.
+const ABORTED: [Ended; 1] = [Ended {
+    status: Status::Aborted,
+    fault: "later",
+    ..TEST
+}];
+
+/// Tests `terminal_report`: nothing stands behind the totals where no node failed or was aborted.
+#[test]
+fn report_for_people_without_a_fault(rt: HostRuntime) -> Result<(), Fail> {
+    let wanted = "[engine:x] \x1b[32msuccessful\x1b[0m closed 0\n\
+         tests 1 successful 1 aborted 0 failed 0 skipped 0\n\
+         computed 0 found 0 closed 0 close faults 0\n";
+    shows(&rt, rt.alloc(), &[TEST], true, wanted)?;
+    let wanted = "[engine:x] \x1b[33maborted\x1b[0m closed 0: later\n\
+         tests 1 successful 0 aborted 1 failed 0 skipped 0\n\
+         computed 0 found 0 closed 0 close faults 0\n\
+         \n\
+         [engine:x] \x1b[33maborted\x1b[0m closed 0: later\n";
+    shows(&rt, rt.alloc(), &ABORTED, true, wanted)
+}
+
+/// Tests `write_visible`.
+#[test]
+fn control_characters_are_visible(rt: HostRuntime) -> Result<(), Fail> {
+    let mut text = String::from_str(rt.alloc(), "a ")?;
+    write_visible(
+        &mut text,
+        "\0\t\n\r\x1f ~\x7f\u{80}\u{9f}\u{a0}\u{e9}\u{1f600}",
+    )?;
+    let wanted = "a \\u{0}\\t\\n\\r\\u{1f} ~\\u{7f}\\u{80}\\u{9f}\u{a0}\u{e9}\u{1f600}";
+    same(&rt, text.as_str(), wanted, "the text");
     Ok(())
 }
 

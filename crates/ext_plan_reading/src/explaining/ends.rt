@@ -1,28 +1,32 @@
-//! The end of an explanation: the node's id, and the line of the plan where its table begins.
+//! The end of an explanation: the node's id, and the line of the plan with the fault.
 use crate::explaining::fields::table_of;
 use crate::explaining::line_at;
+use crate::explaining::places::{Spot, byte_of};
+use crate::explaining::words::Meaning;
 use crate::fault::{Place, PlanFault};
 use crate::fields::{tables_at, text_at};
 use std::alloc::Global;
 use toml::Table;
 
-/// Appends the end of an explanation: the node's id as the plan spells it, and the line where the
-/// table of the key or the node begins, each if it is known. The explanation of a bad id contains
-/// the id already.
+/// Appends the end of an explanation: the node's id as the plan spells it, and the line of the field
+/// or the step at fault, or else that where the table of the key or the node begins, each if it is
+/// known. The explanation of a bad id contains the id already.
 pub(crate) fn with_end(
     alloc: Global,
     text: &str,
     top: &Table,
     fault: PlanFault,
-    meaning: &str,
+    meaning: &Meaning,
 ) -> Result<String, PlanFault> {
-    let line = line_of(alloc, text, fault.place())?;
+    let place = meaning.place.unwrap_or(fault.place());
+    let line = line_of(alloc, text, place, &meaning.spot)?;
+    let words = meaning.words.as_str();
     let id = id_of(alloc, top, fault)?;
     Ok(match (id, line) {
-        (Some(id), Some(line)) => format!(in alloc; "{meaning} ({id:?}, line {line})")?,
-        (Some(id), None) => format!(in alloc; "{meaning} ({id:?})")?,
-        (None, Some(line)) => format!(in alloc; "{meaning} (line {line})")?,
-        (None, None) => String::from_str(alloc, meaning)?,
+        (Some(id), Some(line)) => format!(in alloc; "{words} ({id:?}, line {line})")?,
+        (Some(id), None) => format!(in alloc; "{words} ({id:?})")?,
+        (None, Some(line)) => format!(in alloc; "{words} (line {line})")?,
+        (None, None) => String::from_str(alloc, words)?,
     })
 }
 
@@ -43,9 +47,14 @@ fn id_of<'a>(
     Ok(table.and_then(|table| text_at(table, "id")))
 }
 
-/// The line of the plan, from 1, where the table of a place begins, if it has a header of its own
-/// such as `[[node]]`.
-fn line_of(alloc: Global, text: &str, place: Place) -> Result<Option<usize>, PlanFault> {
+/// The line of the plan, from 1, where this field or step of a table stands, or else the table
+/// begins, if the table has a header of its own such as `[[node]]`.
+fn line_of(
+    alloc: Global,
+    text: &str,
+    place: Place,
+    spot: &Option<Spot>,
+) -> Result<Option<usize>, PlanFault> {
     let (header, name, number) = match place {
         Place::Whole => return Ok(None),
         Place::Key(key) => ("[[key]]", "key", key),
@@ -55,9 +64,17 @@ fn line_of(alloc: Global, text: &str, place: Place) -> Result<Option<usize>, Pla
         return Ok(None);
     };
     if has_tables(alloc, text, end, name, number.saturating_add(1))? {
-        return Ok(Some(line_at(text, end)));
+        return Ok(Some(line_at(text, byte_at(text, end, spot))));
     }
     Ok(None)
+}
+
+/// The byte at which a place in the table stands whose header ends here, or else this one.
+fn byte_at(text: &str, end: usize, spot: &Option<Spot>) -> usize {
+    match spot {
+        None => end,
+        Some(spot) => byte_of(text, end, spot).unwrap_or(end),
+    }
 }
 
 /// The byte at which the line of the header with this number ends.

@@ -1,6 +1,6 @@
 //! Explanations of faults in fields.
 use crate::explaining::near::nearest;
-use crate::explaining::words::{quoted, said};
+use crate::explaining::words::{Meaning, of_field, quoted, said};
 use crate::fault::{Place, PlanFault};
 use crate::fields::{
     TOP_FIELDS, first_other, key_places_at, repeats_at, tables_at, text_at, text_if_given,
@@ -9,7 +9,7 @@ use crate::fields::{
 use crate::keys::{KEY_FIELDS, has_parts, is_word};
 use crate::nodes::NODE_FIELDS;
 use std::alloc::Global;
-use toml::Table;
+use toml::{Table, Value};
 
 /// The type that a field has to have.
 #[derive(Clone, Copy)]
@@ -73,7 +73,7 @@ pub(crate) fn unknown_field(
     alloc: Global,
     top: &Table,
     place: Place,
-) -> Result<Option<String>, PlanFault> {
+) -> Result<Option<Meaning>, PlanFault> {
     let Some(table) = table_of(alloc, top, place)? else {
         return Ok(None);
     };
@@ -89,10 +89,10 @@ fn first_unknown(
     alloc: Global,
     table: &Table,
     fields: &[&str],
-) -> Result<Option<String>, PlanFault> {
+) -> Result<Option<Meaning>, PlanFault> {
     match first_other(fields, table) {
         None => Ok(None),
-        Some(name) => unknown_among(alloc, name, fields),
+        Some(name) => of_field(alloc, name, unknown_among(alloc, name, fields)?),
     }
 }
 
@@ -100,12 +100,22 @@ fn first_unknown(
 fn unknown_among(alloc: Global, name: &str, fields: &[&str]) -> Result<Option<String>, PlanFault> {
     let all = listed(alloc, fields)?;
     let all = all.as_str();
+    if stands_at_top(name) {
+        return Ok(Some(format!(in alloc;
+            "it may not have a field {name:?}, which stands before all tables. Allowed are {all}"
+        )?));
+    }
     Ok(Some(match nearest(fields, name) {
         None => format!(in alloc; "it may not have a field {name:?}. Allowed are {all}")?,
         Some(near) => format!(in alloc;
             "it may not have a field {name:?}: did you mean {near:?}? Allowed are {all}"
         )?,
     }))
+}
+
+/// Tests whether a field is one of the plan's own that is no array of tables.
+fn stands_at_top(name: &str) -> bool {
+    matches!(name, "keep_faults" | "keys")
 }
 
 /// The names, with a comma and a space between two.
@@ -125,7 +135,7 @@ pub(crate) fn bad_field(
     alloc: Global,
     top: &Table,
     place: Place,
-) -> Result<Option<String>, PlanFault> {
+) -> Result<Option<Meaning>, PlanFault> {
     let Some(table) = table_of(alloc, top, place)? else {
         return Ok(None);
     };
@@ -138,13 +148,11 @@ pub(crate) fn bad_field(
 
 /// Names the first field of a node that is missing or has another type, or says that what is to be
 /// repeated is no test.
-fn first_bad_of_node(alloc: Global, table: &Table) -> Result<Option<String>, PlanFault> {
+fn first_bad_of_node(alloc: Global, table: &Table) -> Result<Option<Meaning>, PlanFault> {
     let found = first_bad(alloc, table, &NODE_TYPES)?;
     if found.is_none() && table.get("repeat").is_some() && table.get("test").is_none() {
-        return said(
-            alloc,
-            "its field \"repeat\" stands without a field \"test\"",
-        );
+        let words = "its field \"repeat\" stands without a field \"test\"";
+        return of_field(alloc, "repeat", said(alloc, words)?);
     }
     Ok(found)
 }
@@ -154,16 +162,16 @@ fn first_bad(
     alloc: Global,
     table: &Table,
     fields: &[(&str, FieldType)],
-) -> Result<Option<String>, PlanFault> {
+) -> Result<Option<Meaning>, PlanFault> {
     for (name, kind) in fields {
         if !is_right(alloc, table, name, *kind)? {
-            return no_type(alloc, table, name, *kind);
+            return of_field(alloc, name, no_type(alloc, table, name, *kind)?);
         }
     }
     Ok(None)
 }
 
-/// Says that a field has not this type, and how a table of an array is written where one is meant.
+/// Says that a field has not this type, and how what is meant is written, where that is likely.
 fn no_type(
     alloc: Global,
     table: &Table,
@@ -181,7 +189,36 @@ fn no_type(
     {
         return Ok(Some(format!(in alloc; "its field {name:?}{wrong}: did you mean [[key]]?")?));
     }
-    quoted(alloc, "its field ", name, wrong)
+    match (kind, table.get(name)) {
+        (FieldType::TruthIfGiven, Some(value)) if is_quoted_truth(value) => Ok(Some(
+            format!(in alloc; "its field {name:?}{wrong}: write it without quotes")?,
+        )),
+        (FieldType::TextsIfGiven, Some(value)) => no_texts(alloc, name, wrong, value.as_str()),
+        (FieldType::TextListsIfGiven, Some(_)) => Ok(Some(format!(in alloc;
+            "its field {name:?}{wrong}, such as [[\"put a x\"], [\"put b y\"]]"
+        )?)),
+        _ => quoted(alloc, "its field ", name, wrong),
+    }
+}
+
+/// Tests whether a value is `true` or `false` in quotes.
+fn is_quoted_truth(value: &Value) -> bool {
+    matches!(value.as_str(), Some("true" | "false"))
+}
+
+/// Says that a field is no array of texts, and how one is written if it is a text.
+fn no_texts(
+    alloc: Global,
+    name: &str,
+    wrong: &str,
+    text: Option<&str>,
+) -> Result<Option<String>, PlanFault> {
+    match text {
+        None => quoted(alloc, "its field ", name, wrong),
+        Some(text) => Ok(Some(format!(in alloc;
+            "its field {name:?}{wrong}: did you mean [{text:?}]?"
+        )?)),
+    }
 }
 
 /// Tests whether there is a single table under a name.
@@ -242,7 +279,7 @@ pub(crate) fn bad_label(
     alloc: Global,
     top: &Table,
     key: usize,
-) -> Result<Option<String>, PlanFault> {
+) -> Result<Option<Meaning>, PlanFault> {
     let tables = tables_at(alloc, top, "key", PlanFault::BadField(Place::Whole))?;
     bad_label_among(alloc, tables.as_slice(), key)
 }
@@ -252,7 +289,7 @@ fn bad_label_among(
     alloc: Global,
     tables: &[&Table],
     key: usize,
-) -> Result<Option<String>, PlanFault> {
+) -> Result<Option<Meaning>, PlanFault> {
     let Some(table) = tables.get(key) else {
         return Ok(None);
     };
@@ -260,12 +297,16 @@ fn bad_label_among(
         return Ok(None);
     };
     if !is_word(label) {
-        return no_word(alloc, label);
+        return of_field(alloc, "label", no_word(alloc, label)?);
     }
     if !has_own_parts(alloc, table)? {
-        return said(alloc, "its namespace has no part");
+        return of_field(
+            alloc,
+            "namespace",
+            said(alloc, "its namespace has no part")?,
+        );
     }
-    same_label(alloc, tables, key, label)
+    of_field(alloc, "label", same_label(alloc, tables, key, label)?)
 }
 
 fn no_word(alloc: Global, label: &str) -> Result<Option<String>, PlanFault> {

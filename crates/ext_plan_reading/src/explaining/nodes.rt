@@ -6,7 +6,10 @@ ghost use Rattle.ext_plan_reading.specs.InnerSketches.{HasRoom, sketch_view};
 
 use crate::explaining::fields::table_of;
 use crate::explaining::ids::words_of_id;
-use crate::explaining::words::{quoted, said};
+use crate::explaining::places::TextNo;
+use crate::explaining::words::{
+    Meaning, of_field, of_field_at, of_no_field, of_text, quoted, said,
+};
 use crate::fault::{Place, PlanFault};
 use crate::fields::{key_places_at, tables_at, text_at};
 use crate::keys::{Keys, keys_of};
@@ -47,13 +50,17 @@ pub(crate) fn nodes_in<'a>(
     with_repetitions(alloc, size.contexts(), sketches)
 }
 
-pub(crate) fn bad_id(alloc: Global, top: &Table, node: usize) -> Result<Option<String>, PlanFault> {
+pub(crate) fn bad_id(
+    alloc: Global,
+    top: &Table,
+    node: usize,
+) -> Result<Option<Meaning>, PlanFault> {
     let Some(table) = table_of(alloc, top, Place::Node(node))? else {
         return Ok(None);
     };
     match text_at(table, "id") {
         None => Ok(None),
-        Some(text) => no_id(alloc, table, text),
+        Some(text) => of_field(alloc, "id", no_id(alloc, table, text)?),
     }
 }
 
@@ -82,10 +89,10 @@ pub(crate) fn bad_nodes(
     top: &Table,
     size: Size,
     fault: PlanFault,
-) -> Result<Option<String>, PlanFault> {
+) -> Result<Option<Meaning>, PlanFault> {
     let count = node_count(sketches_in(alloc, top)?.as_slice());
     if fault == PlanFault::BadTree && count > size.contexts() {
-        return too_many_nodes(alloc, size, count);
+        return Ok(of_no_field(too_many_nodes(alloc, size, count)?));
     }
     let sketches = nodes_in(alloc, top, size)?;
     match fault.place() {
@@ -110,11 +117,11 @@ fn bad_node(
     sketches: &[NodeSketch<'_>],
     node: usize,
     fault: PlanFault,
-) -> Result<Option<String>, PlanFault> {
+) -> Result<Option<Meaning>, PlanFault> {
     match sketches.iter().find(|sketch| sketch.table == node) {
         None => Ok(None),
         Some(sketch) => match fault {
-            PlanFault::BadTest(_) => said(alloc, unfit_for_test(sketch)),
+            PlanFault::BadTest(_) => Ok(of_no_field(said(alloc, unfit_for_test(sketch))?)),
             _ => bad_lock(alloc, sketch, node),
         },
     }
@@ -125,7 +132,7 @@ fn bad_tree(
     alloc: Global,
     size: Size,
     sketches: &[NodeSketch<'_>],
-) -> Result<Option<String>, PlanFault> {
+) -> Result<Option<Meaning>, PlanFault> {
     match tree_fault(alloc, size, sketches)? {
         None => Ok(None),
         Some(fault) => in_the_way(alloc, size, sketches, fault),
@@ -147,10 +154,10 @@ fn in_the_way(
     size: Size,
     sketches: &[NodeSketch<'_>],
     fault: TreeFault,
-) -> Result<Option<String>, PlanFault> {
+) -> Result<Option<Meaning>, PlanFault> {
     match fault {
         TreeFault::Memory => Err(PlanFault::Memory),
-        TreeFault::TooMany => too_many_nodes(alloc, size, sketches.len()),
+        TreeFault::TooMany => Ok(of_no_field(too_many_nodes(alloc, size, sketches.len())?)),
         TreeFault::NoRoot => {
             let why = "has more than one segment, so that it is no root";
             without_parent(alloc, sketches, 0, why)
@@ -169,7 +176,7 @@ fn without_parent(
     sketches: &[NodeSketch<'_>],
     node: usize,
     why: &str,
-) -> Result<Option<String>, PlanFault> {
+) -> Result<Option<Meaning>, PlanFault> {
     if !has_parent(sketches, node) {
         return named(alloc, sketches, node, why);
     }
@@ -204,10 +211,13 @@ fn named(
     sketches: &[NodeSketch<'_>],
     node: usize,
     why: &str,
-) -> Result<Option<String>, PlanFault> {
+) -> Result<Option<Meaning>, PlanFault> {
     match sketches.get(node) {
-        None => said(alloc, "it has no node"),
-        Some(sketch) => named_by(alloc, &sketch.id, sketch.table, why),
+        None => Ok(of_no_field(said(alloc, "it has no node")?)),
+        Some(sketch) => {
+            let words = named_by(alloc, &sketch.id, sketch.table, why)?;
+            of_field_at(alloc, Place::Node(sketch.table), "id", words)
+        }
     }
 }
 
@@ -239,16 +249,12 @@ fn bad_lock(
     alloc: Global,
     sketch: &NodeSketch<'_>,
     node: usize,
-) -> Result<Option<String>, PlanFault> {
+) -> Result<Option<Meaning>, PlanFault> {
     if let Some(mode) = sketch.mode
         && mode_at(node, Some(mode)).is_err()
     {
-        return quoted(
-            alloc,
-            "its mode ",
-            mode,
-            " is neither same_thread nor concurrent",
-        );
+        let why = " is neither same_thread nor concurrent";
+        return of_field(alloc, "mode", quoted(alloc, "its mode ", mode, why)?);
     }
     match &sketch.locks {
         None => Ok(None),
@@ -257,10 +263,15 @@ fn bad_lock(
 }
 
 /// Explains the first of a node's texts that is no lock.
-fn first_bad_lock(alloc: Global, node: usize, texts: &[&str]) -> Result<Option<String>, PlanFault> {
+fn first_bad_lock(
+    alloc: Global,
+    node: usize,
+    texts: &[&str],
+) -> Result<Option<Meaning>, PlanFault> {
     for (i, text) in texts.iter().enumerate() {
         if !is_lock(alloc, node, text)? {
-            return no_lock(alloc, i, text);
+            let words = no_lock(alloc, i, text)?;
+            return of_text(alloc, "locks", TextNo::In(i), words);
         }
     }
     Ok(None)
@@ -280,13 +291,19 @@ fn is_lock(alloc: Global, node: usize, text: &str) -> Result<bool, PlanFault> {
 }
 
 /// Names what there is too much of.
-pub(crate) fn too_many(alloc: Global, top: &Table) -> Result<Option<String>, PlanFault> {
+pub(crate) fn too_many(alloc: Global, top: &Table) -> Result<Option<Meaning>, PlanFault> {
     let most = key_places_at(top, "keys", PlanFault::BadField(Place::Whole))?;
     let keys = keys_in(alloc, top)?;
     let first = first_too_many(alloc, keys.keys.as_slice(), most)?;
     match first {
-        Some(key) => too_many_keys(alloc, key, most),
-        None => said(alloc, "its locks have more than 63 different names"),
+        Some(key) => {
+            let words = too_many_keys(alloc, key, most)?;
+            of_field_at(alloc, Place::Key(key), "label", words)
+        }
+        None => {
+            let words = "its locks have more than 63 different names";
+            Ok(of_no_field(said(alloc, words)?))
+        }
     }
 }
 

@@ -7,6 +7,8 @@ ghost use Rattle.ext_plan_reading.specs.StepReading.{step_at};
 use crate::depths::least_test_depth;
 use crate::explaining::near::nearest;
 use crate::explaining::nodes::{keys_in, nodes_in};
+use crate::explaining::places::TextNo;
+use crate::explaining::words::{Meaning, of_text};
 use crate::fault::PlanFault;
 use crate::labels::Labels;
 use crate::nodes::{NodeSketch, tree_of};
@@ -37,7 +39,7 @@ pub(crate) fn bad_step(
     top: &Table,
     size: Size,
     node: usize,
-) -> Result<Option<String>, PlanFault> {
+) -> Result<Option<Meaning>, PlanFault> {
     let keys = keys_in(alloc, top)?;
     let sketches = nodes_in(alloc, top, size)?;
     bad_step_among(alloc, size, &keys.labels, sketches.as_slice(), node)
@@ -50,7 +52,7 @@ fn bad_step_among(
     labels: &Labels<'_>,
     sketches: &[NodeSketch<'_>],
     table: usize,
-) -> Result<Option<String>, PlanFault> {
+) -> Result<Option<Meaning>, PlanFault> {
     let tree = tree_of(alloc, size, sketches)?;
     for (node, sketch) in sketches.iter().enumerate() {
         if sketch.table == table
@@ -69,7 +71,7 @@ fn bad_in_node(
     tree: &Tree,
     sketches: &[NodeSketch<'_>],
     node: usize,
-) -> Result<Option<String>, PlanFault>
+) -> Result<Option<Meaning>, PlanFault>
     requires tree { tree.now ≡ ids_of (map sketch_view sketches.now) }
     requires within { node < length sketches.now }
 {
@@ -90,7 +92,7 @@ fn bad_in_kinds(
     labels: &Labels<'_>,
     node: usize,
     kinds: &[(&str, usize, &[Vec<&str>])],
-) -> Result<Option<String>, PlanFault> {
+) -> Result<Option<Meaning>, PlanFault> {
     for (name, depth, lists) in kinds {
         let found = bad_in_callbacks(alloc, labels, *depth, node, name, lists)?;
         if found.is_some() {
@@ -109,7 +111,7 @@ fn bad_in_callbacks(
     node: usize,
     name: &str,
     lists: &[Vec<&str>],
-) -> Result<Option<String>, PlanFault> {
+) -> Result<Option<Meaning>, PlanFault> {
     for (i, texts) in lists.iter().enumerate() {
         if let Some(step) = first_bad(alloc, labels, depth, node, texts.as_slice())? {
             return bad_in_callback(alloc, labels, name, i, step, texts[step]);
@@ -126,9 +128,10 @@ fn bad_in_callback(
     i: usize,
     step: usize,
     text: &str,
-) -> Result<Option<String>, PlanFault> {
+) -> Result<Option<Meaning>, PlanFault> {
     let list = format!(in alloc; "{name} {i}")?;
-    no_step(alloc, labels, list.as_str(), step, text)
+    let words = no_step(alloc, labels, list.as_str(), step, text)?;
+    of_text(alloc, name, TextNo::InList(i, step), words)
 }
 
 /// Explains the first of a test's texts that is no step there.
@@ -138,13 +141,16 @@ fn bad_in_test(
     depth: usize,
     node: usize,
     texts: &Option<Vec<&str>>,
-) -> Result<Option<String>, PlanFault> {
+) -> Result<Option<Meaning>, PlanFault> {
     let Some(texts) = texts else {
         return Ok(None);
     };
     match first_bad(alloc, labels, depth, node, texts.as_slice())? {
         None => Ok(None),
-        Some(step) => no_step(alloc, labels, "test", step, texts[step]),
+        Some(step) => {
+            let words = no_step(alloc, labels, "test", step, texts[step])?;
+            of_text(alloc, "test", TextNo::In(step), words)
+        }
     }
 }
 
@@ -222,9 +228,19 @@ fn reason_of_words(alloc: Global, text: &str) -> Result<String, AllocError> {
 
 /// Says that no step begins with the word, and which one is near.
 fn no_step_word(alloc: Global, word: &str) -> Result<String, AllocError> {
-    match nearest(&STEP_WORDS, word) {
+    match meant_by(word) {
         None => String::from_str(alloc, "is none of the steps"),
         Some(near) => format!(in alloc; "is none of the steps: did you mean {near:?}?"),
+    }
+}
+
+/// The word of a step that was meant by another one.
+fn meant_by(word: &str) -> Option<&'static str> {
+    match word {
+        "get" => Some("want"),
+        "set" => Some("put"),
+        "delete" => Some("remove"),
+        _ => nearest(&STEP_WORDS, word),
     }
 }
 
@@ -233,8 +249,9 @@ const NO_HEIGHT: &str = "has an up that is no number from 1 to 15";
 /// Why a text is no step, by its first word and the words after it, unless no step begins so.
 fn reason_of(name: &str, rest: &[&str]) -> Option<&'static str> {
     match name {
-        "fail" | "abort" => Some("takes one text and no up"),
+        "fail" | "abort" => Some("takes one word as its text, and no up"),
         "none" | "remove" => Some(no_key_alone(rest)),
+        "put" | "compute" if rest.first() == Some(&"!") => Some("has a space before its !"),
         "put" | "put!" | "want" | "compute" | "compute!" | "computefail" => {
             Some(no_key_and_text(rest))
         }

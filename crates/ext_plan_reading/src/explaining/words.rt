@@ -1,6 +1,17 @@
 //! The texts of explanations.
-use crate::fault::PlanFault;
+use crate::explaining::places::{Spot, TextNo};
+use crate::fault::{Place, PlanFault};
 use std::alloc::Global;
+
+/// What an explanation says of a fault, and of what it speaks.
+#[derive(Drop)]
+pub(crate) struct Meaning {
+    pub(crate) words: String,
+    /// The table that it speaks of, if that is no whole plan and the fault does not name it.
+    pub(crate) place: Option<Place>,
+    /// The place in the table, if it is one.
+    pub(crate) spot: Option<Spot>,
+}
 
 pub(crate) fn said(alloc: Global, words: &str) -> Result<Option<String>, PlanFault> {
     Ok(Some(String::from_str(alloc, words)?))
@@ -14,4 +25,53 @@ pub(crate) fn quoted(
     after: &str,
 ) -> Result<Option<String>, PlanFault> {
     Ok(Some(format!(in alloc; "{before}{text:?}{after}")?))
+}
+
+/// These words, if there are any, which speak of no place in a table.
+pub(crate) fn of_no_field(words: Option<String>) -> Option<Meaning> {
+    of_place(None, None, words)
+}
+
+/// These words, if there are any, which speak of a field in this table.
+pub(crate) fn of_field_at(
+    alloc: Global,
+    place: Place,
+    field: &str,
+    words: Option<String>,
+) -> Result<Option<Meaning>, PlanFault> {
+    let spot = spot_of(alloc, field, None)?;
+    Ok(of_place(Some(place), Some(spot), words))
+}
+
+/// These words, if there are any, which speak of a field.
+pub(crate) fn of_field(
+    alloc: Global,
+    field: &str,
+    words: Option<String>,
+) -> Result<Option<Meaning>, PlanFault> {
+    let spot = spot_of(alloc, field, None)?;
+    Ok(of_place(None, Some(spot), words))
+}
+
+/// These words, if there are any, which speak of a text in the array of a field.
+pub(crate) fn of_text(
+    alloc: Global,
+    field: &str,
+    text: TextNo,
+    words: Option<String>,
+) -> Result<Option<Meaning>, PlanFault> {
+    let spot = spot_of(alloc, field, Some(text))?;
+    Ok(of_place(None, Some(spot), words))
+}
+
+fn spot_of(alloc: Global, field: &str, text: Option<TextNo>) -> Result<Spot, PlanFault> {
+    let field = String::from_str(alloc, field)?;
+    Ok(Spot { field, text })
+}
+
+fn of_place(place: Option<Place>, spot: Option<Spot>, words: Option<String>) -> Option<Meaning> {
+    match words {
+        None => None,
+        Some(words) => Some(Meaning { words, place, spot }),
+    }
 }

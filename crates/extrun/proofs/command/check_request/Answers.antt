@@ -4,7 +4,8 @@ use Rattle.clap.specs.Matches.{found_of}
 use Rattle.clap.specs.Walk.{Row, one_of, rows_of}
 use Rattle.clap.proofs.WalkLemmas.{one_text-rows}
 use Rattle.ext_model.specs.declared.size.Size.{Size}
-use Rattle.extrun.specs.CommandWords.{AsksCheck, AsksTask, IsFlag, IsSize, check_as}
+use Rattle.extrun.specs.CommandWords.{AsksCheck, AsksTask, check_as}
+use Rattle.extrun.specs.Flags.{IsFlag, IsSize}
 use Rattle.extrun.specs.declared.command.Request.{Request}
 use Rattle.extrun.proofs.command.check_request.Goals as goal
 

@@ -5,7 +5,8 @@ use Rattle.std.proofs.lemmas.Result.{IfOk-weaker}
 use Rattle.clap.specs.Matches.{found_of}
 use Rattle.clap.specs.Walk.{rows_of}
 use Rattle.clap.proofs.WalkLemmas.{one_text-rows, raw_values-rows}
-use Rattle.extrun.specs.CommandWords.{AsksOfTexts, IsFlag, texts_of}
+use Rattle.extrun.specs.CommandWords.{AsksOfTexts, texts_of}
+use Rattle.extrun.specs.Flags.{IsFlag}
 use Rattle.extrun.proofs.command.id_request.Goals as goal
 
 now-unwrap : (texts : Option (Bor (List (Bor (List ℕ))))) (other : Bor (List (Bor (List ℕ)))) → map (λ t. t.now) (unwrap_or texts other).now ≡ unwrap_or (option_map (λ s. map (λ t. t.now) s.now) texts) (map (λ t. t.now) other.now)
@@ -22,7 +23,9 @@ returns g c =
     IfOk-weaker c.request_of_texts.result _ _ (λ request asks. record {
       make = c.is_set-make.result;
       explain = c.is_set-explain.result;
+      brief = c.is_set-brief.result;
       making = subst (λ text. IsFlag text c.is_set-make.result) (one_text-rows found (codes "make")) c.is_set-make.ensures;
       explained = subst (λ text. IsFlag text c.is_set-explain.result) (one_text-rows found (codes "explain")) c.is_set-explain.ensures;
-      asks = subst (λ all. AsksOfTexts c.is_set-make.result c.is_set-explain.result all request) texts asks;
+      short = subst (λ text. IsFlag text c.is_set-brief.result) (one_text-rows found (codes "brief")) c.is_set-brief.ensures;
+      asks = subst (λ all. AsksOfTexts c.is_set-make.result c.is_set-explain.result c.is_set-brief.result all request) texts asks;
     }) c.request_of_texts.ensures

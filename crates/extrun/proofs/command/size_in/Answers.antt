@@ -1,7 +1,7 @@
 use Rattle.std.proofs.Common.{codes, subst}
 use Rattle.clap.specs.Matches.{found_of}
 use Rattle.clap.proofs.WalkLemmas.{one_text-rows}
-use Rattle.extrun.specs.CommandWords.{IsFlag}
+use Rattle.extrun.specs.Flags.{IsFlag}
 use Rattle.extrun.proofs.command.size_in.Goals as goal
 
 pub returns : goal.returns

@@ -1,0 +1,160 @@
+//! The report of a run for people at a terminal.
+ghost use Rattle.std.specs.Prelude.{◌≡◌, ◌<◌, ◌++◌, length, string_bytes, All, IfOk, OnOk};
+ghost use Rattle.ext_lifecycle.specs.FaultTexts.{result_view, results_view};
+ghost use Rattle.ext_report.specs.Report.{fault_part, tells_fault};
+ghost use Rattle.ext_report.specs.TerminalLines.{apart, color_of, each_line, escape, line_again, shown_line, shown_status, terminal_of, visible};
+
+use crate::line::{status_text, write_fault};
+use crate::totals::{NodeSums, TestCounts};
+use crate::visible::write_visible;
+use ext_ids::UniqueId;
+use ext_lifecycle::{NodeResult, Status};
+use ext_tree::Tree;
+use std::alloc::{AllocError, Global};
+
+/// Returns the report of results for people at a terminal: one line for each, in the order of the
+/// list, two lines of totals, and behind an empty line those of the nodes that aborted or failed
+/// once more. Control characters of ids and faults are escaped; with `colored` each status has a
+/// colour. Each result is of a context of the tree. A context may have no result, or several.
+///
+/// Takes memory for the text, and fails with `AllocError` only if that is refused.
+pub fn terminal_report(
+    alloc: Global,
+    tree: &Tree,
+    results: &[NodeResult],
+    colored: bool,
+) -> Result<String, AllocError>
+    requires in_tree { All (λ r. r.node < length tree.now) results.now }
+    ensures { IfOk result
+        (λ text. string_bytes text ≡ terminal_of colored tree.now (results_view results.now)) }
+{
+    let mut text = lines(alloc, tree, results, colored)?;
+    TestCounts::of(results).write_to(&mut text)?;
+    NodeSums::of(results).write_to(&mut text)?;
+    let again = lines_again(alloc, tree, results, colored)?;
+    write_apart(&mut text, again.as_str())?;
+    Ok(text)
+}
+
+/// The lines of all results.
+fn lines(
+    alloc: Global,
+    tree: &Tree,
+    results: &[NodeResult],
+    colored: bool,
+) -> Result<String, AllocError>
+    requires in_tree { All (λ r. r.node < length tree.now) results.now }
+    ensures { IfOk result
+        (λ text. string_bytes text ≡ each_line (shown_line colored) tree.now (results_view results.now)) }
+{
+    let mut text = String::new(alloc);
+    for node in results {
+        write_shown_line(alloc, &mut text, tree.id(node.node), node, colored)?;
+    }
+    Ok(text)
+}
+
+/// The lines of the nodes that aborted or failed.
+fn lines_again(
+    alloc: Global,
+    tree: &Tree,
+    results: &[NodeResult],
+    colored: bool,
+) -> Result<String, AllocError>
+    requires in_tree { All (λ r. r.node < length tree.now) results.now }
+    ensures { IfOk result
+        (λ text. string_bytes text ≡ each_line (line_again colored) tree.now (results_view results.now)) }
+{
+    let mut text = String::new(alloc);
+    for node in results {
+        write_line_again(alloc, &mut text, tree.id(node.node), node, colored)?;
+    }
+    Ok(text)
+}
+
+/// Writes the line of a node at the end of a text, if it aborted or failed.
+fn write_line_again(
+    alloc: Global,
+    text: &mut String,
+    id: &UniqueId,
+    node: &NodeResult,
+    colored: bool,
+) -> Result<(), AllocError>
+    ensures { OnOk result
+        (string_bytes text.new ≡ string_bytes text.old ++ line_again colored id.now (result_view node.now)) }
+{
+    if tells_fault(node.status) {
+        return write_shown_line(alloc, text, id, node, colored);
+    }
+    Ok(())
+}
+
+/// Tests whether the line of a node with this status has its fault.
+fn tells_fault(status: Status) -> bool
+    ensures { result ≡ tells_fault status }
+{
+    match status {
+        Status::Aborted | Status::Failed => true,
+        Status::Successful | Status::Skipped => false,
+    }
+}
+
+/// Writes the line of a node at the end of a text.
+fn write_shown_line(
+    alloc: Global,
+    text: &mut String,
+    id: &UniqueId,
+    node: &NodeResult,
+    colored: bool,
+) -> Result<(), AllocError>
+    ensures { OnOk result
+        (string_bytes text.new ≡ string_bytes text.old ++ shown_line colored id.now (result_view node.now)) }
+{
+    let mut spelled = String::new(alloc);
+    id.write_to(&mut spelled)?;
+    let mut fault = String::new(alloc);
+    write_fault(&mut fault, node)?;
+    write_visible(text, spelled.as_str())?;
+    text.push(' ')?;
+    write_status(text, node.status, colored)?;
+    let closed = node.closed;
+    write!(text, " closed {closed}")?;
+    write_visible(text, fault.as_str())?;
+    text.push('\n')
+}
+
+/// Writes a status at the end of a text, in its colour if there are colours.
+fn write_status(text: &mut String, status: Status, colored: bool) -> Result<(), AllocError>
+    ensures { OnOk result
+        (string_bytes text.new ≡ string_bytes text.old ++ shown_status colored status) }
+{
+    if !colored {
+        return text.push_str(status_text(status));
+    }
+    text.push_str(color_of(status))?;
+    text.push_str(status_text(status))?;
+    text.push_str("\x1b[0m")
+}
+
+/// The escape that begins the colour of a status.
+fn color_of(status: Status) -> &'static str
+    ensures { result.now ≡ escape (color_of status) }
+{
+    match status {
+        Status::Successful => "\x1b[32m",
+        Status::Aborted => "\x1b[33m",
+        Status::Failed => "\x1b[31m",
+        Status::Skipped => "\x1b[2m",
+    }
+}
+
+/// Writes a text at the end of another, behind an empty line, unless it is empty.
+fn write_apart(text: &mut String, more: &str) -> Result<(), AllocError>
+    ensures { OnOk result (string_bytes text.new ≡ string_bytes text.old ++ apart more.now) }
+{
+    if more.is_empty() {
+        return Ok(());
+    }
+    text.push('\n')?;
+    text.push_str(more)
+}

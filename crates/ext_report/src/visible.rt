@@ -1,0 +1,38 @@
+//! Texts as a terminal may show them.
+ghost use Rattle.std.specs.Prelude.{◌≡◌, ◌++◌, string_bytes, OnOk};
+ghost use Rattle.ext_report.specs.TerminalLines.{code_text, visible, visible_character};
+
+use std::alloc::AllocError;
+
+/// Writes a text at the end of another, with each control character as `\n`, `\r`, `\t` or
+/// `\u{1b}`: so it stands on one line, and gives no order to a terminal.
+///
+/// Takes memory if the text has no room, and fails with `AllocError` only if that is refused.
+pub fn write_visible(text: &mut String, more: &str) -> Result<(), AllocError>
+    ensures { OnOk result (string_bytes text.new ≡ string_bytes text.old ++ visible more.now) }
+{
+    for c in more.chars() {
+        write_character(text, c)?;
+    }
+    Ok(())
+}
+
+/// Writes a character at the end of a text.
+fn write_character(text: &mut String, c: char) -> Result<(), AllocError>
+    ensures { OnOk result (string_bytes text.new ≡ string_bytes text.old ++ visible_character c) }
+{
+    match c {
+        '\t' => text.push_str("\\t"),
+        '\n' => text.push_str("\\n"),
+        '\r' => text.push_str("\\r"),
+        _ if c.is_control() => write_code(text, u32::from(c)),
+        _ => text.push(c),
+    }
+}
+
+/// Writes the code of a character at the end of a text.
+fn write_code(text: &mut String, code: u32) -> Result<(), AllocError>
+    ensures { OnOk result (string_bytes text.new ≡ string_bytes text.old ++ code_text code) }
+{
+    write!(text, "\\u{{{code:x}}}")
+}
