@@ -5,7 +5,7 @@
 _extrun_options() {
     case $1 in
         run) echo --lanes --store --report --tree --progress --failures --large --explain --help ;;
-        check) echo --tree --races --all --large --explain --help ;;
+        check) echo --tree --races --lint --all --large --explain --help ;;
         id) echo --make --explain --help ;;
         help) ;;
         *) echo --help --version ;;

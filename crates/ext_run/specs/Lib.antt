@@ -6,4 +6,5 @@ pub mod IdText
 pub mod Requests
 pub mod InnerFailures
 pub mod InnerOutputs
+pub mod Lints
 pub mod PlanFaults

@@ -8,11 +8,11 @@ ghost use Rattle.clap.specs.Simple.{subcommand_rows_of};
 ghost use Rattle.clap.specs.Walk.{rows_of};
 ghost use Rattle.extrun.specs.CommandLine as line;
 ghost use Rattle.extrun.specs.CommandLine.{AsksBy, AsksNothing, IsCommandLine, IsRun};
-ghost use Rattle.extrun.specs.CommandWords.{AsksCheck, AsksCommand, AsksFor, AsksId, AsksOfPlan, AsksOfTexts, AsksRun, IsFlag, IsLaneCount, IsMakingOf, IsSize, check_as, checks_all, form_of, size_of};
+ghost use Rattle.extrun.specs.CommandWords.{AsksCheck, AsksCommand, AsksFor, AsksId, AsksOfPlan, AsksOfTexts, AsksRun, IsFlag, IsLaneCount, IsMakingOf, IsSize, check_as, check_with, checks_all, form_of, size_of};
 
 use crate::args::{
     all_flag, draw_flag, explain_flag, explain_id_flag, failures_flag, id_texts, lanes_option,
-    large_flag, make_flag, plan_file, progress_flag, races_flag, report_option, report_tree_flag,
+    large_flag, lint_flag, make_flag, plan_file, progress_flag, races_flag, report_option, report_tree_flag,
     store_option,
 };
 use crate::help::{AFTER_HELP, VERSION};
@@ -73,6 +73,8 @@ pub(crate) enum Task {
     Draw(Size),
     /// Writes its races, if it is no larger than this.
     CheckRaces(Size),
+    /// Writes its notes, if it is no larger than this.
+    Lint(Size),
 }
 
 impl Task {
@@ -81,7 +83,7 @@ impl Task {
         match self {
             Task::Run { options, .. } => options.size,
             Task::Check(size) | Task::CheckAll(size) => size,
-            Task::Draw(size) | Task::CheckRaces(size) => size,
+            Task::Draw(size) | Task::CheckRaces(size) | Task::Lint(size) => size,
         }
     }
 }
@@ -90,7 +92,7 @@ impl Task {
 ///
 /// - `run`, with `--lanes` of 1 to 16, `--store plain` or `cells`, `--report text`, `json` or
 ///   `junit` or else `--tree`, `--progress` and `--failures`;
-/// - `check`, with `--races`, `--tree` or `--all`;
+/// - `check`, with `--races`, `--tree`, `--all` or `--lint`;
 /// - `id`, with one text and `--explain`, or with `--make` and parts.
 ///
 /// `run` and `check` take a file, `--large` and `--explain`. No word at all is `run` on 4 lanes
@@ -238,9 +240,38 @@ fn check_request<R: AllocGlobal + Eprint>(
     let races = is_set(words, "races");
     let tree = is_set(words, "tree");
     let all = is_set(words, "all");
-    match check_as(races, tree, all, size_in(words)) {
+    let lint = is_set(words, "lint");
+    match check_with(lint, races, tree, all, size_in(words)) {
         Some(task) => plan_request(rt.alloc(), task, words),
-        None => Ok(mistake(rt, clash_of(races, tree))),
+        None => Ok(mistake(rt, clash_with(lint, races, tree))),
+    }
+}
+
+/// The task of `check` for a plan of this size: with `--lint`, which excludes the other flags, to
+/// note mistakes, and else by these flags.
+fn check_with(lint: bool, races: bool, tree: bool, all: bool, size: Size) -> Option<Task>
+    ensures { result ≡ check_with lint races tree all size }
+{
+    if !lint {
+        return check_as(races, tree, all, size);
+    }
+    if races || tree || all {
+        None
+    } else {
+        Some(Task::Lint(size))
+    }
+}
+
+/// Says which two flags of `check` exclude each other, where `--lint` is one of them if it is given.
+fn clash_with(lint: bool, races: bool, tree: bool) -> &'static str {
+    if !lint {
+        clash_of(races, tree)
+    } else if races {
+        "the argument '--lint' cannot be used with '--races'"
+    } else if tree {
+        "the argument '--lint' cannot be used with '--tree'"
+    } else {
+        "the argument '--lint' cannot be used with '--all'"
     }
 }
 
@@ -498,6 +529,7 @@ fn check_command<'a>(alloc: Global) -> Result<Command<'a>, AllocError>
         .arg(plan_file(alloc))?
         .arg(draw_flag(alloc))?
         .arg(races_flag(alloc))?
+        .arg(lint_flag(alloc))?
         .arg(all_flag(alloc))?
         .arg(large_flag(alloc))?
         .arg(explain_flag(alloc))

@@ -9,7 +9,7 @@ use crate::progress::run_told;
 use crate::refusing::{explain_fault, tell_faults};
 use crate::telling::tell;
 use ext_run::{
-    NoListener, Options, RequestFault, RunFault, Size, Summary, check, check_races, draw,
+    NoListener, Options, RequestFault, RunFault, Size, Summary, check, check_lint, check_races, draw,
     explain_keys, read_input,
 };
 use std::fs;
@@ -139,6 +139,7 @@ fn outcome_of_task<R: Threads + Wait + Sync + Clock + AllocGlobal + Eprint, W: W
             Ok(Summary::done())
         }
         Task::CheckRaces(size) => check_races(rt.alloc(), &mut reader, writer, size),
+        Task::Lint(size) => check_lint(rt.alloc(), &mut reader, writer, size),
     }
 }
 
