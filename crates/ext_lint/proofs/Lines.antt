@@ -1,13 +1,14 @@
 -- The lines of some notes.
-use Rattle.std.proofs.Common.{◌≡◌, ◌≤◌, ◌<◌, ◌∙◌, ℕ, List, [], ◌∷◌, ◌++◌, ap, append-nil, arith, false, length, map, nat_lt, refl, sym, take, true}
+use Rattle.std.proofs.Common.{◌≡◌, ◌≤◌, ◌<◌, ◌∙◌, ℕ, List, [], ◌∷◌, ◌++◌, Option, ap, append-nil, arith, false, length, map, nat_lt, refl, sym, take, true}
 use Rattle.std.specs.Prelude.{codes, if◌then◌else◌}
 use Rattle.std.specs.List.{flat_map}
 use Rattle.std.proofs.lemmas.Grind.{common_steps}
 use Rattle.std.proofs.lemmas.List.{length-map, take-map, take_all}
 use Rattle.ext_plan.specs.Plans.{PlanText}
+use Rattle.ext_plan_reading.specs.Nearest.{nearest}
 use Rattle.ext_races.specs.RaceLines.{line_limit}
 use Rattle.ext_lint.specs.InnerLists.{note_view}
-use Rattle.ext_lint.specs.NoteLines.{note_line, note_lines}
+use Rattle.ext_lint.specs.NoteLines.{hint, missing_words, note_line, note_lines}
 use Rattle.ext_lint.specs.Notes.{NoteText}
 use Rattle.ext_lint.specs.Said.{SaidText}
 use Rattle.ext_lint.specs.declared.note.Note.{Note}
@@ -45,3 +46,15 @@ first_alone line notes few =
     let all : length (map note_view notes) ≤ line_limit = omega (arith, same, few) in
     ap (flat_map line) (sym (take_all line_limit (map note_view notes) all)) ∙ sym (append-nil (flat_map line (take line_limit (map note_view notes))))
     ∙ ap (λ end. flat_map line (take line_limit (map note_view notes)) ++ end) (sym (none_told (length (map note_view notes)) all))
+
+-- ---- why a text is missing
+
+pub why_no_key : (s : SaidText) (texts names : List (List ℕ)) (near : Option (List ℕ)) → length texts ≡ 0 → near ≡ nearest names s.name
+    → codes "no step stores " ++ s.name ++ hint near ≡ missing_words s texts names
+why_no_key s [] names near none is = ap (λ n. codes "no step stores " ++ s.name ++ hint n) is
+why_no_key s (text ∷ texts) names near none is = absurd (omega (arith, none))
+
+pub why_no_text : (s : SaidText) (texts names : List (List ℕ)) (near : Option (List ℕ)) → (length texts ≡ 0 → ⊥) → near ≡ nearest texts s.text
+    → codes "no step stores " ++ s.text ++ codes " under " ++ s.name ++ hint near ≡ missing_words s texts names
+why_no_text s [] names near some is = absurd (some refl)
+why_no_text s (text ∷ texts) names near some is = ap (λ n. codes "no step stores " ++ s.text ++ codes " under " ++ s.name ++ hint n) is

@@ -1,7 +1,9 @@
 //! The notes of a plan, in order.
 ghost use Rattle.std.specs.Prelude.{ℕ, ◌≡◌, ◌++◌, ◌&&◌, All, List, Some, is_some, map, OnOk};
 ghost use Rattle.std.specs.List.{count_by, flat_map, list_any};
-ghost use Rattle.ext_plan.specs.Plans.{key_view, keys_view, node_view, nodes_view, plan_view, step_view};
+ghost use Rattle.std.specs.Str.{bytes_eq};
+ghost use Rattle.ext_plan.specs.LockNames.{lock_name};
+ghost use Rattle.ext_plan.specs.Plans.{key_view, keys_view, lock_view, node_view, nodes_view, plan_view, step_view};
 ghost use Rattle.ext_plan.specs.StoreKeys.{HasParts, is_there};
 ghost use Rattle.ext_lint.specs.InnerLists.{declared_in, has, has_node, note_view, said_view};
 ghost use Rattle.ext_lint.specs.Live.{has_test};
@@ -15,7 +17,7 @@ use crate::said::{Said, wants};
 use crate::said_set::SaidSet;
 use crate::speech::Speech;
 use ext_model::ContextNo;
-use ext_plan::{Plan, PlanKey, PlanNode};
+use ext_plan::{Plan, PlanKey, PlanLock, PlanNode};
 use ext_tree::{Directory, Key};
 use std::alloc::{AllocError, Global};
 use std::collections::BTreeSet;
@@ -257,6 +259,13 @@ fn count_of(nodes: &[PlanNode], name: &str) -> usize
 fn is_named_by_test(nodes: &[PlanNode], name: &str) -> bool
     ensures { result ≡ list_any (λ node. is_some node.test && names_lock name.now node) (nodes_view nodes.now) }
 {
+    any_test_names(nodes, name)
+}
+
+/// The same, by the nodes as they lie in memory.
+fn any_test_names(nodes: &[PlanNode], name: &str) -> bool
+    ensures { result ≡ list_any (λ node. is_some (node_view node).test && names_lock name.now (node_view node)) nodes.now }
+{
     nodes
         .iter()
         .any(|node| is_test(node) && names_lock(node, name))
@@ -276,5 +285,12 @@ fn is_test(node: &PlanNode) -> bool
 fn names_lock(node: &PlanNode, name: &str) -> bool
     ensures { result ≡ names_lock name.now (node_view node.now) }
 {
-    node.locks.iter().any(|lock| name == lock.name())
+    is_named(node.locks.as_slice(), name)
+}
+
+/// Tests whether one of the locks has this name.
+fn is_named(locks: &[PlanLock], name: &str) -> bool
+    ensures { result ≡ list_any (λ lock. bytes_eq name.now (lock_name (lock_view lock))) locks.now }
+{
+    locks.iter().any(|lock| name == lock.name())
 }

@@ -82,7 +82,7 @@ fn push_note(
     ensures { OnOk result (string_bytes text.new ≡ string_bytes text.old ++ note_line (plan_view plan.now) (map said_view stored.now) (note_view note.now)) }
 {
     match note {
-        Note::Idle(place) => push_idle(text, plan, place),
+        Note::Idle(place) => push_idle(alloc, text, plan, place),
         Note::Missing(place, said) => push_missing(alloc, text, plan, stored, place, said),
         Note::Unnamed(label) => push_named(text, "key ", label, ": no step names it\n"),
         Note::Crowded => push_crowded(alloc, text, plan),
@@ -108,13 +108,18 @@ fn push_crowded(alloc: Global, text: &mut String, plan: &Plan) -> Result<(), All
 }
 
 /// Adds the line of a callback that runs for no test.
-fn push_idle(text: &mut String, plan: &Plan, place: &Place<'_>) -> Result<(), AllocError>
+fn push_idle(
+    alloc: Global,
+    text: &mut String,
+    plan: &Plan,
+    place: &Place<'_>,
+) -> Result<(), AllocError>
     ensures { OnOk result (string_bytes text.new ≡ string_bytes text.old ++ idle_line (plan_view plan.now) (place_view place.now)) }
 {
+    let mut call = String::new(alloc);
+    push_call(&mut call, place.kind, place.index)?;
     push_id(text, plan, place.node)?;
-    text.push_str(": ")?;
-    push_call(text, place.kind, place.index)?;
-    text.push_str(": no test is below\n")
+    push_named(text, ": ", call.as_str(), ": no test is below\n")
 }
 
 /// Adds the line of a step that wants what no step stores.
@@ -177,12 +182,33 @@ fn push_why(
     let texts = texts_of(alloc, said.key, stored)?;
     if texts.is_empty() {
         let names = names_of(alloc, stored)?;
-        push_named(text, "no step stores ", said.name, "")?;
-        return push_hint(text, nearest(names.as_slice(), said.name));
+        return push_no_key(text, said.name, nearest(names.as_slice(), said.name));
     }
-    push_named(text, "no step stores ", said.text, " under ")?;
-    text.push_str(said.name)?;
-    push_hint(text, nearest(texts.as_slice(), said.text))
+    let near = nearest(texts.as_slice(), said.text);
+    push_no_text(text, said.text, said.name, near)
+}
+
+/// Adds that no step stores under a key, and which key may have been meant.
+fn push_no_key(text: &mut String, name: &str, near: Option<&str>) -> Result<(), AllocError>
+    ensures { OnOk result (string_bytes text.new ≡ string_bytes text.old ++ (codes "no step stores " ++ name.now ++ hint (option_map (λ n. n.now) near.entry))) }
+{
+    text.push_str("no step stores ")?;
+    text.push_str(name)?;
+    push_hint(text, near)
+}
+
+/// Adds that no step stores a text under a key, and which text may have been meant.
+fn push_no_text(
+    text: &mut String,
+    wanted: &str,
+    name: &str,
+    near: Option<&str>,
+) -> Result<(), AllocError>
+    ensures { OnOk result (string_bytes text.new ≡ string_bytes text.old ++ (codes "no step stores " ++ wanted.now ++ codes " under " ++ name.now ++ hint (option_map (λ n. n.now) near.entry))) }
+{
+    push_named(text, "no step stores ", wanted, " under ")?;
+    text.push_str(name)?;
+    push_hint(text, near)
 }
 
 /// Adds the name that may have been meant.

@@ -9,5 +9,5 @@ use Rattle.ext_lint.proofs.noting.names_lock.Goals as goal
 
 pub returns : goal.returns
 returns c =
-    let any : c.any.result ≡ list_any (λ (lock : PlanLock). bytes_eq c.args.name.now (lock_name (lock_view lock))) c.args.node.now.locks.items = search rules in
-    any ∙ sym (list_any-map lock_view (λ lock. bytes_eq c.args.name.now (lock_name lock)) c.args.node.now.locks.items)
+    let named : c.is_named.result ≡ list_any (λ (lock : PlanLock). bytes_eq c.args.name.now (lock_name (lock_view lock))) c.args.node.now.locks.items = search rules in
+    named ∙ sym (list_any-map lock_view (λ lock. bytes_eq c.args.name.now (lock_name lock)) c.args.node.now.locks.items)
