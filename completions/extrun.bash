@@ -5,7 +5,7 @@
 _extrun_options() {
     case $1 in
         run) echo --lanes --store --report --tree --color --progress --durations --failures --large --explain --brief --help ;;
-        check) echo --tree --races --all --large --explain --brief --help ;;
+        check) echo --tree --races --lint --all --large --explain --brief --help ;;
         id) echo --make --explain --brief --help ;;
         help) ;;
         *) echo --help --version ;;

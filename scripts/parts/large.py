@@ -97,6 +97,16 @@ def races(cases):
         cases.passed, cases.failed = cases.passed + right, cases.failed + (not right)
 
 
+def notes(cases):
+    """Notes that must not take longer the more texts one key has: each test wants its own text, and one that none stores, which is told once."""
+    plan = ROOT + "".join(f'[[node]]\nid = "[a:b]/[c:{number}]"\ntest = ["put a text{number}", "want a text{number}", "want a gone"]\n' for number in range(1, 65_536))
+    wanted = "[a:b]/[c:1]: step 2 of its test, want a gone: no step stores gone under a\n"
+    ran = cases.ran(["check", "--large", "--lint"], plan, SECONDS)
+    right = (ran.returncode, ran.stdout, ran.stderr) == (1, wanted.encode(), b"")
+    print(f"case 65,535 texts of one key, noted: {'as it has to be' if right else f'NOT as it has to be: {ran.stdout[:200]}'}")
+    cases.passed, cases.failed = cases.passed + right, cases.failed + (not right)
+
+
 def filled(plan, count):
     """The plan with a comment behind it, so that it has so many bytes."""
     return plan + "#" * (count - len(plan))
@@ -134,4 +144,5 @@ def main(program, _words):
     forms(cases, 250, 250)
     forms(cases, 20_000, 2)
     races(cases)
+    notes(cases)
     return cases.passed, cases.failed

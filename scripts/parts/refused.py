@@ -682,6 +682,10 @@ def main(program, _words):
     both = "error: the argument '--tree' cannot be used with '--races'"
     cases.run("check --tree --races", ["check", "--tree", "--races"], CHAIN_TEXT, both)
     cases.run("check --races - --tree", ["check", "--races", "-", "--tree"], CHAIN_TEXT, both)
+    for other in ["--races", "--tree", "--all"]:
+        both = f"error: the argument '--lint' cannot be used with '{other}'"
+        cases.run(f"check --lint {other}", ["check", "--lint", other], CHAIN_TEXT, both)
+        cases.run(f"check {other} - --lint", ["check", other, "-", "--lint"], CHAIN_TEXT, both)
     cases.run("run -", ["run", "-"], CHAIN_TEXT, nodes_report(CHAIN_IDS, 1))
     cases.run("check -", ["check", "-"], CHAIN_TEXT, "ok, 3 nodes, 1 tests, 1 of 64 keys\n")
     cases.run("no word", [], CHAIN_TEXT, nodes_report(CHAIN_IDS, 1))

@@ -1,6 +1,7 @@
 pub mod AllFaults
 pub mod CallbackReading
 pub mod ChildDepths
+pub mod Distances
 pub mod FieldNames
 pub mod Gave
 pub mod KeyPlaces

@@ -11,6 +11,7 @@ pub mod InnerTop
 pub mod KeyReading
 pub mod LockReading
 pub mod ModeReading
+pub mod Nearest
 pub mod NodeReading
 pub mod Reading
 pub mod StepReading

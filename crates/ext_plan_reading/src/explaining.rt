@@ -18,6 +18,7 @@ use ext_model::Size;
 use fields::{bad_field, bad_label, unknown_field};
 use headers::{Hint, hint_at};
 pub use ids::explain_id;
+pub use near::nearest;
 use nodes::{bad_id, bad_nodes, too_many};
 use std::alloc::{AllocError, Global};
 use steps::bad_step;

@@ -7,4 +7,5 @@ pub mod OneReports
 pub mod Requests
 pub mod InnerFailures
 pub mod InnerOutputs
+pub mod Lints
 pub mod PlanFaults

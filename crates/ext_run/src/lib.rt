@@ -5,13 +5,13 @@
 //! plan is refused or a device fails, that is a `RunFault`. `specs/Reports.antt` defines what a run
 //! answers to its input.
 //!
-//! `check` reads a plan without running it, and `draw` draws it. `Failures` keeps the faults that a
-//! run reports, and `failures_text` repeats them. `read_input`, `faults_of_plan`, `explain` and
-//! `explain_keys` serve callers that say why a plan was refused, or a key had no place. `read_id`
-//! writes the lines of an id, `make_id` that of one made of parts, and `status_of` is the exit
-//! status of a program for any of these requests. This crate also exports the names of `ext_ids`,
-//! `ext_model`, `ext_parallel`, `ext_plan_reading`, `ext_plain`, `ext_lifecycle` and `ext_report`
-//! that its callers need.
+//! `check` reads a plan without running it, `check_lint` notes its mistakes, and `draw` draws it.
+//! `Failures` keeps the faults that a run reports, and `failures_text` repeats them. `read_input`,
+//! `faults_of_plan`, `explain` and `explain_keys` serve callers that say why a plan was refused, or
+//! a key had no place. `read_id` writes the lines of an id, `make_id` that of one made of parts, and
+//! `status_of` is the exit status of a program for any of these requests. This crate also exports
+//! the names of `ext_ids`, `ext_model`, `ext_parallel`, `ext_plan_reading`, `ext_plain`,
+//! `ext_lifecycle` and `ext_report` that its callers need.
 //!
 //! JUnit has no plans.
 #![tactic(auto)]
@@ -22,6 +22,7 @@ mod failures;
 mod fault;
 mod id_lines;
 mod input;
+mod linting;
 mod options;
 mod plan_faults;
 mod request_fault;
@@ -45,6 +46,7 @@ pub use failures::{Failures, NodeFault, ToldFaults, failures_text};
 pub use fault::RunFault;
 pub use id_lines::{id_text, make_id, read_id};
 pub use input::read_input;
+pub use linting::check_lint;
 pub use options::{Options, Summary};
 pub use plan_faults::faults_of_plan;
 pub use request_fault::{RequestFault, status_of};

@@ -24,7 +24,7 @@ pub struct Options {
 #[derive(Clone, Copy, Debug, PartialEq, Eq)]
 pub struct Summary {
     /// Whether a node failed, whether a test or a container. After `check_races`, whether there is
-    /// a race or a limit is exceeded.
+    /// a race or a limit is exceeded; after `check_lint`, whether there is a note.
     pub failed: bool,
     /// Whether a step may have lacked something. After a plain run this is memory alone. If it is
     /// false, no step lacked any, and the report is that of the only plain run that the plan has.

@@ -20,8 +20,9 @@ pub enum RequestFault {
 }
 
 /// Returns the exit status of a program for a request. It is 0 if the request was done, but 1 if a
-/// node failed or a race was found (`Summary::failed`). It is 2 if the command line, the plan or
-/// the id is refused, and 3 if reading, writing or memory failed, or a context could not be closed.
+/// node failed, or a race or a mistake was found (`Summary::failed`). It is 2 if the command line,
+/// the plan or the id is refused, and 3 if reading, writing or memory failed, or a context could
+/// not be closed.
 ///
 /// If memory was refused while an id was read or made, or a plan was read, the status is 2, as for
 /// all their faults.

@@ -81,7 +81,7 @@ pub record IsRun (shape : Shape) : Type 0 where
 
 abbrev pub check : Shape
 check = command (codes "check")
-    (plan_file ∷ flag (codes "tree") ∷ flag (codes "races") ∷ flag (codes "all")
+    (plan_file ∷ flag (codes "tree") ∷ flag (codes "races") ∷ flag (codes "lint") ∷ flag (codes "all")
     ∷ flag (codes "large") ∷ flag (codes "explain") ∷ flag (codes "brief") ∷ [])
 
 abbrev pub id : Shape

@@ -1,6 +1,6 @@
 -- What the words of a command line ask for, by the rows that clap found: the texts under the name of each option. Texts
 -- are lists of bytes.
-use Rattle.std.specs.Prelude.{◌≡◌, ◌≢◌, ◌&&◌, ◌||◌, ℕ, Bool, true, false, codes, List, [], ◌∷◌, map, Option, Some, None, if◌then◌else◌, option_map, string_bytes, unwrap_or}
+use Rattle.std.specs.Prelude.{◌≡◌, ◌≢◌, ◌&&◌, ◌||◌, not, ℕ, Bool, true, false, codes, List, [], ◌∷◌, map, Option, Some, None, if◌then◌else◌, option_map, string_bytes, unwrap_or}
 use Rattle.clap.specs.Walk.{Row, Text, all_of, first_of, one_of}
 use Rattle.ext_model.specs.declared.size.Size.{Size}
 use Rattle.extrun.specs.Flags.{IsFlag, IsSize}
@@ -24,6 +24,13 @@ check_as races tree all size =
     else if tree then Some (tasks.Draw size)
     else Some (tasks.Check size)
 
+-- The same by a fourth flag, which excludes the others: to note what is most likely a mistake.
+abbrev pub check_with : Bool → Bool → Bool → Bool → Size → Option Task
+check_with lint races tree all size =
+    if not lint then check_as races tree all size
+    else if races || tree || all then None
+    else Some (tasks.Lint size)
+
 -- To do such a task with the plan of the named file, or of standard input. It is explained why it is not done if
 -- `--explain` is set, and only then if `--brief` is.
 abbrev pub AsksOfPlan : List Row → (Task → Type 0) → Request → Type 0
@@ -42,18 +49,20 @@ abbrev pub AsksTask : List Row → Option Task → Request → Type 0
 AsksTask rows (Some task) request = AsksOfPlan rows (λ asked. asked ≡ task) request
 AsksTask rows None request = request ≡ requests.Refused
 
--- To list the plan's races if `--races` is set, to draw it if `--tree` is set, and otherwise to check it, with all
--- faults if `--all` is set.
+-- To list the plan's races if `--races` is set, to draw it if `--tree` is set, to note its mistakes if `--lint` is set,
+-- and otherwise to check it, with all faults if `--all` is set.
 pub record AsksCheck (rows : List Row) (request : Request) : Type 0 where
   pub races : Bool
   pub tree : Bool
   pub all : Bool
+  pub lint : Bool
   pub size : Size
   pub told : IsFlag (one_of (codes "races") rows) races
   pub drawn : IsFlag (one_of (codes "tree") rows) tree
   pub whole : IsFlag (one_of (codes "all") rows) all
+  pub noted : IsFlag (one_of (codes "lint") rows) lint
   pub asked : IsSize rows size
-  pub asks : AsksTask rows (check_as races tree all size) request
+  pub asks : AsksTask rows (check_with lint races tree all size) request
 
 -- ---- ids
 

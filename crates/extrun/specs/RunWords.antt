@@ -78,6 +78,7 @@ AsksRun rows (tasks.Check size) = ⊥
 AsksRun rows (tasks.CheckAll size) = ⊥
 AsksRun rows (tasks.Draw size) = ⊥
 AsksRun rows (tasks.CheckRaces size) = ⊥
+AsksRun rows (tasks.Lint size) = ⊥
 
 -- The task asks for colours, also where standard output is no terminal.
 abbrev pub asks_for_color : Task → Bool
@@ -88,6 +89,7 @@ asks_for_color (tasks.Check size) = false
 asks_for_color (tasks.CheckAll size) = false
 asks_for_color (tasks.Draw size) = false
 asks_for_color (tasks.CheckRaces size) = false
+asks_for_color (tasks.Lint size) = false
 
 -- Without a command: a run on four lanes, over the store for several threads, of a plan of usual size.
 abbrev pub wordless_run : Task

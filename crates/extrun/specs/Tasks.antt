@@ -4,6 +4,7 @@ use Rattle.ext_run.specs.Reports.{RefusedAs, Reports, plan_of_input}
 use Rattle.ext_run.specs.declared.fault.RunFault.{RunFault}
 use Rattle.ext_run.specs.Checks.{IsCountsOf, IsRacesOf, RefusedUnrun}
 use Rattle.ext_run.specs.Drawings.{IsTextOf, drawing_of}
+use Rattle.ext_run.specs.Lints.{IsNotesOf}
 use Rattle.ext_run.specs.declared.options.Options.{Options}
 use Rattle.ext_run.specs.declared.options.Summary.{Summary}
 use Rattle.extrun.specs.declared.command.Task.{Task}
@@ -21,7 +22,7 @@ IsReported options input summary Written =
     (record { report = report; failed = summary.failed; lacked = summary.lacked }) × Written report
 
 -- The task was done with the plan of this input. What was written is the report of a run with exactly these options,
--- the line of the plan's counts, its drawing, or its races; then the summary says whether there is one.
+-- the line of the plan's counts, its drawing, its races or its notes; then the summary says whether there is one.
 abbrev pub IsDone : Task → List ℕ → Summary → (List ℕ → Type 0) → Type 0
 IsDone (tasks.Run options asked color told) input summary Written =
     AsksLanes options → IsReported options input summary Written
@@ -33,6 +34,8 @@ IsDone (tasks.Draw size) input summary Written = (text : List ℕ) × IsTextOf d
     × Written text
 IsDone (tasks.CheckRaces size) input summary Written = (text : List ℕ)
     × IsRacesOf (plan_of_input size input) text summary.failed × Written text
+IsDone (tasks.Lint size) input summary Written = (text : List ℕ)
+    × IsNotesOf (plan_of_input size input) text summary.failed × Written text
 
 -- Why a run with exactly these options has no report. An input that is too long, a refused plan and a refused run are
 -- reported as such, and nothing else is.
@@ -46,3 +49,4 @@ IsUndone (tasks.Check size) input fault = RefusedUnrun fault (plan_of_input size
 IsUndone (tasks.CheckAll size) input fault = RefusedUnrun fault (plan_of_input size input)
 IsUndone (tasks.Draw size) input fault = RefusedUnrun fault (plan_of_input size input)
 IsUndone (tasks.CheckRaces size) input fault = RefusedUnrun fault (plan_of_input size input)
+IsUndone (tasks.Lint size) input fault = RefusedUnrun fault (plan_of_input size input)

@@ -145,6 +145,16 @@ pub(crate) fn races_flag<'a>(alloc: Global) -> Arg<'a>
         .action(ArgAction::SetTrue)
 }
 
+pub(crate) fn lint_flag<'a>(alloc: Global) -> Arg<'a>
+    ensures rule { rule_of result ≡ line.flag (codes "lint") }
+    ensures local { result.global ≡ false }
+{
+    Arg::new(alloc, "lint")
+        .long("lint")
+        .help("Says instead what is most likely a mistake, such as a text that no step stores")
+        .action(ArgAction::SetTrue)
+}
+
 pub(crate) fn all_flag<'a>(alloc: Global) -> Arg<'a>
     ensures rule { rule_of result ≡ line.flag (codes "all") }
     ensures local { result.global ≡ false }

@@ -8,14 +8,14 @@ ghost use Rattle.clap.specs.Simple.{subcommand_rows_of};
 ghost use Rattle.clap.specs.Walk.{rows_of};
 ghost use Rattle.extrun.specs.CommandLine as line;
 ghost use Rattle.extrun.specs.CommandLine.{AsksBy, AsksNothing, IsCommandLine, IsRun};
-ghost use Rattle.extrun.specs.CommandWords.{AsksCheck, AsksCommand, AsksFor, AsksId, AsksOfPlan, AsksOfTexts, IsMakingOf, check_as, checks_all};
+ghost use Rattle.extrun.specs.CommandWords.{AsksCheck, AsksCommand, AsksFor, AsksId, AsksOfPlan, AsksOfTexts, IsMakingOf, check_as, check_with, checks_all};
 ghost use Rattle.extrun.specs.Flags.{IsFlag, IsSize, size_of};
 ghost use Rattle.extrun.specs.RunWords.{AreOptions, AsksBeside, AsksForm, AsksRun, IsColor, IsForm, IsLaneCount, color_choice, form_of, wordless_run};
 
 use crate::args::{
     all_flag, brief_flag, color_option, draw_flag, durations_flag, explain_flag, explain_id_flag,
-    failures_flag, id_texts, lanes_option, large_flag, make_flag, plan_file, progress_flag,
-    races_flag, report_option, report_tree_flag, store_option,
+    failures_flag, id_texts, lanes_option, large_flag, lint_flag, make_flag, plan_file,
+    progress_flag, races_flag, report_option, report_tree_flag, store_option,
 };
 use crate::color::ColorChoice;
 use crate::help::{AFTER_HELP, VERSION};
@@ -78,6 +78,8 @@ pub(crate) enum Task {
     Draw(Size),
     /// Writes its races, if it is no larger than this.
     CheckRaces(Size),
+    /// Writes its notes, if it is no larger than this.
+    Lint(Size),
 }
 
 /// What a run says on standard error.
@@ -97,7 +99,7 @@ impl Task {
         match self {
             Task::Run { options, .. } => options.size,
             Task::Check(size) | Task::CheckAll(size) => size,
-            Task::Draw(size) | Task::CheckRaces(size) => size,
+            Task::Draw(size) | Task::CheckRaces(size) | Task::Lint(size) => size,
         }
     }
 }
@@ -107,7 +109,7 @@ impl Task {
 /// - `run`, with `--lanes` of 1 to 16, `--store plain` or `cells`, `--report text`, `json` or
 ///   `junit` or else `--tree`, `--color` of `auto`, `always` or `never`, `--progress`,
 ///   `--durations` and `--failures`;
-/// - `check`, with `--races`, `--tree` or `--all`;
+/// - `check`, with `--races`, `--tree`, `--all` or `--lint`;
 /// - `id`, with one text, or with `--make` and parts.
 ///
 /// `run` and `check` take a file and `--large`, and all take `--explain` and `--brief`. No word at all is `run` on 4 lanes
@@ -280,9 +282,38 @@ fn check_request<R: AllocGlobal + Eprint>(
     let races = is_set(words, "races");
     let tree = is_set(words, "tree");
     let all = is_set(words, "all");
-    match check_as(races, tree, all, size_in(words)) {
+    let lint = is_set(words, "lint");
+    match check_with(lint, races, tree, all, size_in(words)) {
         Some(task) => plan_request(rt.alloc(), task, words),
-        None => Ok(mistake(rt, clash_of(races, tree))),
+        None => Ok(mistake(rt, clash_with(lint, races, tree))),
+    }
+}
+
+/// The task of `check` for a plan of this size: with `--lint`, which excludes the other flags, to
+/// note mistakes, and else by these flags.
+fn check_with(lint: bool, races: bool, tree: bool, all: bool, size: Size) -> Option<Task>
+    ensures { result ≡ check_with lint races tree all size }
+{
+    if !lint {
+        return check_as(races, tree, all, size);
+    }
+    if races || tree || all {
+        None
+    } else {
+        Some(Task::Lint(size))
+    }
+}
+
+/// Says which two flags of `check` exclude each other, where `--lint` is one of them if it is given.
+fn clash_with(lint: bool, races: bool, tree: bool) -> &'static str {
+    if !lint {
+        clash_of(races, tree)
+    } else if races {
+        "the argument '--lint' cannot be used with '--races'"
+    } else if tree {
+        "the argument '--lint' cannot be used with '--tree'"
+    } else {
+        "the argument '--lint' cannot be used with '--all'"
     }
 }
 
@@ -583,6 +614,7 @@ fn check_command<'a>(alloc: Global) -> Result<Command<'a>, AllocError>
         .arg(plan_file(alloc))?
         .arg(draw_flag(alloc))?
         .arg(races_flag(alloc))?
+        .arg(lint_flag(alloc))?
         .arg(all_flag(alloc))?
         .arg(large_flag(alloc))?
         .arg(explain_flag(alloc))?

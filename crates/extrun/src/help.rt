@@ -45,7 +45,7 @@ docs/PLANS.md has all fields, steps, faults and reports; examples/ has more plan
 
 Exit status:
   0  it is done, and no node failed
-  1  a node failed, or a race was found
+  1  a node failed, or a race or a mistake was found
   2  the command line, the plan or the id is refused
   3  reading, writing or memory failed, or a context could not be closed
 

@@ -1,11 +1,11 @@
 //! The program: from a command line to a request of `ext_run`, and from its outcome to an exit
 //! status.
 //!
-//! The exit status is 0 if the request was done, but 1 if a node failed or a race was found. It is
-//! 2 if the command line, the plan or the id is refused, and 3 if reading, writing or memory
-//! failed, or a context could not be closed. Reports go to standard output. A fault is one line on
-//! standard error, and at a terminal or with `--explain` a second one explains it; `check --all`
-//! prints all faults of a plan.
+//! The exit status is 0 if the request was done, but 1 if a node failed, or a race or a mistake was
+//! found. It is 2 if the command line, the plan or the id is refused, and 3 if reading, writing or
+//! memory failed, or a context could not be closed. Reports go to standard output. A fault is one
+//! line on standard error, and at a terminal or with `--explain` a second one explains it;
+//! `check --all` prints all faults of a plan.
 #![tactic(auto)]
 
 ghost use Rattle.std.specs.Prelude.{◌≡◌, ◌||◌, ◌&&◌, not};

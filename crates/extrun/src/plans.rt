@@ -11,8 +11,8 @@ use crate::telling::tell;
 use crate::times::seconds;
 use crate::unread::{Source, explain_cause, explain_undone, explain_unread};
 use ext_run::{
-    NoListener, Options, ReportForm, RequestFault, RunFault, Size, Summary, check, check_races,
-    draw, explain_keys, read_input,
+    NoListener, Options, ReportForm, RequestFault, RunFault, Size, Summary, check, check_lint,
+    check_races, draw, explain_keys, read_input,
 };
 use std::fs;
 use std::io::{Input, Read, Write};
@@ -200,6 +200,7 @@ fn outcome_of_task<R: Threads + Wait + Sync + Clock + AllocGlobal + Eprint, W: W
             Ok(Summary::done())
         }
         Task::CheckRaces(size) => check_races(rt.alloc(), &mut reader, writer, size),
+        Task::Lint(size) => check_lint(rt.alloc(), &mut reader, writer, size),
     }
 }
 

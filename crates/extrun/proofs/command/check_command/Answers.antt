@@ -10,10 +10,11 @@ returns-clause-shape c =
     let first = takes_more _ _ _ _ _ _ none c.in_ok-arg.ensures c.plan_file.ensures.rule c.plan_file.ensures.local in
     let second = takes_more _ _ _ _ _ _ first c.in_ok-arg-2.ensures c.draw_flag.ensures.rule c.draw_flag.ensures.local in
     let third = takes_more _ _ _ _ _ _ second c.in_ok-arg-3.ensures c.races_flag.ensures.rule c.races_flag.ensures.local in
-    let fourth = takes_more _ _ _ _ _ _ third c.in_ok-arg-4.ensures c.all_flag.ensures.rule c.all_flag.ensures.local in
-    let fifth = takes_more _ _ _ _ _ _ fourth c.in_ok-arg-5.ensures c.large_flag.ensures.rule c.large_flag.ensures.local in
-    let sixth = takes_more _ _ _ _ _ _ fifth c.in_ok-arg-6.ensures c.explain_flag.ensures.rule c.explain_flag.ensures.local in
-    IfOk-weaker c.arg-7.result _ _ (λ made adds. (takes_more _ _ _ _ _ _ sixth adds c.brief_flag.ensures.rule c.brief_flag.ensures.local).shape) c.arg-7.ensures
+    let fourth = takes_more _ _ _ _ _ _ third c.in_ok-arg-4.ensures c.lint_flag.ensures.rule c.lint_flag.ensures.local in
+    let fifth = takes_more _ _ _ _ _ _ fourth c.in_ok-arg-5.ensures c.all_flag.ensures.rule c.all_flag.ensures.local in
+    let sixth = takes_more _ _ _ _ _ _ fifth c.in_ok-arg-6.ensures c.large_flag.ensures.rule c.large_flag.ensures.local in
+    let seventh = takes_more _ _ _ _ _ _ sixth c.in_ok-arg-7.ensures c.explain_flag.ensures.rule c.explain_flag.ensures.local in
+    IfOk-weaker c.arg-8.result _ _ (λ made adds. (takes_more _ _ _ _ _ _ seventh adds c.brief_flag.ensures.rule c.brief_flag.ensures.local).shape) c.arg-8.ensures
 
 pub returns-clause-local : goal.returns-clause-local
 returns-clause-local c =
@@ -21,7 +22,8 @@ returns-clause-local c =
     let first = takes_more _ _ _ _ _ _ none c.in_ok-arg.ensures c.plan_file.ensures.rule c.plan_file.ensures.local in
     let second = takes_more _ _ _ _ _ _ first c.in_ok-arg-2.ensures c.draw_flag.ensures.rule c.draw_flag.ensures.local in
     let third = takes_more _ _ _ _ _ _ second c.in_ok-arg-3.ensures c.races_flag.ensures.rule c.races_flag.ensures.local in
-    let fourth = takes_more _ _ _ _ _ _ third c.in_ok-arg-4.ensures c.all_flag.ensures.rule c.all_flag.ensures.local in
-    let fifth = takes_more _ _ _ _ _ _ fourth c.in_ok-arg-5.ensures c.large_flag.ensures.rule c.large_flag.ensures.local in
-    let sixth = takes_more _ _ _ _ _ _ fifth c.in_ok-arg-6.ensures c.explain_flag.ensures.rule c.explain_flag.ensures.local in
-    IfOk-weaker c.arg-7.result _ _ (λ made adds. (takes_more _ _ _ _ _ _ sixth adds c.brief_flag.ensures.rule c.brief_flag.ensures.local).local) c.arg-7.ensures
+    let fourth = takes_more _ _ _ _ _ _ third c.in_ok-arg-4.ensures c.lint_flag.ensures.rule c.lint_flag.ensures.local in
+    let fifth = takes_more _ _ _ _ _ _ fourth c.in_ok-arg-5.ensures c.all_flag.ensures.rule c.all_flag.ensures.local in
+    let sixth = takes_more _ _ _ _ _ _ fifth c.in_ok-arg-6.ensures c.large_flag.ensures.rule c.large_flag.ensures.local in
+    let seventh = takes_more _ _ _ _ _ _ sixth c.in_ok-arg-7.ensures c.explain_flag.ensures.rule c.explain_flag.ensures.local in
+    IfOk-weaker c.arg-8.result _ _ (λ made adds. (takes_more _ _ _ _ _ _ seventh adds c.brief_flag.ensures.rule c.brief_flag.ensures.local).local) c.arg-8.ensures

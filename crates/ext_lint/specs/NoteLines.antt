@@ -1,0 +1,81 @@
+-- What is written of a plan's notes: a line for each of the first 20, and a line `and more` if there are more, or a
+-- line `nothing to note` alone. For instance
+--
+--     [engine:x]/[test:a]: step 0 of its test, want srever up: no step stores srever: did you mean server?
+--     [engine:x]/[test:a]: step 1 of its test, want server upp: no step stores upp under server: did you mean up?
+--     [engine:x]: before_each 0: no test is below
+--     key disk: no step names it
+--     the steps name more than 64 keys
+--     lock db: one test alone takes it
+--
+-- A place is told as in the explanation of a refused step. Texts are bytes and stand as they are.
+use Rattle.std.specs.Prelude.{ℕ, ◌==◌, codes, Bool, not, List, [], ◌∷◌, ◌++◌, length, nat_lt, map, filter, take, Option, Some, None, if◌then◌else◌}
+use Rattle.std.specs.Fmt.{decimal}
+use Rattle.std.specs.List.{flat_map}
+use Rattle.ext_lifecycle.specs.declared.call.Kind.{Kind}
+use Rattle.ext_lifecycle.specs.declared.call.Kind.TheVariants as kinds
+use Rattle.ext_plan.specs.Plans.{PlanText}
+use Rattle.ext_plan_reading.specs.Nearest.{nearest}
+use Rattle.ext_races.specs.RaceLines.{found_text, id_of_node, line_limit}
+use Rattle.ext_races.specs.declared.found.Found.TheVariants as found
+use Rattle.ext_lint.specs.Notes.{NoteText, idle, missing, unnamed, crowded, lone, notes, stored_by}
+use Rattle.ext_lint.specs.Places.{PlaceText, places}
+use Rattle.ext_lint.specs.Said.{SaidText}
+
+-- A callback by its kind and its number, or the test.
+abbrev pub call_words : Kind → ℕ → List ℕ
+call_words kinds.BeforeAll index = codes "before_all " ++ decimal index
+call_words kinds.BeforeEach index = codes "before_each " ++ decimal index
+call_words kinds.Test index = codes "test"
+call_words kinds.AfterEach index = codes "after_each " ++ decimal index
+call_words kinds.AfterAll index = codes "after_all " ++ decimal index
+
+-- The name that may have been meant.
+abbrev pub hint : Option (List ℕ) → List ℕ
+hint None = []
+hint (Some near) = codes ": did you mean " ++ near ++ codes "?"
+
+-- The texts that are said of the key with this number.
+abbrev pub texts_of : ℕ → List SaidText → List (List ℕ)
+texts_of key said = map (λ s. s.text) (filter (λ s. s.key == key) said)
+
+-- Why a text is missing, where these texts are stored under its key, and keys with these names are stored.
+abbrev pub missing_words : SaidText → List (List ℕ) → List (List ℕ) → List ℕ
+missing_words s [] names = codes "no step stores " ++ s.name ++ hint (nearest names s.name)
+missing_words s (text ∷ texts) names =
+    codes "no step stores " ++ s.text ++ codes " under " ++ s.name ++ hint (nearest (text ∷ texts) s.text)
+
+module _ (plan : PlanText) where
+  unfoldable pub place_words : PlaceText → List ℕ
+  place_words p =
+      id_of_node plan p.node ++ codes ": step " ++ decimal p.at ++ codes " of its " ++ call_words p.kind p.index
+
+  unfoldable pub missing_line : List SaidText → PlaceText → SaidText → List ℕ
+  missing_line stored p s =
+      place_words p ++ codes ", want " ++ s.name ++ codes " " ++ s.text ++ codes ": "
+      ++ missing_words s (texts_of s.key stored) (map (λ other. other.name) stored) ++ codes "\n"
+
+  unfoldable pub idle_line : PlaceText → List ℕ
+  idle_line p = id_of_node plan p.node ++ codes ": " ++ call_words p.kind p.index ++ codes ": no test is below\n"
+
+  -- The line of a note, where these are stored.
+  abbrev pub note_line : List SaidText → NoteText → List ℕ
+  note_line stored (idle p) = idle_line p
+  note_line stored (missing p s) = missing_line stored p s
+  note_line stored (unnamed label) = codes "key " ++ label ++ codes ": no step names it\n"
+  note_line stored crowded = found_text plan found.TooManyKeys
+  note_line stored (lone name) = codes "lock " ++ name ++ codes ": one test alone takes it\n"
+
+  -- The lines of the first notes, and whether there are more.
+  abbrev pub note_lines : List SaidText → List NoteText → List ℕ
+  note_lines stored [] = codes "nothing to note\n"
+  note_lines stored (note ∷ more) =
+      flat_map (note_line stored) (take line_limit (note ∷ more))
+      ++ (if nat_lt line_limit (length (note ∷ more)) then codes "and more\n" else [])
+
+  abbrev pub lint_text : List ℕ
+  lint_text = note_lines (stored_by plan (places plan)) (notes plan)
+
+  -- Whether there is a note.
+  abbrev pub has_notes : Bool
+  has_notes = not (length (notes plan) == 0)

@@ -1,0 +1,91 @@
+-- What is noted of a plan, as most likely a mistake, and in which order. JUnit has no such list.
+use Rattle.std.specs.Prelude.{ℕ, ◌==◌, ◌&&◌, ◌||◌, not, Bool, List, [], ◌∷◌, ◌++◌, length, nat_lt, take, map, Option, Some, None, is_some, if◌then◌else◌}
+use Rattle.std.specs.List.{count_by, flat_map, list_any}
+use Rattle.std.specs.Str.{bytes_eq}
+use Rattle.ext_tree.specs.Keys.{KeyValue}
+use Rattle.ext_plan.specs.Plans.{KeyText, NodeText, PlanText}
+use Rattle.ext_plan.specs.LockNames.{lock_name, lock_names}
+use Rattle.ext_plan.specs.StoreKeys.{is_there, named_key}
+use Rattle.ext_lint.specs.Live.{has_test}
+use Rattle.ext_lint.specs.Places.{PlaceText, numbered, places}
+use Rattle.ext_lint.specs.Said.{SaidText, is_said, keys_said, said_by, said_of, stores, wants}
+
+pub data NoteText : Type 0 where
+  -- The callback that begins with this step has no test at or below its node.
+  idle : PlaceText → NoteText
+  -- This step wants a text that no step of the plan stores under its key.
+  missing : PlaceText → SaidText → NoteText
+  -- No step names the key with this label.
+  unnamed : List ℕ → NoteText
+  -- The steps name more keys than there are places.
+  crowded : NoteText
+  -- One test alone names the lock with this name.
+  lone : List ℕ → NoteText
+
+-- ---- of one step
+
+module _ (plan : PlanText) where
+  abbrev pub is_idle : PlaceText → Bool
+  is_idle p = (p.at == 0) && not (has_test plan p.node)
+
+  -- What these steps store, and what they want.
+  abbrev pub stored_by : List PlaceText → List SaidText
+  stored_by steps = said_by plan.keys (keys_said plan) stores steps
+
+  abbrev pub wanted_by : List PlaceText → List SaidText
+  wanted_by steps = said_by plan.keys (keys_said plan) wants steps
+
+  -- What a step wants was noted already, if a step before it wanted it; or a step of the plan stores it.
+  abbrev pub is_known : (ℕ → List ℕ → Bool) → SaidText → Bool
+  is_known wanted s = wanted s.key s.text || is_said (stored_by (places plan)) s.key s.text
+
+  abbrev pub idle_if : PlaceText → List NoteText
+  idle_if p = if is_idle p then idle p ∷ [] else []
+
+  abbrev pub missing_if : (ℕ → List ℕ → Bool) → PlaceText → Option SaidText → List NoteText
+  missing_if wanted p None = []
+  missing_if wanted p (Some s) = if wants s.word && not (is_known wanted s) then missing p s ∷ [] else []
+
+  -- The notes of a step, where this was wanted before.
+  abbrev pub notes_of_step : (ℕ → List ℕ → Bool) → PlaceText → List NoteText
+  notes_of_step wanted p = idle_if p ++ missing_if wanted p (said_of plan.keys (keys_said plan) p.step)
+
+  -- The notes of the step with this number among all steps.
+  abbrev pub notes_at : ℕ → PlaceText → List NoteText
+  notes_at at p = notes_of_step (is_said (wanted_by (take at (places plan)))) p
+
+  abbrev pub step_notes : List NoteText
+  step_notes = numbered notes_at 0 (places plan)
+
+-- ---- of keys and locks
+
+abbrev pub key_note : List KeyValue → KeyText → List NoteText
+key_note keys k = if not (is_there keys (named_key k)) then unnamed k.label ∷ [] else []
+
+abbrev pub key_notes : List KeyValue → List KeyText → List NoteText
+key_notes keys declared = flat_map (key_note keys) declared
+
+abbrev pub crowd_notes : ℕ → List KeyValue → List NoteText
+crowd_notes key_places keys = if nat_lt key_places (length keys) then crowded ∷ [] else []
+
+abbrev pub names_lock : List ℕ → NodeText → Bool
+names_lock name node = list_any (λ lock. bytes_eq name (lock_name lock)) node.locks
+
+-- One node names the lock, and is a test.
+abbrev pub is_lone : List NodeText → List ℕ → Bool
+is_lone nodes name =
+    (count_by (names_lock name) nodes == 1) && list_any (λ node. is_some node.test && names_lock name node) nodes
+
+abbrev pub lock_note : List NodeText → List ℕ → List NoteText
+lock_note nodes name = if is_lone nodes name then lone name ∷ [] else []
+
+abbrev pub lock_notes : List NodeText → List NoteText
+lock_notes nodes = flat_map (lock_note nodes) (lock_names nodes)
+
+-- ---- of the plan
+
+-- More keys than a plan can have places for are told alone.
+abbrev pub notes : PlanText → List NoteText
+notes plan = if nat_lt 1024 (length (keys_said plan)) then crowded ∷ []
+    else step_notes plan ++ key_notes (keys_said plan) plan.keys ++ crowd_notes plan.key_places (keys_said plan)
+    ++ lock_notes plan.nodes

@@ -1,0 +1,23 @@
+//! What of a plan is most likely a mistake, although the plan can be read: texts that are wanted and
+//! never stored, callbacks that run for no test, keys that no step names, and locks that one test
+//! alone takes.
+//!
+//! `lint` tells the notes of a plan in lines. In `specs/`, `Places` lists a plan's steps, `Said` what
+//! they say of keys, `Live` which nodes have tests, `Notes` defines the notes, and `NoteLines` their
+//! lines.
+//!
+//! JUnit has no such checker.
+#![tactic(auto)]
+
+mod keys;
+mod linting;
+mod live;
+mod note;
+mod noting;
+mod place;
+mod said;
+mod said_set;
+mod speech;
+mod text;
+
+pub use linting::{PlanNotes, lint};

@@ -1,0 +1,84 @@
+//! The notes of a plan, told in lines.
+ghost use Rattle.std.specs.Prelude.{◌≡◌, ◌∷◌, [], true, string_bytes, IfOk};
+ghost use Rattle.ext_plan.specs.Plans.{plan_view};
+ghost use Rattle.ext_plan.specs.ReadPlans.{IsRunnablePlan};
+ghost use Rattle.ext_lint.specs.NoteLines.{has_notes, lint_text, note_lines};
+ghost use Rattle.ext_lint.specs.Notes.{crowded};
+
+use crate::keys::keys_of;
+use crate::live::nodes_with_tests;
+use crate::note::Note;
+use crate::noting::{StepRules, note_crowd, note_keys, note_locks};
+use crate::place::places_of;
+use crate::said_set::SaidSet;
+use crate::speech::Speech;
+use crate::text::text_of;
+use ext_plan::{Plan, StepKeys};
+use ext_tree::TreeFault;
+use std::alloc::{AllocError, Global};
+
+/// The notes of a plan.
+#[derive(Debug, Drop)]
+pub struct PlanNotes {
+    /// Their lines, each with a line feed.
+    pub text: String,
+    /// Whether there is a note.
+    pub found: bool,
+}
+
+/// Tells what of a plan is most likely a mistake. Each of the first 20 notes has a line, and
+/// `and more` follows if there are others; `nothing to note` stands alone if there are none. The
+/// notes are, in this order:
+///
+/// - for each step, in the order of the plan: that it begins a callback with no test at or below its
+///   node; and that it wants a text that no step of the plan stores under its key, if no step before
+///   it wanted the same, with the text or the key that may have been meant;
+/// - for each declared key that no step names it;
+/// - that the steps name more keys than there are places;
+/// - for each lock that one test alone names it.
+///
+/// If the steps name more than 1,024 keys, that is the only note.
+///
+/// Takes memory for the steps, the keys, what is stored and wanted, the nodes and the lines, and
+/// fails with `AllocError` only if that is refused. The time grows with the number of steps and its
+/// logarithm.
+pub fn lint(alloc: Global, plan: &Plan) -> Result<PlanNotes, AllocError>
+    requires { IsRunnablePlan (plan_view plan.now) }
+    ensures text { IfOk result (λ told. string_bytes told.text ≡ lint_text (plan_view plan.now)) }
+    ensures found { IfOk result (λ told. told.found ≡ has_notes (plan_view plan.now)) }
+{
+    let tree = plan.tree(alloc)?;
+    let places = places_of(alloc, plan)?;
+    let made = plan.store_keys(alloc)?;
+    let keys = StepKeys::of(plan.keys.as_slice(), made.as_slice());
+    let directory = match keys_of(alloc, &keys, places.as_slice()) {
+        Ok(directory) => directory,
+        Err(TreeFault::TooMany) => return crowded(alloc, plan),
+        Err(_) => return Err(AllocError),
+    };
+    let live = nodes_with_tests(alloc, plan, &tree)?;
+    let speech = Speech::of(plan.keys.as_slice(), keys, &directory);
+    let stored = speech.stored(alloc, places.as_slice())?;
+    let set = SaidSet::of(alloc, stored.as_slice())?;
+    let rules = StepRules::of(plan, speech, live, set);
+    let mut notes = Vec::new(alloc);
+    rules.note_steps(alloc, places.as_slice(), &mut notes)?;
+    note_keys(alloc, plan.keys.as_slice(), &directory, &mut notes)?;
+    note_crowd(plan.key_places, &directory, &mut notes)?;
+    note_locks(alloc, plan, &mut notes)?;
+    Ok(PlanNotes {
+        text: text_of(alloc, plan, stored.as_slice(), notes.as_slice())?,
+        found: !notes.is_empty(),
+    })
+}
+
+/// The only note of a plan whose steps name more than 1,024 keys.
+fn crowded(alloc: Global, plan: &Plan) -> Result<PlanNotes, AllocError>
+    ensures text { IfOk result (λ told. string_bytes told.text ≡ note_lines (plan_view plan.now) [] (crowded ∷ [])) }
+    ensures found { IfOk result (λ told. told.found ≡ true) }
+{
+    Ok(PlanNotes {
+        text: text_of(alloc, plan, &[], &[Note::Crowded])?,
+        found: true,
+    })
+}

@@ -1,0 +1,18 @@
+//! The notes of a plan.
+use crate::place::Place;
+use crate::said::Said;
+
+/// What is most likely a mistake in a plan.
+#[derive(Clone, Copy, Debug)]
+pub(crate) enum Note<'p> {
+    /// The callback that begins with this step has no test at or below its node.
+    Idle(Place<'p>),
+    /// The step wants a text that no step stores under its key.
+    Missing(Place<'p>, Said<'p>),
+    /// No step names the key with this label.
+    Unnamed(&'p str),
+    /// The steps name more keys than there are places.
+    Crowded,
+    /// One test alone names the lock with this name.
+    Lone(&'p str),
+}

@@ -1,0 +1,296 @@
+//! The notes of a plan, in order.
+ghost use Rattle.std.specs.Prelude.{ℕ, ◌≡◌, ◌++◌, ◌&&◌, All, List, Some, is_some, map, OnOk};
+ghost use Rattle.std.specs.List.{count_by, flat_map, list_any};
+ghost use Rattle.std.specs.Str.{bytes_eq};
+ghost use Rattle.ext_plan.specs.LockNames.{lock_name};
+ghost use Rattle.ext_plan.specs.Plans.{key_view, keys_view, lock_view, node_view, nodes_view, plan_view, step_view};
+ghost use Rattle.ext_plan.specs.StoreKeys.{HasParts, is_there};
+ghost use Rattle.ext_lint.specs.InnerLists.{declared_in, has, has_node, note_view, said_view};
+ghost use Rattle.ext_lint.specs.Live.{has_test};
+ghost use Rattle.ext_lint.specs.Notes.{crowd_notes, is_idle, is_lone, key_note, key_notes, lock_note, lock_notes, missing_if, names_lock, notes_of_step, stored_by};
+ghost use Rattle.ext_lint.specs.Places.{place_view, places};
+ghost use Rattle.ext_lint.specs.Said.{is_said, keys_said, said_of};
+
+use crate::note::Note;
+use crate::place::Place;
+use crate::said::{Said, wants};
+use crate::said_set::SaidSet;
+use crate::speech::Speech;
+use ext_model::ContextNo;
+use ext_plan::{Plan, PlanKey, PlanLock, PlanNode};
+use ext_tree::{Directory, Key};
+use std::alloc::{AllocError, Global};
+use std::collections::BTreeSet;
+
+/// What the notes of a plan's steps go by: what the steps say, the nodes with tests, and what the
+/// steps store.
+#[derive(Drop)]
+pub(crate) struct StepRules<'p> {
+    plan: &'p Plan,
+    speech: Speech<'p>,
+    live: BTreeSet<ContextNo>,
+    stored: SaidSet<'p>,
+    ghost declared: { declared_in speech ≡ (plan_view plan.now).keys },
+    ghost keys: { speech.directory.now ≡ keys_said (plan_view plan.now) },
+    ghost tests: { (node : ℕ) → has_node live node ≡ has_test (plan_view plan.now) node },
+    ghost known: { (key : ℕ) (text : List ℕ) → has stored key text ≡ is_said (stored_by (plan_view plan.now) (places (plan_view plan.now))) key text },
+}
+
+impl<'p> StepRules<'p> {
+    ghost use Rattle.std.specs.Prelude.{◌||◌};
+    ghost use Rattle.ext_lint.specs.Notes.{idle_if, is_known, step_notes};
+    ghost use Rattle.ext_lint.specs.Said.{said_if, wants};
+
+    /// Joins what the notes of this plan's steps go by.
+    pub(crate) fn of(
+        plan: &'p Plan,
+        speech: Speech<'p>,
+        live: BTreeSet<ContextNo>,
+        stored: SaidSet<'p>,
+    ) -> StepRules<'p>
+        requires declared { declared_in speech ≡ (plan_view plan.now).keys }
+        requires keys { speech.directory.now ≡ keys_said (plan_view plan.now) }
+        requires tests { (node : ℕ) → has_node live node ≡ has_test (plan_view plan.now) node }
+        requires known { (key : ℕ) (text : List ℕ) → has stored key text ≡ is_said (stored_by (plan_view plan.now) (places (plan_view plan.now))) key text }
+        ensures { result.plan.now ≡ plan.now }
+    {
+        StepRules {
+            plan,
+            speech,
+            live,
+            stored,
+        }
+    }
+
+    /// Adds the notes of the plan's steps, in order. Takes memory for them and for what the steps
+    /// want.
+    pub(crate) fn note_steps(
+        &self,
+        alloc: Global,
+        steps: &[Place<'p>],
+        notes: &mut Vec<Note<'p>>,
+    ) -> Result<(), AllocError>
+        requires { map place_view steps.now ≡ places (plan_view self.now.plan.now) }
+        ensures { OnOk result (map note_view notes.new.items ≡ map note_view notes.old.items ++ step_notes (plan_view self.now.plan.now)) }
+    {
+        let mut wanted = SaidSet::new(alloc);
+        for place in steps {
+            self.note_step(alloc, place, &mut wanted, notes)?;
+        }
+        Ok(())
+    }
+
+    /// Adds the notes of a step, and what it wants.
+    fn note_step(
+        &self,
+        alloc: Global,
+        place: &Place<'p>,
+        wanted: &mut SaidSet<'p>,
+        notes: &mut Vec<Note<'p>>,
+    ) -> Result<(), AllocError>
+        ensures notes { OnOk result (map note_view notes.new.items ≡ map note_view notes.old.items ++ notes_of_step (plan_view self.now.plan.now) (has wanted.old) (place_view place.now)) }
+        ensures wanted { OnOk result ((key : ℕ) (text : List ℕ) → has wanted.new key text ≡ (is_said (said_if wants (said_of (plan_view self.now.plan.now).keys (keys_said (plan_view self.now.plan.now)) (step_view place.now.step.now))) key text || has wanted.old key text)) }
+    {
+        self.note_idle(place, notes)?;
+        match self.speech.said_of(alloc, place.step)? {
+            None => Ok(()),
+            Some(said) => self.note_said(place, said, wanted, notes),
+        }
+    }
+
+    /// Adds the note of a callback that begins with this step and runs for no test.
+    fn note_idle(&self, place: &Place<'p>, notes: &mut Vec<Note<'p>>) -> Result<(), AllocError>
+        ensures { OnOk result (map note_view notes.new.items ≡ map note_view notes.old.items ++ idle_if (plan_view self.now.plan.now) (place_view place.now)) }
+    {
+        if self.is_idle(place) {
+            notes.push(Note::Idle(*place))?;
+        }
+        Ok(())
+    }
+
+    /// Tests whether the step begins a callback without a test at or below its node.
+    fn is_idle(&self, place: &Place<'_>) -> bool
+        ensures { result ≡ is_idle (plan_view self.now.plan.now) (place_view place.now) }
+    {
+        place.at == 0 && !self.live.contains(&place.node)
+    }
+
+    /// Adds the note of a step that wants what no step stores, for the first time, and what it
+    /// wants.
+    fn note_said(
+        &self,
+        place: &Place<'p>,
+        said: Said<'p>,
+        wanted: &mut SaidSet<'p>,
+        notes: &mut Vec<Note<'p>>,
+    ) -> Result<(), AllocError>
+        ensures notes { OnOk result (map note_view notes.new.items ≡ map note_view notes.old.items ++ missing_if (plan_view self.now.plan.now) (has wanted.old) (place_view place.now) (Some (said_view said.entry))) }
+        ensures wanted { OnOk result ((key : ℕ) (text : List ℕ) → has wanted.new key text ≡ (is_said (said_if wants (Some (said_view said.entry))) key text || has wanted.old key text)) }
+    {
+        if !wants(said.word) {
+            return Ok(());
+        }
+        if !self.is_known(&said, wanted) {
+            notes.push(Note::Missing(*place, said))?;
+        }
+        wanted.add(said.key, said.text)
+    }
+
+    /// Tests whether what is said is among what is wanted, or a step stores it.
+    fn is_known(&self, said: &Said<'p>, wanted: &SaidSet<'p>) -> bool
+        ensures { result ≡ is_known (plan_view self.now.plan.now) (has wanted.now) (said_view said.now) }
+    {
+        wanted.has(said.key, said.text) || self.stored.has(said.key, said.text)
+    }
+}
+
+/// Adds a note for each of the declared keys that no step names. Takes memory for the keys, one at a
+/// time.
+pub(crate) fn note_keys<'p>(
+    alloc: Global,
+    keys: &'p [PlanKey],
+    directory: &Directory,
+    notes: &mut Vec<Note<'p>>,
+) -> Result<(), AllocError>
+    requires { All HasParts (keys_view keys.now) }
+    ensures { OnOk result (map note_view notes.new.items ≡ map note_view notes.old.items ++ key_notes directory.now (keys_view keys.now)) }
+{
+    for key in keys {
+        note_key(alloc, key, directory, notes)?;
+    }
+    Ok(())
+}
+
+/// Adds a note for a declared key that no step names.
+fn note_key<'p>(
+    alloc: Global,
+    key: &'p PlanKey,
+    directory: &Directory,
+    notes: &mut Vec<Note<'p>>,
+) -> Result<(), AllocError>
+    requires { HasParts (key_view key.now) }
+    ensures { OnOk result (map note_view notes.new.items ≡ map note_view notes.old.items ++ key_note directory.now (key_view key.now)) }
+{
+    let Ok(made) = key.store_key(alloc) else {
+        return Err(AllocError);
+    };
+    if !is_there(directory, &made) {
+        notes.push(Note::Unnamed(key.label.as_str()))?;
+    }
+    Ok(())
+}
+
+/// Tests whether the directory has the key.
+fn is_there(directory: &Directory, key: &Key) -> bool
+    ensures { result ≡ is_there directory.now key.now }
+{
+    directory.number_of(key).is_some()
+}
+
+/// Adds a note where the steps name more keys than there are places.
+pub(crate) fn note_crowd(
+    places: usize,
+    directory: &Directory,
+    notes: &mut Vec<Note<'_>>,
+) -> Result<(), AllocError>
+    ensures { OnOk result (map note_view notes.new.items ≡ map note_view notes.old.items ++ crowd_notes places directory.now) }
+{
+    if directory.len() > places {
+        notes.push(Note::Crowded)?;
+    }
+    Ok(())
+}
+
+/// Adds a note for each lock that one test alone names. Takes memory for the names.
+pub(crate) fn note_locks<'p>(
+    alloc: Global,
+    plan: &'p Plan,
+    notes: &mut Vec<Note<'p>>,
+) -> Result<(), AllocError>
+    ensures { OnOk result (map note_view notes.new.items ≡ map note_view notes.old.items ++ lock_notes (plan_view plan.now).nodes) }
+{
+    let names = plan.lock_names(alloc)?;
+    note_names(plan.nodes.as_slice(), names.as_slice(), notes)
+}
+
+/// Adds a note for each of these locks that one test alone names.
+fn note_names<'p>(
+    nodes: &[PlanNode],
+    names: &[&'p str],
+    notes: &mut Vec<Note<'p>>,
+) -> Result<(), AllocError>
+    ensures { OnOk result (map note_view notes.new.items ≡ map note_view notes.old.items ++ flat_map (lock_note (nodes_view nodes.now)) (map (λ n. n.now) names.now)) }
+{
+    for name in names {
+        note_name(nodes, name, notes)?;
+    }
+    Ok(())
+}
+
+/// Adds a note for a lock that one test alone names.
+fn note_name<'p>(
+    nodes: &[PlanNode],
+    name: &'p str,
+    notes: &mut Vec<Note<'p>>,
+) -> Result<(), AllocError>
+    ensures { OnOk result (map note_view notes.new.items ≡ map note_view notes.old.items ++ lock_note (nodes_view nodes.now) name.now) }
+{
+    if is_lone(nodes, name) {
+        notes.push(Note::Lone(name))?;
+    }
+    Ok(())
+}
+
+/// Tests whether one of the nodes alone names the lock, and is a test.
+fn is_lone(nodes: &[PlanNode], name: &str) -> bool
+    ensures { result ≡ is_lone (nodes_view nodes.now) name.now }
+{
+    count_of(nodes, name) == 1 && is_named_by_test(nodes, name)
+}
+
+/// Counts the nodes that name the lock.
+fn count_of(nodes: &[PlanNode], name: &str) -> usize
+    ensures { result ≡ count_by (names_lock name.now) (nodes_view nodes.now) }
+{
+    nodes.iter().filter(|node| names_lock(node, name)).count()
+}
+
+/// Tests whether one of the nodes is a test and names the lock.
+fn is_named_by_test(nodes: &[PlanNode], name: &str) -> bool
+    ensures { result ≡ list_any (λ node. is_some node.test && names_lock name.now node) (nodes_view nodes.now) }
+{
+    any_test_names(nodes, name)
+}
+
+/// The same, by the nodes as they lie in memory.
+fn any_test_names(nodes: &[PlanNode], name: &str) -> bool
+    ensures { result ≡ list_any (λ node. is_some (node_view node).test && names_lock name.now (node_view node)) nodes.now }
+{
+    nodes
+        .iter()
+        .any(|node| is_test(node) && names_lock(node, name))
+}
+
+/// Tests whether the node is a test.
+fn is_test(node: &PlanNode) -> bool
+    ensures { result ≡ is_some (node_view node.now).test }
+{
+    match &node.test {
+        Some(_) => true,
+        None => false,
+    }
+}
+
+/// Tests whether the node names the lock.
+fn names_lock(node: &PlanNode, name: &str) -> bool
+    ensures { result ≡ names_lock name.now (node_view node.now) }
+{
+    is_named(node.locks.as_slice(), name)
+}
+
+/// Tests whether one of the locks has this name.
+fn is_named(locks: &[PlanLock], name: &str) -> bool
+    ensures { result ≡ list_any (λ lock. bytes_eq name.now (lock_name (lock_view lock))) locks.now }
+{
+    locks.iter().any(|lock| name == lock.name())
+}

@@ -1,0 +1,103 @@
+//! The steps of a plan, each with its place.
+ghost use Rattle.std.specs.Prelude.{◌≡◌, ◌++◌, map, option_map, IfOk, OnOk};
+ghost use Rattle.ext_plan.specs.Plans.{node_view, plan_view, step_view, steps_view};
+ghost use Rattle.ext_plan.specs.PlanCalls.{or_no_steps};
+ghost use Rattle.ext_lint.specs.Places.{place_view, places, places_of_kind, places_of_node, places_of_steps};
+
+use ext_lifecycle::Kind;
+use ext_model::ContextNo;
+use ext_plan::{Plan, PlanNode, Step};
+use std::alloc::{AllocError, Global};
+
+/// A step of the callback of a node with this kind and index, or of its test, by its number from 0.
+#[derive(Clone, Copy, Debug)]
+pub(crate) struct Place<'p> {
+    pub node: ContextNo,
+    pub kind: Kind,
+    pub index: usize,
+    pub at: usize,
+    pub step: &'p Step,
+}
+
+/// Lists all steps of the plan, in its order. Takes memory for the list.
+pub(crate) fn places_of<'p>(alloc: Global, plan: &'p Plan) -> Result<Vec<Place<'p>>, AllocError>
+    ensures { IfOk result (λ v. map place_view v.items ≡ places (plan_view plan.now)) }
+{
+    let mut places = Vec::new(alloc);
+    for (number, node) in plan.nodes.iter().enumerate() {
+        push_node(number, node, &mut places)?;
+    }
+    Ok(places)
+}
+
+/// Adds the steps of a node's callbacks and of its test.
+fn push_node<'p>(
+    number: ContextNo,
+    node: &'p PlanNode,
+    places: &mut Vec<Place<'p>>,
+) -> Result<(), AllocError>
+    ensures { OnOk result (map place_view places.new.items ≡ map place_view places.old.items ++ places_of_node number (node_view node.now)) }
+{
+    push_kind(number, Kind::BeforeAll, node.before_all.as_slice(), places)?;
+    push_kind(
+        number,
+        Kind::BeforeEach,
+        node.before_each.as_slice(),
+        places,
+    )?;
+    push_test(number, &node.test, places)?;
+    push_kind(number, Kind::AfterEach, node.after_each.as_slice(), places)?;
+    push_kind(number, Kind::AfterAll, node.after_all.as_slice(), places)?;
+    Ok(())
+}
+
+/// Adds the steps of a node's callbacks of one kind.
+fn push_kind<'p>(
+    number: ContextNo,
+    kind: Kind,
+    callbacks: &'p [Vec<Step>],
+    places: &mut Vec<Place<'p>>,
+) -> Result<(), AllocError>
+    ensures { OnOk result (map place_view places.new.items ≡ map place_view places.old.items ++ places_of_kind number kind (map steps_view callbacks.now)) }
+{
+    for (index, steps) in callbacks.iter().enumerate() {
+        push_steps(number, kind, index, steps.as_slice(), places)?;
+    }
+    Ok(())
+}
+
+/// Adds the steps of a node's test, if it is one.
+fn push_test<'p>(
+    number: ContextNo,
+    test: &'p Option<Vec<Step>>,
+    places: &mut Vec<Place<'p>>,
+) -> Result<(), AllocError>
+    ensures { OnOk result (map place_view places.new.items ≡ map place_view places.old.items ++ places_of_steps number Kind.Test 0 (or_no_steps (option_map steps_view test.now))) }
+{
+    match test {
+        None => Ok(()),
+        Some(steps) => push_steps(number, Kind::Test, 0, steps.as_slice(), places),
+    }
+}
+
+/// Adds the steps of a callback or a test.
+fn push_steps<'p>(
+    node: ContextNo,
+    kind: Kind,
+    index: usize,
+    steps: &'p [Step],
+    places: &mut Vec<Place<'p>>,
+) -> Result<(), AllocError>
+    ensures { OnOk result (map place_view places.new.items ≡ map place_view places.old.items ++ places_of_steps node kind index (map step_view steps.now)) }
+{
+    for (at, step) in steps.iter().enumerate() {
+        places.push(Place {
+            node,
+            kind,
+            index,
+            at,
+            step,
+        })?;
+    }
+    Ok(())
+}

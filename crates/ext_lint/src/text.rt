@@ -1,0 +1,256 @@
+//! The lines of a plan's notes.
+ghost use Rattle.std.specs.Prelude.{◌≡◌, ◌++◌, [], codes, length, map, nat_lt, option_map, string_bytes, take, if◌then◌else◌, IfOk, OnOk};
+ghost use Rattle.std.specs.Fmt.{decimal};
+ghost use Rattle.std.specs.List.{flat_map};
+ghost use Rattle.ext_plan.specs.Plans.{plan_view};
+ghost use Rattle.ext_races.specs.RaceLines.{found_text, id_of_node, line_limit};
+ghost use Rattle.ext_lint.specs.InnerLists.{note_view, said_view};
+ghost use Rattle.ext_lint.specs.NoteLines.{call_words, hint, idle_line, missing_line, missing_words, note_line, note_lines, place_words, texts_of};
+ghost use Rattle.ext_lint.specs.Places.{place_view};
+
+use crate::note::Note;
+use crate::place::Place;
+use crate::said::Said;
+use ext_lifecycle::Kind;
+use ext_model::{ContextNo, KeyNo};
+use ext_plan::Plan;
+use ext_plan_reading::nearest;
+use ext_races::{Found, races_text};
+use std::alloc::{AllocError, Global};
+
+/// How many notes the text lists.
+const LINES: usize = 20;
+
+/// The lines of these notes, where steps store what is in `stored`.
+pub(crate) fn text_of(
+    alloc: Global,
+    plan: &Plan,
+    stored: &[Said<'_>],
+    notes: &[Note<'_>],
+) -> Result<String, AllocError>
+    ensures { IfOk result (λ text. string_bytes text ≡ note_lines (plan_view plan.now) (map said_view stored.now) (map note_view notes.now)) }
+{
+    if notes.is_empty() {
+        return String::from_str(alloc, "nothing to note\n");
+    }
+    let mut text = String::new(alloc);
+    push_first(alloc, &mut text, plan, stored, notes)?;
+    Ok(text)
+}
+
+/// Adds the lines of the first 20 of these notes, and that there are more.
+fn push_first(
+    alloc: Global,
+    text: &mut String,
+    plan: &Plan,
+    stored: &[Said<'_>],
+    notes: &[Note<'_>],
+) -> Result<(), AllocError>
+    ensures { OnOk result (string_bytes text.new ≡ string_bytes text.old ++ (flat_map (note_line (plan_view plan.now) (map said_view stored.now)) (take line_limit (map note_view notes.now)) ++ (if nat_lt line_limit (length (map note_view notes.now)) then codes "and more\n" else []))) }
+{
+    if notes.len() > LINES {
+        push_notes(alloc, text, plan, stored, &notes[..LINES])?;
+        return text.push_str("and more\n");
+    }
+    push_notes(alloc, text, plan, stored, notes)
+}
+
+/// Adds the lines of these notes.
+fn push_notes(
+    alloc: Global,
+    text: &mut String,
+    plan: &Plan,
+    stored: &[Said<'_>],
+    notes: &[Note<'_>],
+) -> Result<(), AllocError>
+    ensures { OnOk result (string_bytes text.new ≡ string_bytes text.old ++ flat_map (note_line (plan_view plan.now) (map said_view stored.now)) (map note_view notes.now)) }
+{
+    for note in notes {
+        push_note(alloc, text, plan, stored, note)?;
+    }
+    Ok(())
+}
+
+/// Adds the line of a note.
+fn push_note(
+    alloc: Global,
+    text: &mut String,
+    plan: &Plan,
+    stored: &[Said<'_>],
+    note: &Note<'_>,
+) -> Result<(), AllocError>
+    ensures { OnOk result (string_bytes text.new ≡ string_bytes text.old ++ note_line (plan_view plan.now) (map said_view stored.now) (note_view note.now)) }
+{
+    match note {
+        Note::Idle(place) => push_idle(alloc, text, plan, place),
+        Note::Missing(place, said) => push_missing(alloc, text, plan, stored, place, said),
+        Note::Unnamed(label) => push_named(text, "key ", label, ": no step names it\n"),
+        Note::Crowded => push_crowded(alloc, text, plan),
+        Note::Lone(name) => push_named(text, "lock ", name, ": one test alone takes it\n"),
+    }
+}
+
+/// Adds a name between two texts.
+fn push_named(text: &mut String, before: &str, name: &str, after: &str) -> Result<(), AllocError>
+    ensures { OnOk result (string_bytes text.new ≡ string_bytes text.old ++ (before.now ++ name.now ++ after.now)) }
+{
+    text.push_str(before)?;
+    text.push_str(name)?;
+    text.push_str(after)
+}
+
+/// Adds the line that tells how many keys there are places for.
+fn push_crowded(alloc: Global, text: &mut String, plan: &Plan) -> Result<(), AllocError>
+    ensures { OnOk result (string_bytes text.new ≡ string_bytes text.old ++ found_text (plan_view plan.now) Found.TooManyKeys) }
+{
+    let line = races_text(alloc, plan, &Found::TooManyKeys)?;
+    text.push_str(line.as_str())
+}
+
+/// Adds the line of a callback that runs for no test.
+fn push_idle(
+    alloc: Global,
+    text: &mut String,
+    plan: &Plan,
+    place: &Place<'_>,
+) -> Result<(), AllocError>
+    ensures { OnOk result (string_bytes text.new ≡ string_bytes text.old ++ idle_line (plan_view plan.now) (place_view place.now)) }
+{
+    let mut call = String::new(alloc);
+    push_call(&mut call, place.kind, place.index)?;
+    push_id(text, plan, place.node)?;
+    push_named(text, ": ", call.as_str(), ": no test is below\n")
+}
+
+/// Adds the line of a step that wants what no step stores.
+fn push_missing(
+    alloc: Global,
+    text: &mut String,
+    plan: &Plan,
+    stored: &[Said<'_>],
+    place: &Place<'_>,
+    said: &Said<'_>,
+) -> Result<(), AllocError>
+    ensures { OnOk result (string_bytes text.new ≡ string_bytes text.old ++ missing_line (plan_view plan.now) (map said_view stored.now) (place_view place.now) (said_view said.now)) }
+{
+    push_place(text, plan, place)?;
+    push_named(text, ", want ", said.name, " ")?;
+    text.push_str(said.text)?;
+    text.push_str(": ")?;
+    push_why(alloc, text, stored, said)?;
+    text.push_str("\n")
+}
+
+/// Adds the words for a step of a callback or of a test.
+fn push_place(text: &mut String, plan: &Plan, place: &Place<'_>) -> Result<(), AllocError>
+    ensures { OnOk result (string_bytes text.new ≡ string_bytes text.old ++ place_words (plan_view plan.now) (place_view place.now)) }
+{
+    push_id(text, plan, place.node)?;
+    push_step(text, place.at)?;
+    push_call(text, place.kind, place.index)
+}
+
+/// Adds the words for the number of a step.
+fn push_step(text: &mut String, at: usize) -> Result<(), AllocError>
+    ensures { OnOk result (string_bytes text.new ≡ string_bytes text.old ++ codes ": step " ++ decimal at ++ codes " of its ") }
+{
+    write!(text, ": step {at} of its ")
+}
+
+/// Adds the words for a callback or a test.
+fn push_call(text: &mut String, kind: Kind, index: usize) -> Result<(), AllocError>
+    ensures { OnOk result (string_bytes text.new ≡ string_bytes text.old ++ call_words kind index) }
+{
+    match kind {
+        Kind::BeforeAll => write!(text, "before_all {index}"),
+        Kind::BeforeEach => write!(text, "before_each {index}"),
+        Kind::Test => text.push_str("test"),
+        Kind::AfterEach => write!(text, "after_each {index}"),
+        Kind::AfterAll => write!(text, "after_all {index}"),
+    }
+}
+
+/// Adds why a text is missing.
+fn push_why(
+    alloc: Global,
+    text: &mut String,
+    stored: &[Said<'_>],
+    said: &Said<'_>,
+) -> Result<(), AllocError>
+    ensures { OnOk result (string_bytes text.new ≡ string_bytes text.old ++ missing_words (said_view said.now) (texts_of said.now.key (map said_view stored.now)) (map (λ other. other.name) (map said_view stored.now))) }
+{
+    let texts = texts_of(alloc, said.key, stored)?;
+    if texts.is_empty() {
+        let names = names_of(alloc, stored)?;
+        return push_no_key(text, said.name, nearest(names.as_slice(), said.name));
+    }
+    let near = nearest(texts.as_slice(), said.text);
+    push_no_text(text, said.text, said.name, near)
+}
+
+/// Adds that no step stores under a key, and which key may have been meant.
+fn push_no_key(text: &mut String, name: &str, near: Option<&str>) -> Result<(), AllocError>
+    ensures { OnOk result (string_bytes text.new ≡ string_bytes text.old ++ (codes "no step stores " ++ name.now ++ hint (option_map (λ n. n.now) near.entry))) }
+{
+    text.push_str("no step stores ")?;
+    text.push_str(name)?;
+    push_hint(text, near)
+}
+
+/// Adds that no step stores a text under a key, and which text may have been meant.
+fn push_no_text(
+    text: &mut String,
+    wanted: &str,
+    name: &str,
+    near: Option<&str>,
+) -> Result<(), AllocError>
+    ensures { OnOk result (string_bytes text.new ≡ string_bytes text.old ++ (codes "no step stores " ++ wanted.now ++ codes " under " ++ name.now ++ hint (option_map (λ n. n.now) near.entry))) }
+{
+    push_named(text, "no step stores ", wanted, " under ")?;
+    text.push_str(name)?;
+    push_hint(text, near)
+}
+
+/// Adds the name that may have been meant.
+fn push_hint(text: &mut String, near: Option<&str>) -> Result<(), AllocError>
+    ensures { OnOk result (string_bytes text.new ≡ string_bytes text.old ++ hint (option_map (λ n. n.now) near.entry)) }
+{
+    match near {
+        None => Ok(()),
+        Some(near) => push_named(text, ": did you mean ", near, "?"),
+    }
+}
+
+/// The texts that are stored under the key with this number. Takes memory for the list.
+fn texts_of<'p>(alloc: Global, key: KeyNo, stored: &[Said<'p>]) -> Result<Vec<&'p str>, AllocError>
+    ensures { IfOk result (λ v. map (λ t. t.now) v.items ≡ texts_of key (map said_view stored.now)) }
+{
+    let mut texts = Vec::new(alloc);
+    for said in stored {
+        if said.key == key {
+            texts.push(said.text)?;
+        }
+    }
+    Ok(texts)
+}
+
+/// The words by which steps name the keys that they store. Takes memory for the list.
+fn names_of<'p>(alloc: Global, stored: &[Said<'p>]) -> Result<Vec<&'p str>, AllocError>
+    ensures { IfOk result (λ v. map (λ t. t.now) v.items ≡ map (λ other. other.name) (map said_view stored.now)) }
+{
+    let mut names = Vec::new(alloc);
+    for said in stored {
+        names.push(said.name)?;
+    }
+    Ok(names)
+}
+
+/// Adds the id of a node.
+fn push_id(text: &mut String, plan: &Plan, node: ContextNo) -> Result<(), AllocError>
+    ensures { OnOk result (string_bytes text.new ≡ string_bytes text.old ++ id_of_node (plan_view plan.now) node) }
+{
+    match plan.nodes.get(node) {
+        Some(node) => node.id.write_to(text),
+        None => Ok(()),
+    }
+}

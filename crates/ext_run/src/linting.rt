@@ -1,0 +1,79 @@
+//! The notes of a plan that is read and not run.
+ghost use Rattle.std.specs.Prelude.{◌≡◌, ◌≢◌, ◌≤◌, ◌+◌, ℕ, List, false, length, string_bytes, IfOk, IfErr, IfSome};
+ghost use Rattle.std.specs.Io.KnownBytes.{Consumes, Appends};
+ghost use Rattle.ext_plan_reading.specs.Plans.{plan_view};
+ghost use Rattle.ext_plan_reading.specs.ReadPlans.{IsRunnablePlan};
+ghost use Rattle.ext_run.specs.Checks.{RefusedUnrun};
+ghost use Rattle.ext_run.specs.Lints.{IsNotesOf, TellsNotes};
+ghost use Rattle.ext_run.specs.Reports.{input_limit, plan_of_bytes, plan_of_input};
+
+use crate::fault::RunFault;
+use crate::input::read_input;
+use crate::options::Summary;
+use crate::runs::write_whole;
+use ext_lint::lint;
+use ext_model::Size;
+use ext_plan_reading::{Plan, PlanFault, read_plan_within};
+use std::alloc::{AllocError, Global};
+use std::io::{Read, Write};
+
+/// Reads a plan of at most this size and writes what of it is most likely a mistake, without running
+/// it (`ext_lint::lint`). Each of the first 20 notes has a line, and `and more` follows if there are
+/// others. `nothing to note` stands alone if there are none. In the summary, `failed` tells whether
+/// there is one.
+///
+/// It reads like `run`, and is refused like `check`.
+///
+/// Takes memory for the input, the plan, its steps and the lines, and gives all of it back. It waits
+/// only for the reader and the writer.
+#[tactic(auto, unfolding(crate::specs::Reports::plan_of_input))]
+pub fn check_lint<I: Read, W: Write>(
+    alloc: Global,
+    reader: &mut I,
+    writer: &mut W,
+    size: Size,
+) -> Result<Summary, RunFault>
+    ensures written { IfOk result (λ summary. IfSome (I.remaining reader.old) (λ input. (text : List ℕ)
+        × IsNotesOf (plan_of_input size input) text summary.failed
+        × Appends (W.contents writer.old) (W.contents writer.new) text)) }
+    ensures unrun { IfOk result (λ summary. summary.lacked ≡ false) }
+    ensures refused { IfErr result (λ fault. IfSome (I.remaining reader.old)
+        (λ input. RefusedUnrun fault (plan_of_input size input))) }
+    ensures unwritten { IfErr result (λ fault. fault ≢ RunFault.Write → writer.new ≡ writer.old) }
+    ensures taken { (bytes : List ℕ) × (length bytes ≤ input_limit size + 1)
+        × Consumes (I.remaining reader.old) (I.remaining reader.new) bytes }
+{
+    let input = read_input(alloc, reader, size)?;
+    let (text, failed) = notes_of(alloc, input.as_slice(), size)?;
+    write_whole(writer, text.as_bytes())?;
+    Ok(Summary {
+        failed,
+        lacked: false,
+    })
+}
+
+/// The text of the notes of the plan in these bytes, and whether there is one.
+#[tactic(auto, unfolding(crate::specs::Reports::plan_of_bytes))]
+fn notes_of(alloc: Global, input: &[u8], size: Size) -> Result<(String, bool), RunFault>
+    ensures told { IfOk result (λ told. IsNotesOf (plan_of_bytes size input.now) (string_bytes told.0) told.1) }
+    ensures refused { IfErr result (λ fault. RefusedUnrun fault (plan_of_bytes size input.now)) }
+    ensures unwritten { IfErr result (λ fault. fault ≢ RunFault.Write) }
+{
+    let Ok(text) = std::str::from_utf8(input) else {
+        return Err(RunFault::Plan(PlanFault::NotUtf8));
+    };
+    let plan = match read_plan_within(alloc, text, size) {
+        Ok(plan) => plan,
+        Err(fault) => return Err(RunFault::Plan(fault)),
+    };
+    Ok(notes_in(alloc, &plan)?)
+}
+
+/// The text of a plan's notes, and whether there is one.
+fn notes_in(alloc: Global, plan: &Plan) -> Result<(String, bool), AllocError>
+    requires { IsRunnablePlan (plan_view plan.now) }
+    ensures { IfOk result (λ told. TellsNotes (plan_view plan.now) (string_bytes told.0) told.1) }
+{
+    let told = lint(alloc, plan)?;
+    Ok((told.text, told.found))
+}
