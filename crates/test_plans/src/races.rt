@@ -16,6 +16,7 @@ const HEADS: [&str; 6] = [
 
 /// What is told of plans without races that have one report, and one but for two counts.
 const ONE: &str = "no races: one report\n";
+
 const NEAR: &str = "no races: one report but for computed and found\n";
 
 /// The fields of these six nodes, and what is told of the plan's races.
