@@ -1,7 +1,7 @@
 """Makes a folder with an engine by scripts/new-engine, and runs the engine and its tests there, unproved: it prints what its template has to print, and its status
 is 0.
 
-So does the engine of docs/GUIDE.md, whose author fills in scripts/parts/engine_listing/suite.rt and allows the handle Processes: beside this file there are at most 60 lines
+So does the engine of docs/GUIDE.md, whose author fills in scripts/parts/engine_listing/suite.rt.in and allows the handle Processes: beside this file there are at most 60 lines
 of code.
 
 The folder has the crates that the engine needs and no others, without their wrong bodies. One that is there and not empty, and what is no name of a crate, are refused
@@ -44,7 +44,7 @@ def checks_of_listing(folder):
     source = folder / "crates" / LISTED / "src"
     if made.returncode != 0:
         return {"the listed engine is made": False}
-    (source / "suite.rt").write_text((LISTING / "suite.rt").read_text(encoding="utf-8"), encoding="utf-8")
+    (source / "suite.rt").write_text((LISTING / "suite.rt.in").read_text(encoding="utf-8"), encoding="utf-8")
     (folder / "HANDLES").write_text(HANDLES, encoding="utf-8")
     ran = run("rt", "try", "--steps", "1", cwd=source.parent)
     return {
