@@ -144,19 +144,18 @@ def check_timed():
     return len(read)
 
 
-def main(program, _words):
-    passed = failed = 0
+def is_right(name, what, count):
+    """Whether these can be counted; prints how many there are, or why not."""
     try:
-        told, good = f"{check_timed()} times and attempts in XML", True
+        print(f"{name}: {count()} {what}")
+        return True
     except (ValueError, xml.etree.ElementTree.ParseError) as fault:
-        told, good = f"NOT as it has to be: {fault}", False
-    passed, failed = passed + good, failed + (not good)
-    print(f"times and attempts: {told}")
-    for file in [TOP / "examples/junit.toml", *sorted((TOP / "examples/rows").glob("*.toml")), *sorted((TOP / "examples/outside").glob("*.toml"))]:
-        try:
-            told, good = f"{check(program, file.read_bytes())} cases in XML", True
-        except (ValueError, xml.etree.ElementTree.ParseError) as fault:
-            told, good = f"NOT as it has to be: {fault}", False
-        passed, failed = passed + good, failed + (not good)
-        print(f"{file.parent.name}/{file.stem}: {told}")
-    return passed, failed
+        print(f"{name}: NOT as it has to be: {fault}")
+        return False
+
+
+def main(program, _words):
+    files = [TOP / "examples/junit.toml", *sorted((TOP / "examples/rows").glob("*.toml")), *sorted((TOP / "examples/outside").glob("*.toml"))]
+    right = [is_right("times and attempts", "times and attempts in XML", check_timed)]
+    right += [is_right(f"{file.parent.name}/{file.stem}", "cases in XML", lambda: check(program, file.read_bytes())) for file in files]  # noqa: B023
+    return sum(right), len(right) - sum(right)
