@@ -1,7 +1,7 @@
 /* Tests of the store by its C calls: each code, each misuse, each limit, and 2 to 32 threads. Prints a line for each test that fails; the last
    line is 'N passed, M failed', and the exit status 1 where one failed.
 
-   usage: test [ROUNDS]    how many puts each thread makes, and how many contexts come; 2000 unless told
+   usage: test [ROUNDS]    how many puts each thread makes, and twice as many as it opens contexts; 2000 unless told
 
    It is linked with -Wl,--wrap=malloc,--wrap=realloc, so that it can refuse memory to the library. */
 #define _POSIX_C_SOURCE 200809L
@@ -846,10 +846,14 @@ static void threads_end_computes(uint32_t threads) {
     for (uint32_t lane = 0; lane < threads; lane++) CODE(ext_lanes_leave(&lanes, lane), EXT_DONE);
 }
 
-/* Contexts that come during the run: they are named when the store is opened, and a counter gives them out. */
+/* Contexts that come during the run: they are named when the store is opened, and a counter gives them out. In each round every thread
+   opens one, all at once. With few rounds, as for valgrind, there are fewer still. */
+static uint32_t openings(void) {
+    return rounds >= 1000 ? rounds / 2 : rounds / 16 + 1;
+}
+
 static atomic_size_t next_context;
 static atomic_uchar given[65536], written[65536]; /* by context */
-static size_t reserve;
 
 /* Closes an invocation by the last lane, for which threads wait in turn. */
 static void close_invocation(size_t context) {
@@ -864,9 +868,9 @@ static void close_invocation(size_t context) {
 
 static void *takes_contexts(void *at) {
     uint32_t lane = (uint32_t)(size_t)at;
-    pthread_barrier_wait(&gate);
-    for (size_t one = atomic_fetch_add(&next_context, 1); one < reserve; one = atomic_fetch_add(&next_context, 1)) {
-        size_t context = INVOCATIONS + one;
+    for (uint32_t round = 0; round < openings(); round++) {
+        pthread_barrier_wait(&gate);
+        size_t context = INVOCATIONS + atomic_fetch_add(&next_context, 1);
         ext_value value = {0};
         atomic_fetch_add(&given[context], 1);
         ext_code code = ext_lanes_get(&lanes, lane, context, lane % 2, &value);
@@ -892,16 +896,15 @@ static void *takes_contexts(void *at) {
 
 static void threads_take_contexts(uint32_t threads) {
     ext_value value = {0}, values[32] = {{0}};
-    size_t count = 9;
+    size_t count = 9, reserve = openings() * threads;
     next_context = wrong = 0;
     memset((void *)given, 0, sizeof given);
     memset((void *)written, 0, sizeof written);
-    reserve = rounds;
     suite_of(INVOCATIONS + reserve);
     CODE(ext_lanes_open(&lanes, suite.bytes, suite.byte_count, suite.lengths, suite.length_count, &LARGE, threads + 1), EXT_DONE);
     CODE(ext_lanes_put(&lanes, 0, TEMPLATE, 2, 6000, true, &value), EXT_DONE);
     together(takes_contexts, threads);
-    WANT(wrong == 0 && next_context == reserve + threads);
+    WANT(wrong == 0 && next_context == reserve);
     for (size_t context = 0; context < suite.length_count; context++) {
         WANT(given[context] == (context < INVOCATIONS ? 0 : 1) && written[context] == given[context]);
     }

@@ -14,8 +14,8 @@ TOP = pathlib.Path(__file__).resolve().parent.parent.parent
 CRATE = TOP / "crates" / "demo_engine"
 PROGRAM = CRATE / "out" / "demo_engine"
 EXAMPLE = TOP / "examples" / "engine.report"
-LINE = re.compile(r"(\[engine:demo\]\S*\[test:([a-z]+)\]) +\|(\.*)(([0-3])\5*)(\.*)\|")
-TESTS = ["gift", "loan", "letter", "parcel", "lease", "alone", "sum", "eve"]
+LINE = re.compile(r"(\[engine:demo\]\S*\[(?:test|row):([a-z]+|#\d)\]) +\|(\.*)(([0-3])\5*)(\.*)\|")
+TESTS = ["gift", "loan", "letter", "parcel", "lease", "alone", "sum", "eve", "#1", "#2"]
 
 
 def lines_of(path):
@@ -55,6 +55,7 @@ def are_apart(spans, one, other):
 
 def main(_program, _words):
     report = lines_of(CRATE / "stdout")
+    rows = TESTS[8:]
     count = len(TESTS)
     plain, drawn_run, failing = run(), run("--lanes-over-time"), run(may_write=False)
     drawn = drawn_run[0]
@@ -72,8 +73,8 @@ def main(_program, _words):
         "so has that of main.rt": list(spans_in(shown_picture())) == TESTS,
         "two tests that have one lock are apart": drawn_all and are_apart(spans, "gift", "loan"),
         "the isolated test is alone": drawn_all and all(it == "alone" or are_apart(spans, it, "alone") for it in TESTS),
-        "the audit comes last": drawn_all and all(spans[it].stop <= spans[last].start + 1 for last in ("sum", "eve") for it in TESTS[:6]),
-        "each test fails by one fault where the factory does": len(failed_tests) == count and len({it.split(": ", 1)[1] for it in failed_tests}) == 1,
+        "the audit comes last": drawn_all and all(spans[it].stop <= spans[last].start + 1 for last in ("sum", "eve", *rows) for it in TESTS[:6]),
+        "each test fails by one fault where the factory does, and no row comes": len(failed_tests) == count - len(rows) and len({it.split(": ", 1)[1] for it in failed_tests}) == 1,
         "no value is made then": failing[0][-2:] == ["computed 0 found 0 closed 0 close faults 0", "the folder is gone: true"],
     }
     for what, holds in checks.items():

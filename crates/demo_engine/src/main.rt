@@ -1,4 +1,4 @@
-//! An engine to copy from, over the public libraries alone: eight tests in three classes run on four lanes and share one database,
+//! An engine to copy from, over the public libraries alone: ten tests in three classes run on four lanes and share one database,
 //! which is made once. Four tests fail, each in a way of its own, and still everything is closed.
 //!
 //! It prints the report of the run (`stdout`, the same in every schedule), with `--lanes-over-time` also which lane ran which test
@@ -14,21 +14,24 @@
 //!   factory that fails takes away itself what it made (`make_database`). The post's fault is kept: `letter` and `parcel` are both
 //!   told of attempt 1 (`send`).
 //! - `suite`: a lock, an isolated test, and a class that runs after the others. Without the lock a payment of `gift` or `loan` could
-//!   be lost (`pay`), and `sum` would fail.
+//!   be lost (`pay`), and `sum` would fail. `paid` runs once for each payment that was made: of its three rows in reserve two come
+//!   (`is_enabled`), and `leave_out_reserve` of `run` takes the third out of the report.
 //! - `run`: opening, the run and its report. `proofs/run/report_of` shows that the suite's lock was opened, as `leaf_laws` asks.
 //!
-//! The lanes over time differ from run to run, but `gift` and `loan` are apart, nothing is beside `alone`, and `sum` and `eve` come
-//! last:
+//! The lanes over time differ from run to run, but `gift` and `loan` are apart, nothing is beside `alone`, and the tests of `Audit`
+//! come last:
 //!
 //! ```text
-//! [engine:demo]/[class:Accounts]/[test:gift]   |3333333333333333333333333333................................|
-//! [engine:demo]/[class:Accounts]/[test:loan]   |.............................2222222222222222...............|
-//! [engine:demo]/[class:Office]/[test:letter]   |1111........................................................|
-//! [engine:demo]/[class:Office]/[test:parcel]   |000.........................................................|
-//! [engine:demo]/[class:Office]/[test:lease]    |....000.....................................................|
-//! [engine:demo]/[class:Office]/[test:alone]    |..............................................1111..........|
-//! [engine:demo]/[class:Audit]/[test:sum]       |....................................................22222222|
-//! [engine:demo]/[class:Audit]/[test:eve]       |....................................................0000000.|
+//! [engine:demo]/[class:Accounts]/[test:gift]        |3333333333333333333333333333................................|
+//! [engine:demo]/[class:Accounts]/[test:loan]        |.............................2222222222222222...............|
+//! [engine:demo]/[class:Office]/[test:letter]        |1111........................................................|
+//! [engine:demo]/[class:Office]/[test:parcel]        |000.........................................................|
+//! [engine:demo]/[class:Office]/[test:lease]         |....000.....................................................|
+//! [engine:demo]/[class:Office]/[test:alone]         |..............................................1111..........|
+//! [engine:demo]/[class:Audit]/[test:sum]            |....................................................22222222|
+//! [engine:demo]/[class:Audit]/[test:eve]            |....................................................0000000.|
+//! [engine:demo]/[class:Audit]/[test:paid]/[row:#1]  |....................................................1111111.|
+//! [engine:demo]/[class:Audit]/[test:paid]/[row:#2]  |....................................................33333333|
 //! ```
 #![tactic(auto)]
 

@@ -17,7 +17,7 @@ pub(crate) enum Task {
 }
 
 /// Each node's id and task. A node is spoken of by its place in this list.
-pub(crate) const NODES: [(&str, Task); 12] = [
+pub(crate) const NODES: [(&str, Task); 16] = [
     ("[engine:demo]", Task::Nothing),
     ("[engine:demo]/[class:Accounts]", Task::Nothing),
     ("[engine:demo]/[class:Accounts]/[test:gift]", Task::Pay(10)),
@@ -36,6 +36,19 @@ pub(crate) const NODES: [(&str, Task); 12] = [
         "[engine:demo]/[class:Audit]/[test:eve]",
         Task::Want("SELECT count(*) FROM account WHERE name = 'eve'", 1),
     ),
+    ("[engine:demo]/[class:Audit]/[test:paid]", Task::Nothing),
+    (
+        "[engine:demo]/[class:Audit]/[test:paid]/[row:#1]",
+        Task::Want("SELECT money >= 110 FROM account WHERE name = 'ann'", 1),
+    ),
+    (
+        "[engine:demo]/[class:Audit]/[test:paid]/[row:#2]",
+        Task::Want("SELECT money >= 120 FROM account WHERE name = 'ann'", 1),
+    ),
+    (
+        "[engine:demo]/[class:Audit]/[test:paid]/[row:#3]",
+        Task::Want("SELECT money >= 130 FROM account WHERE name = 'ann'", 1),
+    ),
 ];
 
 /// The engine, in whose context the database stands.
@@ -49,6 +62,12 @@ pub(crate) const ALONE: ContextNo = 8;
 
 /// The class that runs after the other two.
 pub(crate) const AUDIT: ContextNo = 9;
+
+/// The test that runs once for each payment that was made. The nodes of its rows, as many as there may be, are the last ones.
+pub(crate) const PAID: ContextNo = 12;
+
+/// The type of these nodes.
+pub(crate) const ROW: &str = "row";
 
 /// What the test of this node does.
 pub(crate) fn task_of(node: ContextNo) -> Task {

@@ -85,7 +85,7 @@ fn write_line(
     first: u64,
     column: u64,
 ) -> Result<(), AllocError> {
-    write!(text, "{id:<44} |")?;
+    write!(text, "{id:<49} |")?;
     for place in 0..COLUMNS {
         let begun = first.saturating_add(column.saturating_mul(place));
         if span.begun < begun.saturating_add(column) && begun < span.ended {

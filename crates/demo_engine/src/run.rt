@@ -3,18 +3,18 @@ ghost use Rattle.std.specs.Prelude.{◌≡◌, ◌<◌, [], ◌∷◌, All, IfOk
 ghost use Rattle.ext_store.specs.Stores.{closers_below};
 ghost use Rattle.ext_engine.specs.TreeRun.{IsUsable};
 
-use crate::nodes::NODES;
+use crate::nodes::{NODES, ROW};
 use crate::picture::Spans;
 use crate::shared::Shared;
 use crate::suite::{DemoSuite, TABLE};
 use crate::tests::{Keys, Tests};
 use ext_engine::{EngineFault, OpenGate, Opened, leaf_laws, open_run, read_ids, run_tree};
-use ext_report::{NodeResult, any_failed, report_text};
+use ext_report::{NodeResult, any_failed, leave_out_reserve, report_text};
 use ext_store::Limits;
 use ext_tree::{Key, Namespace, Tree};
 use std::alloc::Global;
 use std::sync::Wait;
-use std::sync::atomic::AtomicU32;
+use std::sync::atomic::{AtomicU32, AtomicU64};
 use std::thread::Threads;
 
 /// What is told of a run.
@@ -38,6 +38,7 @@ pub(crate) fn run_tests<R: Threads + Wait + Sync>(
         folder,
         keys,
         attempts: AtomicU32::new(0),
+        paid: AtomicU64::new(0),
     };
     report_of(threads, rt, open(rt.alloc())?, &tests, spans)
 }
@@ -116,7 +117,7 @@ fn report_of<R: Threads + Wait + Sync>(
     told(rt.alloc(), store.tree(), results)
 }
 
-/// What is told of a run over these nodes that had these results.
+/// What is told of a run over these nodes that had these results: nothing of rows that did not come.
 fn told(
     alloc: Global,
     nodes: &Tree,
@@ -124,7 +125,8 @@ fn told(
 ) -> anyhow::Result<Report>
     requires { IfOk results (λ results. All (λ r. r.node < length nodes.now) results.items) }
 {
-    let results = results?;
+    let mut results = results?;
+    leave_out_reserve(nodes, ROW, &mut results);
     Ok(Report {
         text: report_text(alloc, nodes, results.as_slice())?,
         failed: any_failed(results.as_slice()),

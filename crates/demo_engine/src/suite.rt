@@ -1,5 +1,5 @@
 //! What the engine asks of a node, and its calls.
-use crate::nodes::{ACCOUNTS, ALONE, AUDIT};
+use crate::nodes::{ACCOUNTS, ALONE, AUDIT, PAID};
 use crate::picture::Spans;
 use crate::shared::{Closing, Shared};
 use crate::tests::Tests;
@@ -9,6 +9,7 @@ use ext_model::ContextNo;
 use ext_store::{Lane, Store, fault_of};
 use ext_tree::Tree;
 use std::sync::Wait;
+use std::sync::atomic::Ordering;
 
 /// The lock of the table of accounts.
 pub(crate) const TABLE: &str = "account";
@@ -77,6 +78,13 @@ impl<'a> Suite<Shared> for DemoSuite<'a> {
         } else {
             None
         }
+    }
+
+    ghost may_disable = { λ suite node. Unit {0} };
+
+    /// Of the rows in reserve as many are run as payments were made, which is known once the audit begins.
+    fn is_enabled(&self, node: ContextNo) -> bool {
+        node <= PAID || (node - PAID) as u64 <= self.tests.paid.load(Ordering::SeqCst)
     }
 
     fn action(&self, _node: ContextNo) -> Closing<'a> {

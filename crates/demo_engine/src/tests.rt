@@ -10,17 +10,19 @@ use ext_model::{ContextNo, Fault};
 use ext_store::{Lane, Store, fault_of};
 use ext_tree::Key;
 use std::sync::Wait;
-use std::sync::atomic::{AtomicU32, Ordering};
+use std::sync::atomic::{AtomicU32, AtomicU64, Ordering};
 use std::time::Duration;
 use std::{fs, thread};
 
-/// What all tests are given: the path of the run's folder, the keys of what they store, and how often the post was tried.
+/// What all tests are given: the path of the run's folder, the keys of what they store, how often the post was tried, and how many
+/// payments were made.
 #[derive(Drop)]
 pub(crate) struct Tests<'a> {
     pub(crate) rt: &'a HostRuntime,
     pub(crate) folder: &'a str,
     pub(crate) keys: Keys,
     pub(crate) attempts: AtomicU32,
+    pub(crate) paid: AtomicU64,
 }
 
 /// The keys of what the tests store.
@@ -139,7 +141,9 @@ impl Tests<'_> {
         let question = "SELECT money FROM account WHERE name = 'ann'";
         let money = database.ask(rt, self.rt, question)?;
         thread::sleep(self.rt, Duration::from_millis(20));
-        database.set_money(rt, self.rt, money.saturating_add(amount))
+        database.set_money(rt, self.rt, money.saturating_add(amount))?;
+        self.paid.fetch_add(1, Ordering::SeqCst);
+        Ok(())
     }
 
     /// Fails unless the database answers so.

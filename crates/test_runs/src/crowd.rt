@@ -10,7 +10,7 @@ use ext_model::{ContextNo, Fault, Size};
 use ext_report::{leave_out_reserve, report_text};
 use ext_store::{Lane, Limits, Store};
 use ext_tree::Key;
-use std::alloc::Global;
+use std::alloc::{AllocError, Global};
 use std::sync::Wait;
 use std::test::Fail;
 use std::thread::Threads;
@@ -20,17 +20,17 @@ const CLASSES: usize = 200;
 // How many tests each class has from the beginning, and how many may come.
 const GIVEN: usize = 50;
 
-const ROOM: usize = 100;
+const ROOM: usize = 60;
 
 // How many nodes there are from a class to the next.
 const SPAN: usize = 1 + GIVEN + ROOM;
 
 /// The type of nodes that are kept in reserve.
-const ROW: &str = "test-template-invocation";
+const ROW: &str = "row";
 
-/// How many tests come in a class: from 0 to 100, and 10,021 in all classes.
+/// How many tests come in a class: from 40 to 60, and 10,055 in all classes.
 fn count_of(class: usize) -> usize {
-    class % CLASSES * 41 % (ROOM + 1)
+    ROOM - class % 21
 }
 
 /// Classes whose tests share a value each.
@@ -112,6 +112,40 @@ fn crowd_ids(alloc: Global) -> Result<Vec<UniqueId>, Fail> {
     Ok(ids)
 }
 
+/// Puts the lines of as many tests of this type of the class behind the text.
+fn write_tests(
+    text: &mut String,
+    class: usize,
+    kind: &str,
+    count: usize,
+) -> Result<(), AllocError> {
+    for test in 1..=count {
+        writeln!(
+            text,
+            "[engine:x]/[class:{class}]/[{kind}:#{test}] successful closed 0"
+        )?;
+    }
+    Ok(())
+}
+
+/// The report of each run. In each class the test that comes first makes the value, and all others
+/// find it.
+fn wanted_report(alloc: Global) -> Result<String, AllocError> {
+    let mut text = String::new(alloc);
+    text.push_str("[engine:x] successful closed 0\n")?;
+    for class in 0..CLASSES {
+        writeln!(text, "[engine:x]/[class:{class}] successful closed 1")?;
+        write_tests(&mut text, class, "test", GIVEN)?;
+        write_tests(&mut text, class, ROW, count_of(class))?;
+    }
+    text.push_str(
+        "tests 20055 successful 20055 aborted 0 failed 0 skipped 0
+computed 200 found 19855 closed 200 close faults 0
+",
+    )?;
+    Ok(text)
+}
+
 /// Runs the classes on so many lanes, and gives the report.
 fn report_on<R: Threads + Wait + Sync>(
     rt: &R,
@@ -130,23 +164,38 @@ fn report_on<R: Threads + Wait + Sync>(
     Ok(report_text(alloc, run.store.tree(), &run.results)?)
 }
 
-/// The end of each report: of each class all tests but one find the value that this one made.
-const TOTALS: &str = "tests 20021 successful 20021 aborted 0 failed 0 skipped 0
-computed 200 found 19821 closed 200 close faults 0
-";
+/// Tells whether a run on so many lanes has the report that is wanted.
+fn is_reported_on<R: Threads + Wait + Sync>(
+    rt: &R,
+    alloc: Global,
+    lanes: usize,
+) -> Result<bool, Fail> {
+    let ids = crowd_ids(alloc)?;
+    let key = a_key(alloc).ok_or("no key")?;
+    let report = report_on(rt, alloc, ids.as_slice(), &key, lanes)?;
+    Ok(report == wanted_report(alloc)?)
+}
+
+// One report, however many lanes there are. Each run is a test of its own, since a test has a
+// minute, and without a proof it takes a good part of one.
 
 /// Tests `run_leaves`, `LeafSuite::is_enabled` and `leave_out_reserve`.
 #[test]
 fn half_of_20_000_tests_come_during_the_run(rt: HostRuntime) -> Result<(), Fail> {
-    let ids = crowd_ids(rt.alloc())?;
-    let Some(key) = a_key(rt.alloc()) else {
-        panic!(rt; "no memory");
-    };
-    let alone = report_on(&rt, rt.alloc(), ids.as_slice(), &key, 1)?;
-    assert!(rt; alone.ends_with(TOTALS));
-    for lanes in [4, 16] {
-        let beside = report_on(&rt, rt.alloc(), ids.as_slice(), &key, lanes)?;
-        assert!(rt; beside == alone);
-    }
+    assert!(rt; is_reported_on(&rt, rt.alloc(), 1)?);
+    Ok(())
+}
+
+/// Tests `run_leaves`: the same on four lanes.
+#[test]
+fn half_of_20_000_tests_come_on_4_lanes(rt: HostRuntime) -> Result<(), Fail> {
+    assert!(rt; is_reported_on(&rt, rt.alloc(), 4)?);
+    Ok(())
+}
+
+/// Tests `run_leaves`: the same on sixteen lanes.
+#[test]
+fn half_of_20_000_tests_come_on_16_lanes(rt: HostRuntime) -> Result<(), Fail> {
+    assert!(rt; is_reported_on(&rt, rt.alloc(), 16)?);
     Ok(())
 }
