@@ -1,7 +1,7 @@
 /* The extension store, for C and for languages that call C.
 
-   Link with the static library of crates/ext_c (`rt lib` in that folder makes out/libext_c.a) and then with the kit's
-   c/liblibc_c.a, which calls this program's malloc, realloc and free.
+   Link with what `make install` installs beside this file, as `pkg-config --libs extension_store` says; or with libext_c.a, which
+   `rt lib` in crates/ext_c makes, and then with the kit's c/liblibc_c.a. It calls this program's malloc, realloc and free.
 
    A store has contexts in a tree, up to 1,024 keys, and lanes. A value is 64 bits of the caller's own, its handle, which the
    store never looks into and never frees. Contexts are numbered from 0, in the order of their ids; keys from 0, as ext_key

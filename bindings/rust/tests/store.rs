@@ -260,19 +260,9 @@ fn keys_up_to_the_limit() {
         }
         let last = keys.last().expect("at least 32");
         assert_eq!(opened.get(1, FIRST, last), Some(("thing", 1, FIRST)));
-        let mut numbers = opened
-            .closers
-            .remove(FIRST)
-            .close(|it| it.name)
-            .unwrap()
-            .len();
+        let mut numbers = opened.closers.remove(FIRST).close(|it| it.name).len();
         assert_eq!(numbers, keys.len().min(96));
-        numbers = opened
-            .closers
-            .remove(CLASS)
-            .close(|it| it.name)
-            .unwrap()
-            .len();
+        numbers = opened.closers.remove(CLASS).close(|it| it.name).len();
         assert_eq!(numbers, 0);
     }
 }
@@ -314,7 +304,7 @@ fn large_store() {
         Err(GetError::Refused(Refusal::NoContext))
     ));
     let closer = closers.pop().expect("one for each context");
-    assert_eq!(closer.close(|it| it.name).unwrap(), ["thing"]);
+    assert_eq!(closer.close(|it| it.name), ["thing"]);
     ids.push("[engine:x]/[m:0]".to_string());
     assert_eq!(
         Store::<Thing>::open(&ids, limits).err(),
@@ -468,7 +458,7 @@ fn kept_fault_stands_until_it_is_replaced() {
         .compute(CLASS, &server, || Err("last"))
         .is_err());
     let class = opened.closers.remove(CLASS);
-    assert!(class.close(|_| ()).unwrap().is_empty());
+    assert!(class.close(|_| ()).is_empty());
 }
 
 #[test]
@@ -517,10 +507,7 @@ fn closes_latest_first() {
     opened.put(3, ENGINE, &keys[0], "another context's");
     opened.lanes[3].remove(CLASS, &keys[4]).unwrap();
     let class = opened.closers.remove(CLASS);
-    assert_eq!(
-        class.close(|it| it.name).unwrap(),
-        ["latest", "middle", "earliest"]
-    );
+    assert_eq!(class.close(|it| it.name), ["latest", "middle", "earliest"]);
     assert!(matches!(
         opened.lanes[0].get(FIRST, &keys[2]),
         Err(GetError::Refused(Refusal::Closed))
@@ -543,7 +530,7 @@ fn closes_latest_first() {
         Err(ComputeError::Refused(Refusal::Closed))
     ));
     assert_eq!(
-        opened.closers.remove(ENGINE).close(|it| it.name).unwrap(),
+        opened.closers.remove(ENGINE).close(|it| it.name),
         ["another context's"]
     );
 }
@@ -576,8 +563,7 @@ fn close_beside_a_factory_gives_the_closer_back() {
     let mut closer = None;
     opened.lanes[0]
         .compute(CLASS, &server, || {
-            let refused = class.close(|_| ()).unwrap_err();
-            assert_eq!(refused.refusal, Refusal::Busy);
+            let refused = class.try_close(|_| ()).unwrap_err();
             assert_eq!(
                 refused.to_string(),
                 "context 1 is not closed: a factory runs for this context"
@@ -586,7 +572,8 @@ fn close_beside_a_factory_gives_the_closer_back() {
             Ok(thing)
         })
         .unwrap();
-    assert_eq!(closer.unwrap().close(|it| it.name).unwrap(), ["server"]);
+    let closer = closer.expect("it was given back");
+    assert_eq!(closer.try_close(|it| it.name).unwrap(), ["server"]);
 }
 
 #[test]
@@ -654,10 +641,7 @@ fn values_are_dropped_once_and_with_all_of_the_store() {
     drop(store.clone());
     drop(store);
     let mut closers = closers.into_iter();
-    assert_eq!(
-        closers.nth(CLASS).unwrap().close(|it| it.name).unwrap(),
-        ["stands"]
-    );
+    assert_eq!(closers.nth(CLASS).unwrap().close(|it| it.name), ["stands"]);
     assert_eq!(drops.load(SeqCst), 0);
     drop(closers);
     assert_eq!(drops.load(SeqCst), 3);
@@ -714,11 +698,11 @@ fn a_value_without_bytes_and_one_that_is_aligned() {
         &*lanes[2].get(ENGINE, &key).unwrap().unwrap(),
         Any::Aligned(Aligned(7))
     ));
-    assert!(closers.remove(ENGINE).close(|_| ()).unwrap().is_empty());
+    assert!(closers.remove(ENGINE).close(|_| ()).is_empty());
     let (_store, mut lanes, mut closers) = Store::<Nothing>::open(&IDS, Limits::default()).unwrap();
     let key = lanes[0].key(&[], "nothing").unwrap();
     lanes[0].put(ENGINE, &key, Nothing).unwrap();
-    assert_eq!(closers.remove(ENGINE).close(|_| ()).unwrap().len(), 1);
+    assert_eq!(closers.remove(ENGINE).close(|_| ()).len(), 1);
 }
 
 #[test]

@@ -77,7 +77,7 @@ fn one_factory_for_all(threads: usize) {
     let closed: usize = closers
         .into_iter()
         .rev()
-        .map(|it| it.close(|_| ()).unwrap().len())
+        .map(|it| it.close(|_| ()).len())
         .sum();
     assert_eq!(closed, METHODS);
     drop(lanes);
@@ -185,7 +185,7 @@ fn contexts_given_out(threads: usize) {
         let made = lane.compute_along(&past, &key, || Ok(Number(own)));
         assert_eq!(made.unwrap().0, own);
         assert_eq!(lane.get(context, &key).unwrap().map(|it| it.0), Some(own));
-        let gone = closer.close(|it| it.0).unwrap();
+        let gone = closer.close(|it| it.0);
         assert_eq!(gone, [own]);
         closed.lock().unwrap().extend(gone);
     });
@@ -335,11 +335,36 @@ fn a_look_up_that_waits_for_a_context_which_is_closed() {
     let running = run_factory(lanes.pop().unwrap(), 1, key);
     running.answer.send(Ok(4)).unwrap();
     running.ended.join().unwrap();
-    assert_eq!(closers.remove(1).close(|it| it.0).unwrap(), [4]);
+    assert_eq!(closers.remove(1).close(|it| it.0), [4]);
     assert!(matches!(
         other.get(2, &key),
         Err(GetError::Refused(Refusal::Closed))
     ));
+}
+
+#[test]
+fn a_close_waits_for_the_factories_of_its_context() {
+    for answer in [Some(Ok(8)), Some(Err(9)), None] {
+        let (_store, mut lanes, mut closers) = open(3, false);
+        let key = lanes[0].key(&[], "thing").unwrap();
+        let other = lanes[0].key(&[], "other").unwrap();
+        lanes[0].put(1, &other, Number(2)).unwrap();
+        let class = closers.remove(1);
+        let running = run_factory(lanes.pop().unwrap(), 1, key);
+        let closed = beside(running, answer, || class.close(|it| it.0));
+        assert_eq!(
+            closed,
+            if answer == Some(Ok(8)) {
+                vec![8, 2]
+            } else {
+                vec![2]
+            }
+        );
+        assert!(matches!(
+            lanes[0].get(1, &key),
+            Err(GetError::Refused(Refusal::Closed))
+        ));
+    }
 }
 
 #[test]
@@ -357,7 +382,7 @@ fn contexts_are_closed_while_others_work() {
             lane.compute(1, &key, || Ok(Number(1))).unwrap();
             lane.compute(2 + method, &own, || Ok(Number(2))).unwrap();
             let closer = closers[2 + method].lock().unwrap().take().unwrap();
-            closed.fetch_add(closer.close(|it| it.0).unwrap().len(), SeqCst);
+            closed.fetch_add(closer.close(|it| it.0).len(), SeqCst);
         }
     });
     assert_eq!(closed.load(SeqCst), METHODS);

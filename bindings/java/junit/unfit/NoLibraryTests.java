@@ -11,9 +11,10 @@ import org.junit.jupiter.api.extension.BeforeEachCallback;
 import org.junit.jupiter.api.extension.ExtendWith;
 import org.junit.jupiter.api.extension.ExtensionContext;
 import org.junit.jupiter.api.extension.ExtensionContext.Namespace;
+import org.junit.jupiter.api.extension.ExtensionContext.Store;
 import org.junit.jupiter.api.extension.ExtensionContextException;
 
-/** The jar where it has no library for the machine: both ways to a store say so, each time. */
+/** The jar where it has no library for the machine: both ways to a store say so, each time; and who asks for it gets JUnit's own, with one warning. */
 @ExtendWith(NoLibraryTests.Asking.class)
 class NoLibraryTests {
     static class Asking implements BeforeEachCallback {
@@ -26,6 +27,9 @@ class NoLibraryTests {
                 Assertions.assertEquals("no proved store: " + why, refused.getMessage());
                 refused = Assertions.assertThrows(StoreException.class, () -> Contexts.open(Limits.USUAL, List.of("[engine:x]")));
                 Assertions.assertEquals("not opened: " + why, refused.getMessage());
+                Store junits = ProvedStore.orJUnits(context, Namespace.GLOBAL);
+                junits.put("time", time);
+                Assertions.assertEquals(time, context.getStore(Namespace.GLOBAL).get("time"));
             }
         }
     }

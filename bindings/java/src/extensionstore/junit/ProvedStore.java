@@ -2,7 +2,10 @@ package extensionstore.junit;
 
 import extensionstore.Contexts;
 import extensionstore.StoreException;
+import java.lang.System.Logger.Level;
 import java.lang.invoke.MethodType;
+import java.util.Optional;
+import java.util.concurrent.atomic.AtomicBoolean;
 import java.util.function.Function;
 import org.junit.jupiter.api.extension.ExtensionContext;
 import org.junit.jupiter.api.extension.ExtensionContext.Namespace;
@@ -24,6 +27,9 @@ import org.junit.platform.commons.PreconditionViolationException;
  * for the context, where JUnit waits.
  */
 public final class ProvedStore implements Store {
+    private static final String NONE = "no proved store: ";
+    private static final AtomicBoolean WARNED = new AtomicBoolean();
+
     private final Namespace namespace;
     private final Own own;
 
@@ -54,9 +60,21 @@ public final class ProvedStore implements Store {
     public static ProvedStore of(ExtensionContext context, Namespace namespace) {
         given(namespace, "Namespace");
         Contexts.unavailable().ifPresent(why -> {
-            throw new ExtensionContextException("no proved store: " + why);
+            throw new ExtensionContextException(NONE + why);
         });
         return new ProvedStore(namespace, Own.of(context));
+    }
+
+    /** The same where a native library fits this machine; else JUnit's own store, and the first such call warns in the log of this class. */
+    public static Store orJUnits(ExtensionContext context, Namespace namespace) {
+        Optional<String> why = Contexts.unavailable();
+        if (why.isEmpty()) {
+            return of(context, namespace);
+        }
+        if (!WARNED.getAndSet(true)) {
+            System.getLogger(ProvedStore.class.getName()).log(Level.WARNING, NONE + why.get() + "; JUnit's own is used");
+        }
+        return context.getStore(namespace);
     }
 
     @Override
