@@ -1,7 +1,7 @@
 //! How long the nodes of a run took, printed at its end on standard error.
 ghost use Rattle.std.specs.Prelude.{◌≡◌, ◌≤◌, false, IfErr, IfOk};
 ghost use Rattle.std.specs.Io.KnownBytes.{Appends};
-ghost use Rattle.extrun.specs.Tasks.{IsRefused, IsReported};
+ghost use Rattle.extrun.specs.Tasks.{IsOneReported, IsRefused, IsReported};
 
 use crate::progress::ids_of;
 use crate::times::{Times, seconds};
@@ -32,6 +32,7 @@ where
     R: Threads + Wait + Sync + Clock + AllocGlobal + Eprint,
     requires lanes { options.plain ≡ false → (1 ≤ options.lanes) × (options.lanes ≤ 16) }
     ensures done { IfOk result (λ summary. IsReported options input.now summary (Appends (W.contents writer.old) (W.contents writer.new))) }
+    ensures one_report { IfOk result (λ summary. IsOneReported options input.now summary (Appends (W.contents writer.old) (W.contents writer.new))) }
     ensures refused { IfErr result (λ fault. IsRefused options input.now fault) }
 {
     let mut reader = input;
@@ -53,6 +54,7 @@ where
     R: Threads + Wait + Sync + Clock + AllocGlobal + Eprint,
     requires lanes { options.plain ≡ false → (1 ≤ options.lanes) × (options.lanes ≤ 16) }
     ensures done { IfOk result (λ summary. IsReported options input.now summary (Appends (W.contents writer.old) (W.contents writer.new))) }
+    ensures one_report { IfOk result (λ summary. IsOneReported options input.now summary (Appends (W.contents writer.old) (W.contents writer.new))) }
     ensures refused { IfErr result (λ fault. IsRefused options input.now fault) }
 {
     let ids = ids_of(rt.alloc(), input, options.size)?;

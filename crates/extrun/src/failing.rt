@@ -1,7 +1,7 @@
 //! The failures and aborts of a run, repeated at its end on standard error.
 ghost use Rattle.std.specs.Prelude.{◌≡◌, ◌≤◌, false, IfErr, IfOk};
 ghost use Rattle.std.specs.Io.KnownBytes.{Appends};
-ghost use Rattle.extrun.specs.Tasks.{IsRefused, IsReported};
+ghost use Rattle.extrun.specs.Tasks.{IsOneReported, IsRefused, IsReported};
 
 use crate::command::Told;
 use crate::durations::run_timed;
@@ -25,6 +25,7 @@ where
     R: Threads + Wait + Sync + Clock + AllocGlobal + Eprint,
     requires lanes { options.plain ≡ false → (1 ≤ options.lanes) × (options.lanes ≤ 16) }
     ensures done { IfOk result (λ summary. IsReported options input.now summary (Appends (W.contents writer.old) (W.contents writer.new))) }
+    ensures one_report { IfOk result (λ summary. IsOneReported options input.now summary (Appends (W.contents writer.old) (W.contents writer.new))) }
     ensures refused { IfErr result (λ fault. IsRefused options input.now fault) }
 {
     if told.failures {
@@ -46,6 +47,7 @@ where
     R: Threads + Wait + Sync + Clock + AllocGlobal + Eprint,
     requires lanes { options.plain ≡ false → (1 ≤ options.lanes) × (options.lanes ≤ 16) }
     ensures done { IfOk result (λ summary. IsReported options input.now summary (Appends (W.contents writer.old) (W.contents writer.new))) }
+    ensures one_report { IfOk result (λ summary. IsOneReported options input.now summary (Appends (W.contents writer.old) (W.contents writer.new))) }
     ensures refused { IfErr result (λ fault. IsRefused options input.now fault) }
 {
     let failures = Failures::new(rt, rt.alloc(), listener);

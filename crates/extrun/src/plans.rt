@@ -1,7 +1,7 @@
 //! Running, checking or drawing a plan, with its fault explained or not.
 ghost use Rattle.std.specs.Prelude.{◌≡◌, ◌≤◌, IfErr, IfOk};
 ghost use Rattle.std.specs.Io.KnownBytes.{Appends};
-ghost use Rattle.extrun.specs.Tasks.{IsDone, IsUndone};
+ghost use Rattle.extrun.specs.Tasks.{IsDone, IsOneDone, IsUndone};
 
 use crate::command::Task;
 use crate::failing::run_plan;
@@ -180,6 +180,7 @@ fn outcome_of_task<R: Threads + Wait + Sync + Clock + AllocGlobal + Eprint, W: W
     task: Task,
 ) -> Result<Summary, RunFault>
     ensures done { IfOk result (λ summary. IsDone task input.now summary (Appends (W.contents writer.old) (W.contents writer.new))) }
+    ensures one_report { IfOk result (λ summary. IsOneDone task input.now summary (Appends (W.contents writer.old) (W.contents writer.new))) }
     ensures refused { IfErr result (λ fault. IsUndone task input.now fault) }
 {
     let mut reader = input;

@@ -1,7 +1,7 @@
 //! The progress of a run, printed on standard error by a thread of its own.
 ghost use Rattle.std.specs.Prelude.{◌≡◌, ◌≤◌, false, IfErr, IfOk};
 ghost use Rattle.std.specs.Io.KnownBytes.{Appends};
-ghost use Rattle.extrun.specs.Tasks.{IsRefused, IsReported};
+ghost use Rattle.extrun.specs.Tasks.{IsOneReported, IsRefused, IsReported};
 ghost use denote.Param.Send.{IsSync};
 
 use crate::command::Told;
@@ -37,6 +37,7 @@ pub(crate) fn run_told<R: Threads + Wait + Sync + Clock + AllocGlobal + Eprint, 
 ) -> Result<Summary, RunFault>
     requires lanes { options.plain ≡ false → (1 ≤ options.lanes) × (options.lanes ≤ 16) }
     ensures done { IfOk result (λ summary. IsReported options input.now summary (Appends (W.contents writer.old) (W.contents writer.new))) }
+    ensures one_report { IfOk result (λ summary. IsOneReported options input.now summary (Appends (W.contents writer.old) (W.contents writer.new))) }
     ensures refused { IfErr result (λ fault. IsRefused options input.now fault) }
 {
     let progress = Progress::of(rt, input, options.size)?;
@@ -54,12 +55,14 @@ fn run_beside<R: Threads + Wait + Sync + Clock + AllocGlobal + Eprint, W: Write>
 ) -> Result<Summary, RunFault>
     requires lanes { options.plain ≡ false → (1 ≤ options.lanes) × (options.lanes ≤ 16) }
     ensures done { IfOk result (λ summary. IsReported options input.now summary (Appends (W.contents writer.old) (W.contents writer.new))) }
+    ensures one_report { IfOk result (λ summary. IsOneReported options input.now summary (Appends (W.contents writer.old) (W.contents writer.new))) }
     ensures refused { IfErr result (λ fault. IsRefused options input.now fault) }
 {
     let mut tell = || progress.tell_to_the_end();
     let mut run = || -> Result<Summary, RunFault>
         requires { IsSync R.row × (options.plain ≡ false → (1 ≤ options.lanes) × (options.lanes ≤ 16)) }
         ensures { IfOk result (λ summary. IsReported options input.entry.now summary (Appends (W.contents writer.entry.now) (W.contents writer.exit.now)))
+            × IfOk result (λ summary. IsOneReported options input.entry.now summary (Appends (W.contents writer.entry.now) (W.contents writer.exit.now)))
             × IfErr result (λ fault. IsRefused options input.entry.now fault) }
     { run_to_the_end(rt, input, options, progress, writer, told) };
     let ((), outcome) = join_mut(rt, &mut tell, &mut run);
@@ -77,6 +80,7 @@ fn run_to_the_end<R: Threads + Wait + Sync + Clock + AllocGlobal + Eprint, W: Wr
 ) -> Result<Summary, RunFault>
     requires lanes { options.plain ≡ false → (1 ≤ options.lanes) × (options.lanes ≤ 16) }
     ensures done { IfOk result (λ summary. IsReported options input.now summary (Appends (W.contents writer.old) (W.contents writer.new))) }
+    ensures one_report { IfOk result (λ summary. IsOneReported options input.now summary (Appends (W.contents writer.old) (W.contents writer.new))) }
     ensures refused { IfErr result (λ fault. IsRefused options input.now fault) }
 {
     let outcome = run_plan(rt, input, writer, options, progress, told);
