@@ -9,6 +9,7 @@ import subprocess
 import tempfile
 import termios
 import threading
+import unicodedata
 
 ROOT = '[[node]]\nid = "[engine:x]"\n'
 
@@ -31,7 +32,7 @@ LINES = [
     ("[engine:x]/[class:D]/[test:\\u{7}d]", "skipped", "closed 0"),
 ]
 
-TOTALS = "tests 4 successful 1 aborted 1 failed 1 skipped 1\ncomputed 0 found 0 closed 0 close faults 0\n"
+TOTALS = "tests 4 successful 1 aborted 1 failed 1 skipped 1\ncontainers failed 1\ncomputed 0 found 0 closed 0 close faults 0\n"
 
 COLORS = {"successful": "32", "aborted": "33", "failed": "31", "skipped": "2"}
 
@@ -43,6 +44,18 @@ REFUSED = ROOT + '[[node]]\nid = "[engine:x]/[test:a]"\ntest = [\n  "put a x",\n
 LINE = "plan: P8 node 1\n"
 
 WHY = 'node 1: step 1 of its test, "pot a x", is none of the steps: did you mean "put"? ("[engine:x]/[test:a]", line 7)\n'
+
+
+# Two tests that race, and a text that no step stores, with control characters in all that is told of them.
+RACING = ROOT + "".join(
+    f'[[node]]\nid = "[engine:x]/[test:\\u001b{name}]"\nmode = "concurrent"\ntest = ["put \\u0007a x up 1", "want b \\u009b{name}"]\n' for name in "mn"
+)
+
+
+def escaped(text):
+    """A text as a terminal is shown it: control characters are escaped, but for line feeds."""
+    names = {"\n": "\n", "\t": "\\t", "\r": "\\r"}
+    return "".join(it if unicodedata.category(it) != "Cc" else names.get(it, f"\\u{{{ord(it):x}}}") for it in text)
 
 
 def for_people(colored):
@@ -122,6 +135,7 @@ def reports(program):
             if colored is None:
                 form = [word for word in words if word not in ("--color", "always", "never", "auto")]
                 wanted = ran(program, ["run", *store, *form], PLAN, set())[1]
+                wanted = escaped(wanted) if 1 in terminals else wanted
                 right = (report, errors) == (wanted, "") and "ran in" not in report
             else:
                 right = TIME.sub("", report) == for_people(colored) and bool(TIME.search(report)) and errors == ""
@@ -196,9 +210,30 @@ def durations(program):
     yield "run --durations of a refused plan", found == (2, "", LINE), repr(found)
 
 
+def escapes(program):
+    """All that goes to a terminal is that of a pipe, with its control characters escaped."""
+    cases = [
+        (["run", "--store", "plain", "--tree"], PLAN),
+        (["run", "--store", "plain", "--report", "text"], PLAN),
+        (["run", "--store", "plain", "--tree", "--failures"], PLAN),
+        (["check", "--tree"], RACING),
+        (["check", "--races"], RACING),
+        (["check", "--lint"], RACING),
+        (["id", "[engine:x]/[test:\x1b]"], ""),
+        (["id", "--make", "engine=x", "test=\x1b"], ""),
+    ]
+    for words, plan in cases:
+        status, *piped = ran(program, words, plan, set())
+        for terminals in ({1}, {2}, {1, 2}):
+            wanted = [escaped(text) if stream in terminals else text for stream, text in enumerate(piped, 1)]
+            found = ran(program, words, plan, terminals)
+            right = found == (status, *wanted) and escaped("".join(piped)) != "".join(piped)
+            yield f"{' '.join(words)!a} at {sorted(terminals)}", right, repr(found)
+
+
 def main(program, _words):
     passed = failed = 0
-    for part in (reports, explanations, unread, durations):
+    for part in (reports, escapes, explanations, unread, durations):
         for name, right, told in part(program):
             passed, failed = passed + right, failed + (not right)
             print(f"terminal {name}: " + ("as it has to be" if right else f"NOT as it has to be: {told!r}"))

@@ -1,5 +1,6 @@
 //! A listener to a run while it lasts.
 
+use crate::FaultPlace;
 use ext_model::{ContextNo, Fault};
 
 /// A listener to the progress of a run of nodes.
@@ -16,9 +17,10 @@ pub trait RunListener {
     fn started(&self, _node: ContextNo, _lane: usize) {}
 
     /// A call of the node failed or was aborted with this fault, or a value of its context could
-    /// not be closed. Called once for each, in the order in which they came: the first failure is
-    /// the fault of the node's result, or the first abort if there is no failure.
-    fn faulted(&self, _node: ContextNo, _fault: &Fault) {}
+    /// not be closed: `place` tells which. Called once for each, in the order in which they came:
+    /// the first failure is the fault of the node's result, or the first abort if there is no
+    /// failure.
+    fn faulted(&self, _node: ContextNo, _place: FaultPlace, _fault: &Fault) {}
 
     /// The node has ended: its calls were made and its context was closed. Called once for each
     /// such node, and not for those that were skipped, nor if the run is refused before that.
@@ -35,9 +37,15 @@ impl RunListener for NoListener {
     fn ended(&self, _node: ContextNo, _nodes: usize) {}
 }
 
-/// Reports a fault of the node to the listener, if there is one, by `RunListener::faulted`.
-pub fn tell_fault<L: RunListener>(listener: &L, node: ContextNo, fault: Option<&Fault>) {
+/// Reports a fault of the node at this place to the listener, if there is one, by
+/// `RunListener::faulted`.
+pub fn tell_fault<L: RunListener>(
+    listener: &L,
+    node: ContextNo,
+    place: FaultPlace,
+    fault: Option<&Fault>,
+) {
     if let Some(fault) = fault {
-        listener.faulted(node, fault);
+        listener.faulted(node, place, fault);
     }
 }

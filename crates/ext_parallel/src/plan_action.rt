@@ -6,7 +6,7 @@ ghost use Rattle.ext_parallel.specs.PlanActions.{AnswersClose};
 
 use crate::steps::StoredValue;
 use ext_closing::CloseAction;
-use ext_lifecycle::{RunListener, tell_fault};
+use ext_lifecycle::{FaultPlace, RunListener, tell_fault};
 use ext_model::{ContextNo, Fault};
 use ext_plan::close_fault;
 use std::alloc::Global;
@@ -53,7 +53,8 @@ impl<'a, L: RunListener> CloseAction<StoredValue<'a>> for PlanAction<'_, L> {
     /// Fails with `close TEXT` for a value whose text begins with `bad`.
     fn close(&mut self, _number: u32, value: &StoredValue<'a>) -> Result<(), Fault> {
         let answer = answer_of(self.alloc, value);
-        tell_fault(self.listener, self.node, answer.as_ref().err());
+        let fault = answer.as_ref().err();
+        tell_fault(self.listener, self.node, FaultPlace::Close, fault);
         answer
     }
 }

@@ -15,11 +15,21 @@ use ext_model::ContextNo;
 use ext_plan::{Step, StepKeys, StepParts};
 use std::alloc::Global;
 
-/// The outcome of a step, or of the steps of a call, and whether one of them lacked memory.
+/// The outcome of the steps of a call.
 #[derive(Drop)]
 pub struct StepsOutcome {
     pub outcome: Outcome,
+    /// How many of them were successful: the number of the one that was not, if there is one.
+    pub passed: usize,
+    /// Whether one of them lacked memory.
     pub lacked: bool,
+}
+
+/// The outcome of a step, and whether it lacked memory.
+#[derive(Drop)]
+struct StepOutcome {
+    outcome: Outcome,
+    lacked: bool,
 }
 
 impl<'a> ValueStore<'a> {
@@ -40,6 +50,7 @@ impl<'a> ValueStore<'a> {
     {
         let mut computed = 0;
         let mut found = 0;
+        let mut passed = 0;
         for step in steps {
             let made = self.make_step(alloc, keys, path, step);
             computed += made.outcome.computed;
@@ -51,9 +62,11 @@ impl<'a> ValueStore<'a> {
                         computed,
                         found,
                     },
+                    passed,
                     lacked: made.lacked,
                 };
             }
+            passed += 1;
         }
         StepsOutcome {
             outcome: Outcome {
@@ -61,6 +74,7 @@ impl<'a> ValueStore<'a> {
                 computed,
                 found,
             },
+            passed,
             lacked: false,
         }
     }
@@ -72,7 +86,7 @@ impl<'a> ValueStore<'a> {
         keys: &StepKeys<'_>,
         path: &[ContextNo],
         step: &'a Step,
-    ) -> StepsOutcome
+    ) -> StepOutcome
         ensures end { (memory : Memory)
             × (end_view self.new result.outcome ≡ step_by (keys_in keys.now) memory path.now (step_view step.now) (state_view self.old))
             × (result.lacked ≡ false → memory ≡ enough) }
@@ -80,11 +94,11 @@ impl<'a> ValueStore<'a> {
         ensures told { verdict_text result.outcome.verdict ≢ no_memory → result.lacked ≡ false }
     {
         match self.run_step(alloc, keys, path, step) {
-            Ok(outcome) => StepsOutcome {
+            Ok(outcome) => StepOutcome {
                 outcome,
                 lacked: false,
             },
-            Err(lack) => StepsOutcome {
+            Err(lack) => StepOutcome {
                 outcome: lack.outcome(),
                 lacked: true,
             },

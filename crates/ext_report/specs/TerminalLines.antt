@@ -1,13 +1,15 @@
 -- The report of a run for people at a terminal: the lines and the totals of the report's text (`Report`), and then,
--- behind an empty line, those of the nodes that aborted or failed once more.
+-- behind an empty line, those of the nodes that aborted or failed once more. Where containers failed, a line among the
+-- totals says how many: the totals of tests leave them out.
 --
 --     ID STATUS closed N: FAULT (+M)
+--     containers failed N
 --
 -- No text reaches the terminal as an order to it: control characters of ids and faults are written `\n`, `\r`, `\t` or
 -- `\u{1b}`, so that each node has one line. With colours STATUS is green (`successful`), yellow (`aborted`), red
 -- (`failed`) or dim (`skipped`), by the escapes of ECMA-48. The format is not from JUnit.
-use Rattle.std.specs.Prelude.{ℕ, Bool, true, false, ◌==◌, codes, encode_utf8, List, [], ◌∷◌, ◌++◌, if◌then◌else◌}
-use Rattle.std.specs.List.{flat_map, slice_index_or}
+use Rattle.std.specs.Prelude.{ℕ, Bool, true, false, not, ◌&&◌, ◌==◌, codes, encode_utf8, List, [], ◌∷◌, ◌++◌, if◌then◌else◌}
+use Rattle.std.specs.List.{count_by, flat_map, slice_index_or}
 use Rattle.std.specs.Fmt.{decimal, digits}
 use Rattle.std.specs.Str.{chars}
 use Rattle.std.specs.Char.{is_control}
@@ -15,7 +17,7 @@ use Rattle.ext_ids.specs.Grammar.{Pair, id_text}
 use Rattle.ext_lifecycle.specs.declared.status.Status.{Status}
 use Rattle.ext_lifecycle.specs.declared.status.Status.TheVariants as statuses
 use Rattle.ext_lifecycle.specs.FaultTexts.{NodeOutcome}
-use Rattle.ext_report.specs.Report.{counts_line, counts_of, fault_part, status_text, sums_line, sums_of, tells_fault}
+use Rattle.ext_report.specs.Report.{counts_line, counts_of, fault_part, is_status, status_text, sums_line, sums_of, tells_fault}
 
 -- ---- texts
 
@@ -35,6 +37,13 @@ visible_character c =
 -- A text as it is written.
 abbrev pub visible : List ℕ → List ℕ
 visible text = flat_map visible_character (chars text)
+
+-- A character of a text of several lines, whose line feeds end its lines.
+abbrev pub line_character : ℕ → List ℕ
+line_character c = if c == 10 then codes "\n" else visible_character c
+
+abbrev pub visible_lines : List ℕ → List ℕ
+visible_lines text = flat_map line_character (chars text)
 
 -- ---- colours
 
@@ -73,7 +82,15 @@ abbrev pub apart : List ℕ → List ℕ
 apart [] = []
 apart (first ∷ rest) = codes "\n" ++ first ∷ rest
 
+-- How many containers failed.
+abbrev pub failed_containers : List NodeOutcome → ℕ
+failed_containers rs = count_by (λ r. not r.is_test && is_status r.status statuses.Failed) rs
+
+-- The line that says so, if there are any.
+abbrev pub containers_line : ℕ → List ℕ
+containers_line failed = if failed == 0 then [] else codes "containers failed " ++ decimal failed ++ codes "\n"
+
 abbrev pub terminal_of : Bool → List (List Pair) → List NodeOutcome → List ℕ
 terminal_of colored ids rs =
-    each_line (shown_line colored) ids rs ++ counts_line (counts_of rs) ++ sums_line (sums_of rs)
-    ++ apart (each_line (line_again colored) ids rs)
+    each_line (shown_line colored) ids rs ++ counts_line (counts_of rs) ++ containers_line (failed_containers rs)
+    ++ sums_line (sums_of rs) ++ apart (each_line (line_again colored) ids rs)

@@ -32,4 +32,4 @@ pub use reserve::leave_out_reserve;
 pub use slow::slowest_tests;
 pub use terminal_lines::terminal_report;
 pub use tree_lines::{depth_first, tree_report, tree_report_with, write_head};
-pub use visible::write_visible;
+pub use visible::{write_visible, write_visible_lines};

@@ -2,8 +2,9 @@
 ghost use Rattle.std.specs.Prelude.{◌≡◌, ◌<◌, ◌++◌, length, string_bytes, All, IfOk, OnOk};
 ghost use Rattle.ext_lifecycle.specs.FaultTexts.{result_view, results_view};
 ghost use Rattle.ext_report.specs.Report.{fault_part, tells_fault};
-ghost use Rattle.ext_report.specs.TerminalLines.{apart, color_of, each_line, escape, line_again, shown_line, shown_status, terminal_of, visible};
+ghost use Rattle.ext_report.specs.TerminalLines.{apart, color_of, containers_line, each_line, escape, failed_containers, line_again, shown_line, shown_status, terminal_of, visible};
 
+use crate::is_status::is_status;
 use crate::line::{status_text, write_fault};
 use crate::totals::{NodeSums, TestCounts};
 use crate::visible::write_visible;
@@ -14,8 +15,9 @@ use std::alloc::{AllocError, Global};
 
 /// Returns the report of results for people at a terminal: one line for each, in the order of the
 /// list, two lines of totals, and behind an empty line those of the nodes that aborted or failed
-/// once more. Control characters of ids and faults are escaped; with `colored` each status has a
-/// colour. Each result is of a context of the tree. A context may have no result, or several.
+/// once more. If containers failed, a line between the totals says how many. Control characters of
+/// ids and faults are escaped; with `colored` each status has a colour. Each result is of a context
+/// of the tree. A context may have no result, or several.
 ///
 /// Takes memory for the text, and fails with `AllocError` only if that is refused.
 pub fn terminal_report(
@@ -30,10 +32,32 @@ pub fn terminal_report(
 {
     let mut text = lines(alloc, tree, results, colored)?;
     TestCounts::of(results).write_to(&mut text)?;
+    write_containers(&mut text, failed_containers(results))?;
     NodeSums::of(results).write_to(&mut text)?;
     let again = lines_again(alloc, tree, results, colored)?;
     write_apart(&mut text, again.as_str())?;
     Ok(text)
+}
+
+/// Counts the containers that failed.
+fn failed_containers(results: &[NodeResult]) -> usize
+    ensures { result ≡ failed_containers (results_view results.now) }
+{
+    results
+        .iter()
+        .filter(|r| !r.is_test && is_status(r.status, Status::Failed))
+        .count()
+}
+
+/// Writes how many containers failed at the end of a text, if any did.
+fn write_containers(text: &mut String, failed: usize) -> Result<(), AllocError>
+    ensures { OnOk result
+        (string_bytes text.new ≡ string_bytes text.old ++ containers_line failed) }
+{
+    if failed != 0 {
+        write!(text, "containers failed {failed}\n")?;
+    }
+    Ok(())
 }
 
 /// The lines of all results.

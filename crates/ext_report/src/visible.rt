@@ -1,6 +1,6 @@
 //! Texts as a terminal may show them.
 ghost use Rattle.std.specs.Prelude.{◌≡◌, ◌++◌, string_bytes, OnOk};
-ghost use Rattle.ext_report.specs.TerminalLines.{code_text, visible, visible_character};
+ghost use Rattle.ext_report.specs.TerminalLines.{code_text, line_character, visible, visible_character, visible_lines};
 
 use std::alloc::AllocError;
 
@@ -15,6 +15,29 @@ pub fn write_visible(text: &mut String, more: &str) -> Result<(), AllocError>
         write_character(text, c)?;
     }
     Ok(())
+}
+
+/// Writes lines at the end of a text, with each control character as `write_visible` writes it, but
+/// for the line feeds: these end the lines.
+///
+/// Takes memory if the text has no room, and fails with `AllocError` only if that is refused.
+pub fn write_visible_lines(text: &mut String, lines: &str) -> Result<(), AllocError>
+    ensures { OnOk result (string_bytes text.new ≡ string_bytes text.old ++ visible_lines lines.now) }
+{
+    for c in lines.chars() {
+        write_in_line(text, c)?;
+    }
+    Ok(())
+}
+
+/// Writes a character of a line, or the line feed that ends one, at the end of a text.
+fn write_in_line(text: &mut String, c: char) -> Result<(), AllocError>
+    ensures { OnOk result (string_bytes text.new ≡ string_bytes text.old ++ line_character c) }
+{
+    if c == '\n' {
+        return text.push('\n');
+    }
+    write_character(text, c)
 }
 
 /// Writes a character at the end of a text.

@@ -33,14 +33,14 @@ pub no-failures : (ids : List Id) (faults : List NodeFault) (text : List ℕ) �
 unfolding failures_below
 no-failures ids faults text none = none
 
-below-suc : (ids : List Id) (faults : List NodeFault) (n : ℕ) → failures_below ids faults (suc n) ≡ failures_below ids faults n ++ failures_at (id_at ids n) n faults
+below-suc : (ids : List Id) (faults : List NodeFault) (n : ℕ) → failures_below ids faults (suc n) ≡ failures_below ids faults n ++ failures_at ids (id_at ids n) n faults
 unfolding failures_below
 below-suc ids faults n = refl
 
-pub failures-more : (ids : List Id) (faults : List NodeFault) (n : ℕ) (id : List Pair) (text more : List ℕ) → id ≡ id_at ids n → text ≡ failures_below ids faults n → more ≡ text ++ failures_at id n faults
+pub failures-more : (ids : List Id) (faults : List NodeFault) (n : ℕ) (id : List Pair) (text more : List ℕ) → id ≡ id_at ids n → text ≡ failures_below ids faults n → more ≡ text ++ failures_at ids id n faults
     → more ≡ failures_below ids faults (n + 1)
 failures-more ids faults n id text more at so is =
-    is ∙ ap (λ t. t ++ failures_at id n faults) so ∙ ap (λ i. failures_below ids faults n ++ failures_at i n faults) at ∙ sym (below-suc ids faults n) ∙ ap (failures_below ids faults) (sym (add-one n))
+    is ∙ ap (λ t. t ++ failures_at ids id n faults) so ∙ ap (λ i. failures_below ids faults n ++ failures_at ids i n faults) at ∙ sym (below-suc ids faults n) ∙ ap (failures_below ids faults) (sym (add-one n))
 
 -- the text of what was read, with this behind it
 pub text-more : (of : PlanText → List ℕ) (more : List ℕ) (read : Result PlanText RunFault) (text new : List ℕ) → new ≡ text ++ more → IsTextOf of read text

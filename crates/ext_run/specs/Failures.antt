@@ -1,8 +1,13 @@
--- What is listed once more of nodes that failed or were aborted: a line `ID: FAULT` for each fault that was reported
--- for a node. Texts are lists of bytes. JUnit has no such list.
+-- What is listed once more of nodes that failed or were aborted: a line `ID: FAULT (PLACE)` for each fault that was
+-- reported for a node. Texts are lists of bytes. JUnit has no such list.
 use Rattle.std.specs.Prelude.{◌≡◌, ℕ, zero, suc, Bool, true, ◌==◌, codes, List, [], ◌∷◌, ◌++◌, length, if◌then◌else◌, string_bytes}
+use Rattle.std.specs.Fmt.{decimal}
 use Rattle.std.specs.List.{flat_map}
 use Rattle.ext_ids.specs.Grammar.{Pair, id_text}
+use Rattle.ext_lifecycle.specs.declared.call.Kind.{Kind}
+use Rattle.ext_lifecycle.specs.declared.call.Kind.TheVariants as kinds
+use Rattle.ext_lifecycle.specs.declared.fault_place.FaultPlace.{FaultPlace}
+use Rattle.ext_lifecycle.specs.declared.fault_place.FaultPlace.TheVariants as places
 use Rattle.ext_tree.specs.Trees.{Id, id_at}
 use Rattle.ext_plan_reading.specs.Plans.{PlanText}
 use Rattle.ext_plan_reading.specs.ReadPlans.{ids_of_nodes}
@@ -11,38 +16,58 @@ use Rattle.ext_run.specs.declared.failures.ToldFaults.{ToldFaults}
 
 -- ---- what is kept
 
--- The node's fault, with this text, is appended to the others.
-abbrev pub IsAdded : List NodeFault → List NodeFault → ℕ → List ℕ → Type 0
-IsAdded old new node text = (fault : NodeFault) × (new ≡ old ++ fault ∷ []) × (fault.node ≡ node)
-    × (string_bytes fault.text ≡ text)
+-- The node's fault, with this place and text, is appended to the others.
+abbrev pub IsAdded : List NodeFault → List NodeFault → ℕ → FaultPlace → List ℕ → Type 0
+IsAdded old new node place text = (fault : NodeFault) × (new ≡ old ++ fault ∷ []) × (fault.node ≡ node)
+    × (fault.place ≡ place) × (string_bytes fault.text ≡ text)
 
 -- The fault is appended to the others, or it is lost, and that is noted.
-pub data NotesFault (old new : ToldFaults) (node : ℕ) (text : List ℕ) : Type 0 where
-  added : IsAdded old.faults.items new.faults.items node text → new.lost ≡ old.lost → NotesFault old new node text
-  lost : new.faults.items ≡ old.faults.items → new.lost ≡ true → NotesFault old new node text
+pub data NotesFault (old new : ToldFaults) (node : ℕ) (place : FaultPlace) (text : List ℕ) : Type 0 where
+  added : IsAdded old.faults.items new.faults.items node place text → new.lost ≡ old.lost
+      → NotesFault old new node place text
+  lost : new.faults.items ≡ old.faults.items → new.lost ≡ true → NotesFault old new node place text
 
 -- ---- what is listed
 
--- `ID: FAULT` and a line feed.
-abbrev pub failure_line : List Pair → List ℕ → List ℕ
-failure_line id text = id_text id ++ codes ": " ++ text ++ codes "\n"
+module _ (ids : List Id) where
+  -- A callback round each test, which may be of a node above.
+  abbrev pub callback_of : List ℕ → ℕ → ℕ → List ℕ
+  callback_of name index from = name ++ codes " " ++ decimal index ++ codes " of " ++ id_text (id_at ids from)
 
--- The fault's line, if the fault is the node's.
-abbrev pub failure_at : List Pair → ℕ → NodeFault → List ℕ
-failure_at id node fault = if fault.node == node then failure_line id (string_bytes fault.text) else []
+  -- Which of a node's calls it is.
+  unfoldable pub call_text : Kind → ℕ → ℕ → List ℕ
+  call_text kinds.BeforeAll from index = codes "before_all " ++ decimal index
+  call_text kinds.BeforeEach from index = callback_of (codes "before_each") index from
+  call_text kinds.Test from index = codes "test"
+  call_text kinds.AfterEach from index = callback_of (codes "after_each") index from
+  call_text kinds.AfterAll from index = codes "after_all " ++ decimal index
 
--- The faults of one node, in the order in which they were reported.
-abbrev pub failures_at : List Pair → ℕ → List NodeFault → List ℕ
-failures_at id node faults = flat_map (failure_at id node) faults
+  -- For instance `before_each 0 of [engine:x], step 1`. A fault at the end of a context has the place `close`.
+  abbrev pub place_text : FaultPlace → List ℕ
+  place_text (places.Step call step) = call_text call.kind call.from call.index ++ codes ", step " ++ decimal step
+  place_text places.Close = codes "close"
 
--- The faults of the first `n` nodes, in the order of the plan.
-unfoldable pub failures_below : List Id → List NodeFault → ℕ → List ℕ
-failures_below ids faults zero = []
-failures_below ids faults (suc n) = failures_below ids faults n ++ failures_at (id_at ids n) n faults
+  -- `ID: FAULT (PLACE)` and a line feed.
+  abbrev pub failure_line : List Pair → NodeFault → List ℕ
+  failure_line id fault =
+      id_text id ++ codes ": " ++ string_bytes fault.text ++ codes " (" ++ place_text fault.place ++ codes ")\n"
 
--- The faults of all nodes.
-abbrev pub failures_of : List Id → List NodeFault → List ℕ
-failures_of ids faults = failures_below ids faults (length ids)
+  -- The fault's line, if the fault is the node's.
+  abbrev pub failure_at : List Pair → ℕ → NodeFault → List ℕ
+  failure_at id node fault = if fault.node == node then failure_line id fault else []
+
+  -- The faults of one node, in the order in which they were reported.
+  abbrev pub failures_at : List Pair → ℕ → List NodeFault → List ℕ
+  failures_at id node faults = flat_map (failure_at id node) faults
+
+  -- The faults of the first `n` nodes, in the order of the plan.
+  unfoldable pub failures_below : List NodeFault → ℕ → List ℕ
+  failures_below faults zero = []
+  failures_below faults (suc n) = failures_below faults n ++ failures_at (id_at ids n) n faults
+
+  -- The faults of all nodes.
+  abbrev pub failures_of : List NodeFault → List ℕ
+  failures_of faults = failures_below faults (length ids)
 
 abbrev pub failures_in : List NodeFault → PlanText → List ℕ
 failures_in faults plan = failures_of (ids_of_nodes plan.nodes) faults

@@ -5,13 +5,15 @@ ghost use Rattle.ext_plan_reading.specs.Plans.{plan_view};
 ghost use Rattle.ext_plan_reading.specs.ReadPlans.{IsRunnablePlan};
 ghost use Rattle.ext_run.specs.Reports.{plan_of_bytes};
 ghost use Rattle.ext_report.specs.Groups.{shown};
-ghost use Rattle.ext_run.specs.Failures.{IsAdded, NotesFault, failure_line, failures_in, failures_of, lost_line, told_in};
+ghost use Rattle.ext_run.specs.Failures.{IsAdded, NotesFault, call_text, callback_of, failure_line, failures_in, failures_of, lost_line, place_text, told_in};
 ghost use Rattle.ext_run.specs.InnerFailures.{lines_of, nodes_of};
 ghost use Rattle.ext_run.specs.Drawings.{TextAs};
+ghost use Rattle.ext_tree.specs.Trees.{id_at};
+ghost use Rattle.ext_ids.specs.Grammar.{id_text};
 
 use crate::fault::RunFault;
 use ext_ids::UniqueId;
-use ext_lifecycle::RunListener;
+use ext_lifecycle::{Call, FaultPlace, Kind, RunListener};
 use ext_model::{ContextNo, Fault, Size};
 use ext_plan_reading::{Plan, PlanFault, read_plan_within};
 use ext_report::grouped;
@@ -24,6 +26,8 @@ use std::sync::{Mutex, Wait};
 pub struct NodeFault {
     /// The index of the node in the plan.
     pub node: ContextNo,
+    /// Where in the node it came.
+    pub place: FaultPlace,
     /// The fault's text, `no memory` for `Fault::Memory`.
     pub text: String,
 }
@@ -51,22 +55,28 @@ impl ToldFaults {
 
     /// Adds a fault of a node after the others. Takes memory for its text. If that is refused, the
     /// fault is lost and `lost` is set.
-    pub fn note(&mut self, alloc: Global, node: ContextNo, fault: &Fault)
-        ensures { NotesFault self.old self.new node (fault_text fault.now) }
+    pub fn note(&mut self, alloc: Global, node: ContextNo, place: FaultPlace, fault: &Fault)
+        ensures { NotesFault self.old self.new node place (fault_text fault.now) }
     {
-        if self.push(alloc, node, fault).is_err() {
+        if self.push(alloc, node, place, fault).is_err() {
             self.lost = true;
         }
     }
 
     /// Adds a fault of a node after the others, if there is memory.
-    fn push(&mut self, alloc: Global, node: ContextNo, fault: &Fault) -> Result<(), AllocError>
+    fn push(
+        &mut self,
+        alloc: Global,
+        node: ContextNo,
+        place: FaultPlace,
+        fault: &Fault,
+    ) -> Result<(), AllocError>
         ensures lost { self.new.lost ≡ self.old.lost }
-        ensures added { OnOk result (IsAdded self.old.faults.items self.new.faults.items node (fault_text fault.now)) }
+        ensures added { OnOk result (IsAdded self.old.faults.items self.new.faults.items node place (fault_text fault.now)) }
         ensures kept { OnErr result (self.new.faults.items ≡ self.old.faults.items) }
     {
         let text = text_of(alloc, fault)?;
-        self.faults.push(NodeFault { node, text })?;
+        self.faults.push(NodeFault { node, place, text })?;
         Ok(())
     }
 }
@@ -115,9 +125,9 @@ impl<R: Wait, L: RunListener> RunListener for Failures<'_, R, L> {
     }
 
     /// Keeps the fault and forwards it. It may wait for other threads that add one.
-    fn faulted(&self, node: ContextNo, fault: &Fault) {
-        self.told.lock(self.rt).note(self.alloc, node, fault);
-        self.listener.faulted(node, fault);
+    fn faulted(&self, node: ContextNo, place: FaultPlace, fault: &Fault) {
+        self.told.lock(self.rt).note(self.alloc, node, place, fault);
+        self.listener.faulted(node, place, fault);
     }
 
     fn ended(&self, node: ContextNo, nodes: usize) {
@@ -125,10 +135,11 @@ impl<R: Wait, L: RunListener> RunListener for Failures<'_, R, L> {
     }
 }
 
-/// Returns the faults that were reported of a plan's nodes, as lines `ID: FAULT`. The nodes are in
-/// the order of the plan, and the faults of each node in the order in which they were reported. A
-/// last line says that faults were lost, if some were. The bytes are the plan's, which is of at
-/// most this size, as a run reads them.
+/// Returns the faults that were reported of a plan's nodes, as lines `ID: FAULT (PLACE)`. The place
+/// is for instance `test, step 1` or `before_each 0 of [engine:x], step 1`, or `close` for a value
+/// that could not be closed. The nodes are in the order of the plan, and the faults of each node in
+/// the order in which they were reported. A last line says that faults were lost, if some were. The
+/// bytes are the plan's, which is of at most this size, as a run reads them.
 ///
 /// Refused as `Plan` if the plan is refused, and as `Memory` if memory for the plan's tree, for a
 /// list of each node's faults or for the text is. Takes memory for these and for the plan.
@@ -191,7 +202,7 @@ fn failures_of_tree(alloc: Global, tree: &Tree, faults: &[NodeFault]) -> Result<
     let groups = grouped(alloc, faults, nodes.as_slice(), tree.len())?;
     let mut text = String::new(alloc);
     for node in 0..tree.len() {
-        write_failures(&mut text, tree.id(node), groups[node].as_slice())?;
+        write_failures(&mut text, tree, tree.id(node), groups[node].as_slice())?;
     }
     Ok(text)
 }
@@ -208,21 +219,86 @@ fn nodes_of(alloc: Global, faults: &[NodeFault]) -> Result<Vec<ContextNo>, Alloc
 }
 
 /// Writes the faults of a node at the end of a text.
-fn write_failures(text: &mut String, id: &UniqueId, faults: &[&NodeFault]) -> Result<(), AllocError>
-    ensures { OnOk result (string_bytes text.new ≡ string_bytes text.old ++ lines_of id.now (shown faults.now)) }
+fn write_failures(
+    text: &mut String,
+    tree: &Tree,
+    id: &UniqueId,
+    faults: &[&NodeFault],
+) -> Result<(), AllocError>
+    ensures { OnOk result (string_bytes text.new ≡ string_bytes text.old ++ lines_of tree.now id.now (shown faults.now)) }
 {
     for fault in faults {
-        write_failure(text, id, fault)?;
+        write_failure(text, tree, id, fault)?;
     }
     Ok(())
 }
 
 /// Writes a fault of the node with this id at the end of a text.
-fn write_failure(text: &mut String, id: &UniqueId, fault: &NodeFault) -> Result<(), AllocError>
-    ensures { OnOk result (string_bytes text.new ≡ string_bytes text.old ++ failure_line id.now (string_bytes fault.now.text)) }
+fn write_failure(
+    text: &mut String,
+    tree: &Tree,
+    id: &UniqueId,
+    fault: &NodeFault,
+) -> Result<(), AllocError>
+    ensures { OnOk result (string_bytes text.new ≡ string_bytes text.old ++ failure_line tree.now id.now fault.now) }
 {
     id.write_to(text)?;
     text.push_str(": ")?;
     text.push_str(fault.text.as_str())?;
-    text.push('\n')
+    text.push_str(" (")?;
+    write_place(text, tree, fault.place)?;
+    text.push_str(")\n")
+}
+
+/// Writes the place of a fault at the end of a text.
+fn write_place(text: &mut String, tree: &Tree, place: FaultPlace) -> Result<(), AllocError>
+    ensures { OnOk result (string_bytes text.new ≡ string_bytes text.old ++ place_text tree.now place) }
+{
+    match place {
+        FaultPlace::Step { call, step } => {
+            write_call(text, tree, call)?;
+            write!(text, ", step {step}")
+        }
+        FaultPlace::Close => text.push_str("close"),
+    }
+}
+
+/// Writes which of a node's calls it is at the end of a text.
+#[tactic(auto, unfolding(crate::specs::Failures::call_text))]
+fn write_call(text: &mut String, tree: &Tree, call: Call) -> Result<(), AllocError>
+    ensures { OnOk result (string_bytes text.new ≡ string_bytes text.old ++ call_text tree.now call.kind call.from call.index) }
+{
+    let Call { kind, from, index } = call;
+    match kind {
+        Kind::BeforeAll => write!(text, "before_all {index}"),
+        Kind::BeforeEach => write_callback(text, tree, "before_each", index, from),
+        Kind::Test => text.push_str("test"),
+        Kind::AfterEach => write_callback(text, tree, "after_each", index, from),
+        Kind::AfterAll => write!(text, "after_all {index}"),
+    }
+}
+
+/// Writes a callback round each test, and the node that registered it, at the end of a text.
+fn write_callback(
+    text: &mut String,
+    tree: &Tree,
+    name: &str,
+    index: usize,
+    from: ContextNo,
+) -> Result<(), AllocError>
+    ensures { OnOk result (string_bytes text.new ≡ string_bytes text.old ++ callback_of tree.now name.now index from) }
+{
+    text.push_str(name)?;
+    write!(text, " {index} of ")?;
+    write_id(text, tree, from)
+}
+
+/// Writes the id of a node at the end of a text, if the tree has it.
+fn write_id(text: &mut String, tree: &Tree, node: ContextNo) -> Result<(), AllocError>
+    ensures { OnOk result (string_bytes text.new ≡ string_bytes text.old ++ id_text (id_at tree.now node)) }
+{
+    if node < tree.len() {
+        return tree.id(node).write_to(text);
+    }
+    Ok(())
 }

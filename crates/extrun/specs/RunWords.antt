@@ -59,11 +59,13 @@ pub record IsColor (text : Option (List ℕ)) (choice : ColorChoice) : Type 0 wh
   pub is_never : IsTrue never ↔ (text ≡ Some (codes "never"))
   pub choice_is : choice ≡ color_choice always never
 
--- Whether the progress of a run is shown, the times of its slowest nodes, and its faults once more.
+-- Whether the progress of a run is shown, the times of its slowest nodes, and its faults once more. No word says that
+-- this is for a terminal.
 pub record AsksBeside (rows : List Row) (told : Told) : Type 0 where
   pub progress : IsFlag (one_of (codes "progress") rows) told.progress
   pub durations : IsFlag (one_of (codes "durations") rows) told.durations
   pub failures : IsFlag (one_of (codes "failures") rows) told.failures
+  pub for_terminal : told.for_terminal ≡ false
 
 -- A run by these options, the form of whose report is asked for or not, and what is told beside it.
 pub record AsksRunBy (rows : List Row) (run : Options) (asked : Bool) (choice : ColorChoice) (told : Told) : Type 0 where
@@ -95,4 +97,4 @@ asks_for_color (tasks.Lint size) = false
 abbrev pub wordless_run : Task
 wordless_run =
     tasks.Run (record { lanes = 4; plain = false; form = forms.Text; size = sizes.Usual }) false colors.Auto
-    (record { progress = false; durations = false; failures = false })
+    (record { progress = false; durations = false; failures = false; for_terminal = false })

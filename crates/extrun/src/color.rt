@@ -1,8 +1,8 @@
-//! The form of a report for people at a terminal, and whether it has colours.
+//! What a run writes for people at a terminal, and whether it has colours.
 ghost use Rattle.std.specs.Prelude.{◌≡◌, false};
 ghost use Rattle.extrun.specs.RunWords.{asks_for_color};
 
-use crate::command::Task;
+use crate::command::{Task, Told};
 use ext_run::{Options, ReportForm};
 use std::env;
 use std::rt::Env;
@@ -40,6 +40,32 @@ pub(crate) fn shown_at<R: Env + AllocGlobal>(rt: &R, task: Task, is_terminal: bo
             form_asked: false,
             color,
             told,
+        },
+        other => other,
+    }
+}
+
+/// The task whose words on standard error are for a terminal, if that is one. Otherwise it is the
+/// same task.
+pub(crate) fn told_at(task: Task, is_terminal: bool) -> Task
+    ensures piped { is_terminal ≡ false → result ≡ task }
+{
+    match task {
+        Task::Run {
+            options,
+            form_asked,
+            color,
+            told,
+        } if is_terminal => Task::Run {
+            options,
+            form_asked,
+            color,
+            told: Told {
+                progress: told.progress,
+                durations: told.durations,
+                failures: told.failures,
+                for_terminal: true,
+            },
         },
         other => other,
     }

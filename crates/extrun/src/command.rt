@@ -91,6 +91,8 @@ pub(crate) struct Told {
     pub(crate) durations: bool,
     /// All faults of its nodes, behind all else.
     pub(crate) failures: bool,
+    /// Whether standard error is a terminal: then control characters are escaped. No word says so.
+    pub(crate) for_terminal: bool,
 }
 
 impl Task {
@@ -202,6 +204,7 @@ fn wordless_run() -> Task
             progress: false,
             durations: false,
             failures: false,
+            for_terminal: false,
         },
     }
 }
@@ -393,6 +396,7 @@ fn told_in(words: &ArgMatches<'_>) -> Told
         progress: is_set(words, "progress"),
         durations: is_set(words, "durations"),
         failures: is_set(words, "failures"),
+        for_terminal: false,
     }
 }
 

@@ -7,7 +7,7 @@ use crate::progress::ids_of;
 use crate::times::{Times, seconds};
 use ext_model::Fault;
 use ext_report::write_visible;
-use ext_run::{Options, RunFault, RunListener, Summary, run_with_listener};
+use ext_run::{FaultPlace, Options, RunFault, RunListener, Summary, run_with_listener};
 use std::alloc::{AllocError, Global};
 use std::io::Write;
 use std::sync::{Mutex, Wait};
@@ -89,8 +89,8 @@ impl<R: Wait + Clock, L: RunListener> RunListener for Durations<'_, R, L> {
         self.listener.started(node, lane);
     }
 
-    fn faulted(&self, node: usize, fault: &Fault) {
-        self.listener.faulted(node, fault);
+    fn faulted(&self, node: usize, place: FaultPlace, fault: &Fault) {
+        self.listener.faulted(node, place, fault);
     }
 
     fn ended(&self, node: usize, nodes: usize) {

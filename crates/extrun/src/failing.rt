@@ -5,7 +5,9 @@ ghost use Rattle.extrun.specs.Tasks.{IsOneReported, IsRefused, IsReported};
 
 use crate::command::Told;
 use crate::durations::run_timed;
+use crate::screen::shown_text;
 use ext_run::{Failures, Options, RunFault, RunListener, Size, Summary, ToldFaults, failures_text};
+use std::alloc::Global;
 use std::io::Write;
 use std::sync::Wait;
 use std::thread::Threads;
@@ -29,7 +31,7 @@ where
     ensures refused { IfErr result (λ fault. IsRefused options input.now fault) }
 {
     if told.failures {
-        return run_with_failures(rt, input, writer, options, listener, told.durations);
+        return run_with_failures(rt, input, writer, options, listener, told);
     }
     run_timed(rt, input, writer, options, listener, told.durations)
 }
@@ -41,7 +43,7 @@ fn run_with_failures<'a, R, W: Write, L: RunListener + Sync>(
     writer: &mut W,
     options: Options,
     listener: &'a L,
-    durations: bool,
+    told: Told,
 ) -> Result<Summary, RunFault>
 where
     R: Threads + Wait + Sync + Clock + AllocGlobal + Eprint,
@@ -51,18 +53,37 @@ where
     ensures refused { IfErr result (λ fault. IsRefused options input.now fault) }
 {
     let failures = Failures::new(rt, rt.alloc(), listener);
-    let outcome = run_timed(rt, input, writer, options, &failures, durations);
+    let outcome = run_timed(rt, input, writer, options, &failures, told.durations);
     if outcome.is_ok() {
-        tell_failures(rt, input, options.size, &failures.into_told());
+        let faults = failures.into_told();
+        tell_failures(rt, input, options.size, &faults, told.for_terminal);
     }
     outcome
 }
 
 /// Prints the faults of the plan's nodes, or that there is no memory for them. If that fails,
 /// nothing more can be done.
-fn tell_failures<R: AllocGlobal + Eprint>(rt: &R, input: &[u8], size: Size, told: &ToldFaults) {
-    let _ = match failures_text(rt.alloc(), input, size, told) {
+fn tell_failures<R: AllocGlobal + Eprint>(
+    rt: &R,
+    input: &[u8],
+    size: Size,
+    faults: &ToldFaults,
+    for_terminal: bool,
+) {
+    let _ = match shown_failures(rt.alloc(), input, size, faults, for_terminal) {
         Ok(text) => eprint!(rt; "{}", text.as_str()),
         Err(_) => eprintln!(rt; "further faults were lost: no memory"),
     };
+}
+
+/// The lines of the faults of the plan's nodes, for a terminal or not.
+fn shown_failures(
+    alloc: Global,
+    input: &[u8],
+    size: Size,
+    faults: &ToldFaults,
+    for_terminal: bool,
+) -> Result<String, RunFault> {
+    let text = failures_text(alloc, input, size, faults)?;
+    Ok(shown_text(alloc, text, for_terminal)?)
 }

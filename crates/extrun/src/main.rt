@@ -21,16 +21,18 @@ mod plans;
 mod progress;
 mod refusing;
 mod running;
+mod screen;
 mod telling;
 mod times;
 mod unread;
 
-use color::shown_at;
+use color::{shown_at, told_at};
 use command::{Request, request_of};
 use ext_run::{RequestFault, RunFault, Summary, status_of};
 use ids::{outcome_of_id, outcome_of_parts};
-use plans::outcome_of_source;
-use std::io::{self, Input, IsTerminal};
+use plans::{is_for_people, outcome_of_source};
+use screen::Screen;
+use std::io::{self, Input, IsTerminal, Printer};
 use std::process::ExitCode;
 use std::rt::{Env, Files};
 use std::sync::Wait;
@@ -70,7 +72,6 @@ fn outcome_of<R>(rt: &R, terminals: Terminals) -> Result<Summary, RequestFault>
 where
     R: Threads + Wait + Sync + Clock + Env + Files + AllocGlobal + Input + Print + Eprint,
 {
-    let mut writer = io::writer(rt);
     let outcome = match request_of(rt, terminals.input) {
         Request::Plan {
             task,
@@ -78,7 +79,9 @@ where
             explain,
             brief,
         } => {
-            let task = shown_at(rt, task, terminals.output);
+            let task = told_at(shown_at(rt, task, terminals.output), terminals.errors);
+            // A report for people has been made for a terminal, and its colours are orders to one.
+            let mut writer = standard_output(rt, terminals.output && !is_for_people(task));
             let explained = is_explained(explain, brief, terminals.errors);
             return outcome_of_source(rt, &mut writer, task, &file, explained);
         }
@@ -87,10 +90,12 @@ where
             explain,
             brief,
         } => {
+            let mut writer = standard_output(rt, terminals.output);
             let explained = is_explained(explain, brief, terminals.errors);
             return outcome_of_id(rt, &mut writer, text.as_str(), explained);
         }
         Request::MakeId { parts } => {
+            let mut writer = standard_output(rt, terminals.output);
             return outcome_of_parts(rt, &mut writer, parts.as_slice());
         }
         Request::Help => Ok(Summary::done()),
@@ -102,4 +107,9 @@ where
         tell(rt, fault);
     }
     outcome
+}
+
+/// Standard output, as a terminal or as it is.
+fn standard_output<R: AllocGlobal + Print>(rt: &R, for_terminal: bool) -> Screen<Printer<'_, R>> {
+    Screen::new(rt.alloc(), io::writer(rt), for_terminal)
 }

@@ -118,7 +118,7 @@ where
 }
 
 /// Tests whether this is a run whose report is for people at a terminal.
-fn is_for_people(task: Task) -> bool {
+pub(crate) fn is_for_people(task: Task) -> bool {
     match task {
         Task::Run { options, .. } => matches!(options.form, ReportForm::Terminal { .. }),
         _ => false,

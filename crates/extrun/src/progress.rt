@@ -7,6 +7,7 @@ ghost use denote.Param.Send.{IsSync};
 use crate::command::Told;
 use crate::failing::run_plan;
 use crate::running::Running;
+use crate::screen::shown_text;
 use ext_run::{Options, RunFault, RunListener, Size, Summary, read_plan_within};
 use std::alloc::{AllocError, Global};
 use std::io::Write;
@@ -40,7 +41,7 @@ pub(crate) fn run_told<R: Threads + Wait + Sync + Clock + AllocGlobal + Eprint, 
     ensures one_report { IfOk result (λ summary. IsOneReported options input.now summary (Appends (W.contents writer.old) (W.contents writer.new))) }
     ensures refused { IfErr result (λ fault. IsRefused options input.now fault) }
 {
-    let progress = Progress::of(rt, input, options.size)?;
+    let progress = Progress::of(rt, input, options.size, told.for_terminal)?;
     run_beside(rt, input, writer, options, &progress, told)
 }
 
@@ -95,6 +96,8 @@ struct Progress<'a, R> {
     state: Mutex<State>,
     /// Notified when the run is over.
     over: Condvar,
+    /// Whether standard error is a terminal.
+    for_terminal: bool,
 }
 
 /// What the lock of a run's progress guards.
@@ -108,7 +111,12 @@ struct State {
 
 impl<'a, R: Wait + Clock + AllocGlobal + Eprint> Progress<'a, R> {
     /// The progress of a run of the plan in these bytes that has not begun.
-    fn of(rt: &'a R, input: &[u8], size: Size) -> Result<Progress<'a, R>, AllocError> {
+    fn of(
+        rt: &'a R,
+        input: &[u8],
+        size: Size,
+        for_terminal: bool,
+    ) -> Result<Progress<'a, R>, AllocError> {
         let ids = ids_of(rt.alloc(), input, size)?;
         let state = State {
             running: Running::new(rt.alloc(), ids)?,
@@ -119,6 +127,7 @@ impl<'a, R: Wait + Clock + AllocGlobal + Eprint> Progress<'a, R> {
             rt,
             state: Mutex::new(state),
             over: Condvar::new(),
+            for_terminal,
         })
     }
 
@@ -161,7 +170,8 @@ impl<'a, R: Wait + Clock + AllocGlobal + Eprint> Progress<'a, R> {
             return None;
         }
         state.is_new = false;
-        state.running.line(self.rt.alloc()).ok()
+        let line = state.running.line(self.rt.alloc()).ok()?;
+        shown_text(self.rt.alloc(), line, self.for_terminal).ok()
     }
 }
 

@@ -1,7 +1,9 @@
 //! What failed in a run, told once more.
 use crate::same::same;
 use ext_model::{ContextNo, Fault};
-use ext_run::{Failures, NoListener, RunListener, Size, ToldFaults, failures_text};
+use ext_run::{
+    Call, Failures, FaultPlace, Kind, NoListener, RunListener, Size, ToldFaults, failures_text,
+};
 use std::alloc::{AllocError, Global};
 use std::sync::atomic::{AtomicU64, Ordering};
 use std::test::Fail;
@@ -15,20 +17,44 @@ fn fault(alloc: Global, text: &str) -> Result<Fault, AllocError> {
     Ok(Fault::Text(String::from_str(alloc, text)?))
 }
 
+/// At a step of this call.
+fn at(kind: Kind, from: ContextNo, index: usize, step: usize) -> FaultPlace {
+    FaultPlace::Step {
+        call: Call { kind, from, index },
+        step,
+    }
+}
+
 /// Tests `failures_text`, `ToldFaults::note` and `ToldFaults::new`.
 #[test]
 fn faults_are_told_once_more_by_node(rt: HostRuntime) -> Result<(), Fail> {
     let alloc = rt.alloc();
     let failures = Failures::new(&rt, alloc, &NoListener);
     failures.started(2, 0);
-    failures.faulted(2, &fault(alloc, "first")?);
-    failures.faulted(1, &Fault::Memory);
-    failures.faulted(2, &fault(alloc, "second")?);
+    failures.faulted(2, at(Kind::Test, 2, 0, 3), &fault(alloc, "first")?);
+    failures.faulted(1, FaultPlace::Close, &Fault::Memory);
+    failures.faulted(2, at(Kind::AfterEach, 0, 1, 0), &fault(alloc, "second")?);
     failures.ended(2, 3);
     let told = failures.into_told();
     same(&rt, told.lost, false, "whether a fault was lost");
     let text = failures_text(alloc, PLAN.as_bytes(), Size::Usual, &told)?;
-    let wanted = "[e:x]/[m:1]: no memory\n[e:x]/[m:2]: first\n[e:x]/[m:2]: second\n";
+    let wanted =
+        "[e:x]/[m:1]: no memory (close)\n[e:x]/[m:2]: first (test, step 3)\n[e:x]/[m:2]: second (after_each 1 of [e:x], step 0)\n";
+    same(&rt, text.as_str(), wanted, "the faults");
+    Ok(())
+}
+
+/// Tests `failures_text`.
+#[test]
+fn callbacks_are_told_by_their_field(rt: HostRuntime) -> Result<(), Fail> {
+    let alloc = rt.alloc();
+    let mut told = ToldFaults::new(alloc);
+    told.note(alloc, 0, at(Kind::BeforeAll, 0, 2, 1), &Fault::Memory);
+    told.note(alloc, 0, at(Kind::AfterAll, 0, 0, 4), &Fault::Memory);
+    told.note(alloc, 1, at(Kind::BeforeEach, 1, 0, 0), &Fault::Memory);
+    let text = failures_text(alloc, PLAN.as_bytes(), Size::Usual, &told)?;
+    let wanted =
+        "[e:x]: no memory (before_all 2, step 1)\n[e:x]: no memory (after_all 0, step 4)\n[e:x]/[m:1]: no memory (before_each 0 of [e:x]/[m:1], step 0)\n";
     same(&rt, text.as_str(), wanted, "the faults");
     Ok(())
 }
@@ -50,7 +76,7 @@ impl RunListener for Sum {
         self.add(node, 1);
     }
 
-    fn faulted(&self, node: ContextNo, _fault: &Fault) {
+    fn faulted(&self, node: ContextNo, _place: FaultPlace, _fault: &Fault) {
         self.add(node, 100);
     }
 
@@ -65,8 +91,8 @@ fn each_is_passed_on_once(rt: HostRuntime) -> Result<(), Fail> {
     let sum = Sum(AtomicU64::new(0));
     let failures = Failures::new(&rt, rt.alloc(), &sum);
     failures.started(2, 0);
-    failures.faulted(2, &Fault::Memory);
-    failures.faulted(1, &Fault::Memory);
+    failures.faulted(2, FaultPlace::Close, &Fault::Memory);
+    failures.faulted(1, FaultPlace::Close, &Fault::Memory);
     failures.ended(3, 4);
     let told = sum.0.load(Ordering::SeqCst);
     same(&rt, told, 30_302, "what was passed on");
@@ -78,10 +104,10 @@ fn each_is_passed_on_once(rt: HostRuntime) -> Result<(), Fail> {
 fn lost_faults_are_told(rt: HostRuntime) -> Result<(), Fail> {
     let alloc = rt.alloc();
     let mut told = ToldFaults::new(alloc);
-    told.note(alloc, 1, &Fault::Memory);
+    told.note(alloc, 1, FaultPlace::Close, &Fault::Memory);
     told.lost = true;
     let text = failures_text(alloc, PLAN.as_bytes(), Size::Usual, &told)?;
-    let wanted = "[e:x]/[m:1]: no memory\nfurther faults were lost: no memory\n";
+    let wanted = "[e:x]/[m:1]: no memory (close)\nfurther faults were lost: no memory\n";
     same(&rt, text.as_str(), wanted, "the faults");
     Ok(())
 }

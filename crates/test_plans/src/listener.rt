@@ -4,7 +4,7 @@ ghost use Rattle.std.specs.Prelude.{◌≡◌, ◌≤◌, false};
 use crate::rows::{FOUR_LANES, PLAIN};
 use crate::same::same;
 use ext_model::Fault;
-use ext_run::{Options, ReportForm, RunListener, Size, run_with_listener};
+use ext_run::{Call, FaultPlace, Kind, Options, ReportForm, RunListener, Size, run_with_listener};
 use std::alloc::Global;
 use std::process::Abort;
 use std::sync::Wait;
@@ -18,12 +18,37 @@ use std::time::{Clock, Duration};
 const PLAN: &str =
     "[[node]]\nid = \"[engine:x]\"\n\n[[node]]\nid = \"[engine:x]/[class:A]\"\nbefore_all = [[\"abort no\"]]\n\n[[node]]\nid = \"[engine:x]/[class:A]/[method:m()]\"\ntest = []\n\n[[node]]\nid = \"[engine:x]/[method:n()]\"\ntest = [\"fail f\"]\n";
 
-/// A test with three faults: its own, one of an after-callback, and one of a close.
+/// A test with three faults: its own, at its second step, one of the second after-callback of its
+/// engine, and one of a close.
 const THREE_FAULTS: &str =
-    "[[key]]\nlabel = \"a\"\n\n[[node]]\nid = \"[engine:x]\"\nafter_each = [[\"fail u\"]]\n\n[[node]]\nid = \"[engine:x]/[method:m()]\"\ntest = [\"put! a bad\", \"fail t\"]\n";
+    "[[key]]\nlabel = \"a\"\n\n[[node]]\nid = \"[engine:x]\"\nafter_each = [[], [\"fail u\"]]\n\n[[node]]\nid = \"[engine:x]/[method:m()]\"\ntest = [\"put! a bad\", \"fail t\"]\n";
 
-/// The faults of that test, in the order in which they come,
-const FAULTS: [&str; 3] = ["t", "u", "close bad"];
+/// The faults of that test, in the order in which they come, with their places,
+const FAULTS: [(&str, FaultPlace); 3] = [
+    (
+        "t",
+        FaultPlace::Step {
+            call: Call {
+                kind: Kind::Test,
+                from: 1,
+                index: 0,
+            },
+            step: 1,
+        },
+    ),
+    (
+        "u",
+        FaultPlace::Step {
+            call: Call {
+                kind: Kind::AfterEach,
+                from: 0,
+                index: 1,
+            },
+            step: 0,
+        },
+    ),
+    ("close bad", FaultPlace::Close),
+];
 
 /// and the report of its run.
 const THREE_FAULTS_REPORT: &str =
@@ -123,11 +148,11 @@ impl RunListener for Heard {
     }
 
     /// Comes between the start and the end, with the next of the faults where the node has three.
-    fn faulted(&self, node: usize, fault: &Fault) {
+    fn faulted(&self, node: usize, place: FaultPlace, fault: &Fault) {
         self.expect(self.starts.of(node) == Some(1) && self.ends.of(node) == Some(0));
         let told = self.faults.add(node);
         if self.nodes == 2 {
-            self.expect(is_next(told, fault));
+            self.expect(is_next(told, place, fault));
         }
     }
 
@@ -138,17 +163,18 @@ impl RunListener for Heard {
     }
 }
 
-/// Whether it is the fault that comes after so many.
-fn is_next(before: Option<u64>, fault: &Fault) -> bool {
+/// Whether it is the fault that comes after so many, at its place.
+fn is_next(before: Option<u64>, place: FaultPlace, fault: &Fault) -> bool {
     let Fault::Text(text) = fault else {
         return false;
     };
-    match before {
-        Some(0) => text.as_str() == FAULTS[0],
-        Some(1) => text.as_str() == FAULTS[1],
-        Some(2) => text.as_str() == FAULTS[2],
-        _ => false,
-    }
+    let (wanted, at) = match before {
+        Some(0) => FAULTS[0],
+        Some(1) => FAULTS[1],
+        Some(2) => FAULTS[2],
+        _ => return false,
+    };
+    text.as_str() == wanted && place == at
 }
 
 /// Runs the plan so, with this listener, and asserts that a node failed. Gives the report.
@@ -250,7 +276,7 @@ impl<C: Clock> RunListener for HoldsUp<'_, C> {
         self.starts.add(lane);
     }
 
-    fn faulted(&self, _node: usize, _fault: &Fault) {
+    fn faulted(&self, _node: usize, _place: FaultPlace, _fault: &Fault) {
         if self.held.swap(1, Ordering::SeqCst) == 1 {
             self.miss();
         }

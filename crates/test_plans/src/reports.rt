@@ -4,7 +4,7 @@ use crate::trees::push_ids;
 use ext_model::{ContextNo, Fault};
 use ext_report::{
     NodeResult, Status, any_failed, leave_out_reserve, report_text, terminal_report, tree_report,
-    write_visible,
+    write_visible, write_visible_lines,
 };
 use ext_tree::Tree;
 use std::alloc::{AllocError, Global};
@@ -226,13 +226,14 @@ fn shows<R: Abort>(
 }
 
 /// Tests `terminal_report`: a status has its colour, a node that failed or was aborted a second line
-/// behind the totals, and a fault no control character.
+/// behind the totals, a fault no control character, and the container that failed is counted.
 #[test]
 fn report_for_people(rt: HostRuntime) -> Result<(), Fail> {
     let plain = "[engine:x] successful closed 0\n\
          [engine:x]/[class:A] failed closed 3: \\u{1b}[2J\\nthen (+2)\n\
          [engine:x]/[class:A]/[method:m()] skipped closed 0\n\
          tests 1 successful 0 aborted 0 failed 0 skipped 1\n\
+         containers failed 1\n\
          computed 0 found 0 closed 3 close faults 0\n\
          \n\
          [engine:x]/[class:A] failed closed 3: \\u{1b}[2J\\nthen (+2)\n";
@@ -241,6 +242,7 @@ fn report_for_people(rt: HostRuntime) -> Result<(), Fail> {
          [engine:x]/[class:A] \x1b[31mfailed\x1b[0m closed 3: \\u{1b}[2J\\nthen (+2)\n\
          [engine:x]/[class:A]/[method:m()] \x1b[2mskipped\x1b[0m closed 0\n\
          tests 1 successful 0 aborted 0 failed 0 skipped 1\n\
+         containers failed 1\n\
          computed 0 found 0 closed 3 close faults 0\n\
          \n\
          [engine:x]/[class:A] \x1b[31mfailed\x1b[0m closed 3: \\u{1b}[2J\\nthen (+2)\n";
@@ -279,6 +281,16 @@ fn control_characters_are_visible(rt: HostRuntime) -> Result<(), Fail> {
     )?;
     let wanted = "a \\u{0}\\t\\n\\r\\u{1f} ~\\u{7f}\\u{80}\\u{9f}\u{a0}\u{e9}\u{1f600}";
     same(&rt, text.as_str(), wanted, "the text");
+    Ok(())
+}
+
+/// Tests `write_visible_lines`.
+#[test]
+fn control_characters_of_lines_are_visible(rt: HostRuntime) -> Result<(), Fail> {
+    let mut text = String::from_str(rt.alloc(), "a ")?;
+    write_visible_lines(&mut text, "\x1b[2J\n\t\r\u{9b}\n\n~")?;
+    let wanted = "a \\u{1b}[2J\n\\t\\r\\u{9b}\n\n~";
+    same(&rt, text.as_str(), wanted, "the lines");
     Ok(())
 }
 

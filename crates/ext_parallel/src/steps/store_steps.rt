@@ -15,6 +15,14 @@ use ext_store::{Lane, Store};
 use std::alloc::Global;
 use std::sync::Wait;
 
+/// The outcome of the steps of a call.
+#[derive(Drop)]
+pub(crate) struct StepsOutcome {
+    pub(crate) outcome: Outcome,
+    /// How many of them were successful: the number of the one that was not, if there is one.
+    pub(crate) passed: usize,
+}
+
 /// Runs steps over any store, with the keys that a plan declares. All lanes of the store may share
 /// it.
 #[derive(Drop)]
@@ -58,33 +66,41 @@ impl<'b> StoreSteps<'b> {
         lane: &mut Lane<StoredValue<'a>>,
         path: &[ContextNo],
         steps: &'a [Step],
-    ) -> Outcome
+    ) -> StepsOutcome
         requires lane { IsLaneOf store.now.id lane.old }
         requires path { All (λ context. context < length store.now.tree) path.now }
         requires tree { 0 < length store.now.tree }
         requires short { length steps.now ≤ step_limit }
-        ensures steps { StepsRun store.now (plan_keys self.now) path.now (map step_view steps.now) lane.old result lane.new }
+        ensures steps { StepsRun store.now (plan_keys self.now) path.now (map step_view steps.now) lane.old result.outcome lane.new }
         ensures lane { IsLaneOf store.now.id lane.new }
         ensures frame { HasFrame store.now lane.old lane.new }
     {
         let mut computed = 0;
         let mut found = 0;
+        let mut passed = 0;
         for step in steps {
             let outcome = self.run_step(rt, store, lane, path, step);
             computed += outcome.computed;
             found += outcome.found;
             if !outcome.verdict.is_successful() {
-                return Outcome {
-                    verdict: outcome.verdict,
-                    computed,
-                    found,
+                return StepsOutcome {
+                    outcome: Outcome {
+                        verdict: outcome.verdict,
+                        computed,
+                        found,
+                    },
+                    passed,
                 };
             }
+            passed += 1;
         }
-        Outcome {
-            verdict: Verdict::Successful,
-            computed,
-            found,
+        StepsOutcome {
+            outcome: Outcome {
+                verdict: Verdict::Successful,
+                computed,
+                found,
+            },
+            passed,
         }
     }
 

@@ -16,7 +16,7 @@ loop-node-preserved c =
     let ok = c.in_ok-groups.groups.ok in
     let count = c.in_ok-groups.ensures.count in
     let told =
-    group_told c.id.result.now c.len.result c.loop-node.node faults c.as_slice.result.now c.in_ok-groups.groups.items c.index.result.now c.as_slice-in-loop-node.result.now (omega arith) (omega (arith, ok, count)) c.index.ensures
+    group_told c.args.tree.now c.id.result.now c.len.result c.loop-node.node faults c.as_slice.result.now c.in_ok-groups.groups.items c.index.result.now c.as_slice-in-loop-node.result.now (omega arith) (omega (arith, ok, count)) c.index.ensures
     c.as_slice-in-loop-node.ensures.value (c.as_slice.ensures.value ∙ c.in_ok-nodes.ensures) c.in_ok-groups.ensures.groups in
     failures-more c.args.tree.now faults c.loop-node.node c.id.result.now (string_bytes c.loop-node.text) (string_bytes c.write_failures.new.text) c.id.ensures c.loop-node.invariant
     (c.in_ok-write_failures.ensures ∙ ap (λ t. string_bytes c.loop-node.text ++ t) told)

@@ -8,9 +8,10 @@ use Rattle.ext_run.proofs.failures.write_failures.Goals as goal
 
 pub loop-fault-preserved : goal.loop-fault-preserved
 loop-fault-preserved c =
+    let ids = c.args.tree.now in
     let id = c.args.id.now in
     let refs = c.args.faults.now in
     let at = c.loop-fault.fault-index in
     let ref = c.fault-item.result in
-    joined (string_bytes c.args.text.now) (string_bytes c.loop-fault.text) _ (lines_of id (shown (take at refs))) (failure_line id (string_bytes ref.now.text)) c.loop-fault.invariant c.in_ok-write_failure.ensures
-    ∙ ap (λ t. string_bytes c.args.text.now ++ t) (sym (lines_more id refs at ref (omega arith) c.fault-item.is))
+    joined (string_bytes c.args.text.now) (string_bytes c.loop-fault.text) _ (lines_of ids id (shown (take at refs))) (failure_line ids id ref.now) c.loop-fault.invariant c.in_ok-write_failure.ensures
+    ∙ ap (λ t. string_bytes c.args.text.now ++ t) (sym (lines_more ids id refs at ref (omega arith) c.fault-item.is))

@@ -4,4 +4,4 @@ use Rattle.ext_run.specs.InnerFailures.{lines_of}
 use Rattle.ext_run.proofs.failures.write_failures.Given as goal
 
 abbrev pub invariant-loop-fault : goal.invariant-loop-fault
-invariant-loop-fault l = string_bytes l.text ≡ string_bytes l.initial.text ++ lines_of l.id (shown (take l.fault-index l.faults))
+invariant-loop-fault l = string_bytes l.text ≡ string_bytes l.initial.text ++ lines_of l.tree l.id (shown (take l.fault-index l.faults))

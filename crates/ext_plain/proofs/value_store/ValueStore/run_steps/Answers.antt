@@ -1,4 +1,4 @@
-use Rattle.std.proofs.Common.{◌∙◌, ◌+◌, drop, map, ap, sym, arith}
+use Rattle.std.proofs.Common.{◌∙◌, ◌+◌, drop, map, refl, ap, sym, arith}
 use Rattle.std.proofs.lemmas.List.{drop_all}
 use Rattle.ext_plan.specs.Plans.{step_view}
 use Rattle.ext_lifecycle.specs.Lifecycle.{ending_of}
@@ -15,7 +15,7 @@ use Rattle.ext_plain.proofs.value_store.ValueStore.run_steps.Goals as goal
 use Rattle.ext_plan.specs.StepCalls.{keys_in}
 
 pub loop-step-init : goal.loop-step-init
-loop-step-init c = record { rest = λ later. (later, sym (no_steps (steps_run (keys_in c.args.keys.now) c.args.path.now (map step_view c.args.steps.now) (with_memory later (state_view c.args.self.now)))), λ none. none); computed = omega arith; found = omega arith }
+loop-step-init c = record { rest = λ later. (later, sym (no_steps (steps_run (keys_in c.args.keys.now) c.args.path.now (map step_view c.args.steps.now) (with_memory later (state_view c.args.self.now)))), λ none. none); computed = omega arith; found = omega arith; passed = refl }
 
 pub returns-then-not-is_successful-clause-end : goal.returns-then-not-is_successful-clause-end
 returns-then-not-is_successful-clause-end c = λ later.
@@ -56,6 +56,7 @@ loop-step-preserved c =
           );
       computed = omega (arith, c.loop-step.invariant.computed, c.make_step-made.ensures.few.computed);
       found = omega (arith, c.loop-step.invariant.found, c.make_step-made.ensures.few.found);
+      passed = omega (arith, c.loop-step.invariant.passed);
     }
 
 pub returns-clause-end : goal.returns-clause-end

@@ -15,4 +15,5 @@ invariant-loop-step l = record {
       × (later ≡ [] → memory ≡ []);
   computed : l.computed ≤ l.step-index;
   found : l.found ≤ l.step-index;
+  passed : l.passed ≡ l.step-index;
 }

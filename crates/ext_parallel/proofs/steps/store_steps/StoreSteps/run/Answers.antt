@@ -12,6 +12,7 @@ loop-step-init g c = record {
   left = nothing_made c.args.store.now (plan_keys c.args.self.now) c.args.path.now (map step_view c.args.steps.now) c.args.lane.now;
   computed = omega arith;
   found = omega arith;
+  passed = refl;
   lane = c.requires.lane;
   frame = no_call_framed c.args.store.now c.args.lane.now c.requires.lane;
 }
@@ -36,6 +37,7 @@ loop-step-preserved g c =
           c.run_step-outcome.ensures.step c.run_step-outcome.ensures.frame c.run_step-outcome.ensures.placed (sym c.if-not-is_successful.ensures);
       computed = omega (arith, c.loop-step.invariant.computed, c.run_step-outcome.ensures.computed);
       found = omega (arith, c.loop-step.invariant.found, c.run_step-outcome.ensures.found);
+      passed = omega (arith, c.loop-step.invariant.passed);
       lane = c.run_step-outcome.ensures.lane;
       frame = then_framed c.args.store.now c.args.lane.now c.loop-step.lane c.run_step-outcome.new.lane c.loop-step.invariant.frame c.run_step-outcome.ensures.frame;
     }
