@@ -1,7 +1,7 @@
 -- The calls of a node draw no more numbers than its steps may draw, and a node and all nodes below it no more than the steps of these.
 use Rattle.std.proofs.Common.{◌≡◌, ◌⊎◌, ◌≤◌, ◌<◌, ℕ, zero, suc, ◌+◌, Bool, true, false, cond, is_some, List, [], ◌∷◌, ◌++◌, length, sum_by, count_by, refl, sym, ap, subst, ◌∙◌, arith, inl, inr}
 use Rattle.std.specs.Prelude.{fold, if◌then◌else◌}
-use Rattle.std.specs.List.{AllByRecursion, range_with_len}
+use Rattle.std.specs.List.{AllByRecursion, flat_map, range_with_len}
 use Rattle.std.proofs.lemmas.List.{length-map}
 use Rattle.std.proofs.lemmas.List.Sums.{sum_by-append, sum_by-cons, sum_by_push}
 use Rattle.ext_history.proofs.Lists.{bools}
@@ -15,7 +15,7 @@ use Rattle.ext_plan.specs.PlanCalls.{concurrent_of, registered, steps_of_call, t
 use Rattle.ext_plan.specs.ReadPlans.{NodesAreTree, ids_of_nodes}
 use Rattle.ext_plan.specs.StepCalls.{start_of}
 use Rattle.ext_races.specs.Acts.{draws}
-use Rattle.ext_races.specs.MadeSteps.{calls_of, made_after, made_by, made_of_node, plan_path}
+use Rattle.ext_races.specs.MadeSteps.{MadeText, calls_after, calls_before, calls_of, made_after, made_by, made_in_turn, made_of_node, plan_path}
 use Rattle.ext_races.specs.Touches.{numbers_drawn}
 use Rattle.ext_races.proofs.Calls.{calls_are}
 use Rattle.ext_races.proofs.Paths.{path_is}
@@ -29,6 +29,7 @@ use Rattle.ext_plain.proofs.Nodes.{child_path, node_run-suc, node_run-zero, star
 use Rattle.ext_plain.proofs.Reached.{Stands}
 use Rattle.ext_plain.proofs.Skipping.{distinct-below, distinct-ordered}
 use Rattle.ext_engine.proofs.Above.{Under, parent_first, same_child, under_child, under_itself, under_order, under_root, within_tree}
+use Rattle.ext_one_report.proofs.CoveredTouches.{turn_is}
 use Rattle.ext_one_report.proofs.CountSteps.{Draws, GoesOn, draws_more, draws_none, draws_then, seals_draw, steps_draw}
 use Rattle.ext_one_report.proofs.CountSums.{all_stand, below, below_few, count_in_all, is_on, node_and_below, on_path, path_on, sum_same}
 
@@ -96,8 +97,18 @@ module _ (plan : PlanText) where
 
   node_cost : (node : ℕ) → cost_of_node node ≡ sum_by cost_of_call (calls_of plan node)
   node_cost node =
-      count_in_all (λ made. draws keeps made.step) (λ call. made_after node [] (steps_of_call plan call)) (calls_of plan node)
-      ∙ sum_same (λ call. count_by (λ made. draws keeps made.step) (made_after node [] (steps_of_call plan call))) cost_of_call (calls_of plan node) (λ call. made_count keeps node [] (steps_of_call plan call))
+      let p : MadeText → Bool = λ made. draws keeps made.step in
+      let opening = calls_before plan node ++ test_call node ∷ [] in
+      let after = calls_after plan node in
+      let steps = flat_map (steps_of_call plan) opening in
+      let first = made_in_turn plan node [] opening in
+      let last = flat_map (λ call. made_after node [] (steps_of_call plan call)) after in
+      let early : count_by p first ≡ sum_by cost_of_call opening =
+      ap (count_by p) (turn_is plan node [] opening) ∙ (made_count keeps node [] steps ∙ count_in_all (draws keeps) (steps_of_call plan) opening) in
+      let late : count_by p last ≡ sum_by cost_of_call after =
+      count_in_all p (λ call. made_after node [] (steps_of_call plan call)) after
+      ∙ sum_same (λ call. count_by p (made_after node [] (steps_of_call plan call))) cost_of_call after (λ call. made_count keeps node [] (steps_of_call plan call)) in
+      sum_by-append (λ made. cond (p made) 1 0) first last ∙ ((λ i. early i + late i) ∙ sym (sum_by-append cost_of_call opening after))
 
   -- its calls are those before its body, its test, and those after
   calls_cost : (node : ℕ) (path : List ℕ) (is_test : Bool) → path ≡ plan_path plan node → is_some (test_of plan node) ≡ is_test

@@ -266,7 +266,7 @@ module _ (plan : PlanText) (read : IsReadPlan plan) where
     -- what a step acts on its node may change
     pub acts_changed : (act : ActText) → Contains (steps_of_call plan call) (step_of act) → changes act.word ≡ true → IsTouchedBelow plan node (start_of (drop act.up path)) (key_of_step plan.keys act.key) true
     acts_changed act there changing =
-        let one = touches_start plan node call act (is_made plan node call (step_of act) within among there) changing (subst (λ p. act.up < length p) along (low (step_of act) there)) in
+        let one = touches_start plan node act (is_made plan node call (step_of act) within among there) changing (subst (λ p. act.up < length p) along (low (step_of act) there)) in
         below_itself (start_of (drop act.up path)) (key_of_step plan.keys act.key) true
         (subst (λ p. IsTouched plan node (start_of (drop act.up p)) (place_of_key (keys_named plan) (key_of_step plan.keys act.key)) true) (sym along) one)
 
@@ -279,7 +279,7 @@ module _ (plan : PlanText) (read : IsReadPlan plan) where
         → (at : ℕ) → act.up ≤ at → at < length (plan_path plan node) → IsTouched plan node (get_or (plan_path plan node) at 0) (place_of_key (keys_named plan) (key_of_step plan.keys act.key)) false
     looked act there looks at high less = elim (cases_Bool (changes act.word)) [
       | inl changing ↦
-          touches_all plan node call act (is_made plan node call (step_of act) within among there) (get_or (plan_path plan node) at 0) changing looks (contains_drop act.up at (plan_path plan node) high less)
+          touches_all plan node act (is_made plan node call (step_of act) within among there) (get_or (plan_path plan node) at 0) changing looks (contains_drop act.up at (plan_path plan node) high less)
       | inr still ↦ look_touches plan node call within among act there still looks at high less
     ]
 

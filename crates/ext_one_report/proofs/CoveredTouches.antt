@@ -1,22 +1,23 @@
 -- The touches of a plan's steps: each step that changes or looks up a place of its key touches it, and each touch is at a context on the path of its node.
-use Rattle.std.proofs.Common.{◌≡◌, ◌<◌, ◌≤◌, ◌⊎◌, ℕ, zero, suc, Bool, true, false, List, [], ◌∷◌, ◌++◌, length, get_or, Contains, All, drop, take, map, Option, Some, None, refl, ap, sym, subst, ◌∙◌, arith, inl, inr, zero-add}
+use Rattle.std.proofs.Common.{◌≡◌, ◌<◌, ◌≤◌, ◌⊎◌, ℕ, zero, suc, Bool, true, false, List, [], ◌∷◌, ◌++◌, length, get_or, Contains, All, drop, take, map, Option, Some, None, refl, ap, sym, subst, ◌∙◌, arith, inl, inr, zero-add, append_assoc, append-nil}
 use Rattle.std.specs.Prelude.{◌&&◌, if◌then◌else◌}
-use Rattle.std.specs.List.{range_with_len}
+use Rattle.std.specs.List.{flat_map, range_with_len}
 use Rattle.std.proofs.lemmas.Bool.{and_parts, cases_lt}
 use Rattle.std.proofs.lemmas.List.{get_or-take, length-drop, length-take}
-use Rattle.std.proofs.lemmas.List.Elements.{All-contains, All-contains_itself, All-drop, Contains-push_cases}
+use Rattle.std.proofs.lemmas.List.Elements.{All-contains, All-contains_itself, All-drop, Contains-append_cases, Contains-append_left, Contains-append_right, Contains-push_cases}
 use Rattle.std.proofs.lemmas.List.FromFn.{get_or-range_with_len, length-range_with_len}
 use Rattle.ext_tree.specs.Keys.{KeyValue}
 use Rattle.ext_tree.specs.Traits.{key_eq}
 use Rattle.ext_tree.proofs.Equalities.{keys_Decides}
 use Rattle.ext_lifecycle.specs.declared.call.Call.{Call}
+use Rattle.ext_lifecycle.specs.Callbacks.{test_call}
 use Rattle.ext_plan.specs.Plans.{KeyText, PlanText, StepText, keyed, fail, abort}
 use Rattle.ext_plan.specs.PlanCalls.{steps_of_call}
 use Rattle.ext_plan.specs.ReadPlans.{ids_of_nodes}
 use Rattle.ext_plan.specs.StepCalls.{start_of}
 use Rattle.ext_plan.specs.StoreKeys.{key_of_step, place_of_key}
 use Rattle.ext_races.specs.Acts.{ActText, act_of}
-use Rattle.ext_races.specs.MadeSteps.{calls_of, made_after, made_by, made_of_node, path_of, plan_path, steps_made}
+use Rattle.ext_races.specs.MadeSteps.{MadeText, calls_after, calls_before, calls_of, made_after, made_by, made_in_turn, made_of_node, path_of, plan_path, steps_made}
 use Rattle.ext_races.specs.Touches.{TouchText, below_act, below_computes, keys_named, reach, touch_of, touches_above, touches_along, touches_made, touches_of, touches_of_act}
 use Rattle.ext_plan.specs.StepWords.{changes, gives_value, looks_along}
 use Rattle.ext_races.proofs.Lists.{contains-flat_map, contains-flat_map_back, contains-map, contains-map_back, contains_at, contains_cases, contains_first, contains_later, contains_nothing}
@@ -84,25 +85,57 @@ made_in node before (first ∷ more) step there = elim (contains_cases first ste
       }
 ]
 
--- the step is made by the node, after steps of the same call
-pub record IsMade (plan : PlanText) (node : ℕ) (call : Call) (step : StepText) : Type 0 where
+-- calls of which each is made only if those before it were successful make their steps as if they were one
+after_append : (node : ℕ) (before steps more : List StepText) → made_after node before (steps ++ more) ≡ made_after node before steps ++ made_after node (before ++ steps) more
+after_append node before [] more = ap (λ b. made_after node b more) (sym (append-nil before))
+after_append node before (step ∷ steps) more =
+    ap (λ l. made_by node before step ∷ l)
+    (after_append node (before ++ step ∷ []) steps more ∙ ap (λ b. made_after node (before ++ step ∷ []) steps ++ made_after node b more) (append_assoc before (step ∷ []) steps))
+
+pub turn_is : (plan : PlanText) (node : ℕ) (before : List StepText) (calls : List Call) → made_in_turn plan node before calls ≡ made_after node before (flat_map (steps_of_call plan) calls)
+turn_is plan node before [] = refl
+turn_is plan node before (call ∷ more) =
+    ap (λ l. made_after node before (steps_of_call plan call) ++ l) (turn_is plan node (before ++ steps_of_call plan call) more)
+    ∙ sym (after_append node before (steps_of_call plan call) (flat_map (steps_of_call plan) more))
+
+-- The step is made by the node, after steps of its calls
+pub record IsMade (plan : PlanText) (node : ℕ) (step : StepText) : Type 0 where
   pub front : List StepText
   pub made : Contains (steps_made plan) (made_by node front step)
-  pub among : (s : StepText) → Contains front s → Contains (steps_of_call plan call) s
+  pub among : (s : StepText) → Contains front s → (call : Call) × Contains (calls_of plan node) call × Contains (steps_of_call plan call) s
 
 pub in_range : (count node : ℕ) → node < count → Contains (range_with_len 0 count) node
 in_range count node less = (node, (let long = length-range_with_len 0 count in omega (arith, less, long)), get_or-range_with_len 0 count node node less ∙ zero-add node)
 
-pub is_made : (plan : PlanText) (node : ℕ) (call : Call) (step : StepText) → node < length plan.nodes → Contains (calls_of plan node) call → Contains (steps_of_call plan call) step → IsMade plan node call step
+pub is_made : (plan : PlanText) (node : ℕ) (call : Call) (step : StepText) → node < length plan.nodes → Contains (calls_of plan node) call → Contains (steps_of_call plan call) step → IsMade plan node step
 is_made plan node call step within among there =
-    let steps = steps_of_call plan call in
-    let one = made_in node [] steps step there in
-    record {
-      front = one.front;
-      made = contains-flat_map (made_of_node plan) (range_with_len 0 (length plan.nodes)) node (made_by node one.front step) (in_range (length plan.nodes) node within)
-          (contains-flat_map (λ c. made_after node [] (steps_of_call plan c)) (calls_of plan node) call (made_by node one.front step) among one.made);
-      among = λ s old. elim (one.among s old) [ inl none ↦ contains_nothing s none | inr is ↦ is ];
-    }
+    let opening = calls_before plan node ++ test_call node ∷ [] in
+    let after = calls_after plan node in
+    let first = made_in_turn plan node [] opening in
+    let last = flat_map (λ c. made_after node [] (steps_of_call plan c)) after in
+    let in_plan : (made : MadeText) → Contains (made_of_node plan node) made → Contains (steps_made plan) made =
+    λ made held. contains-flat_map (made_of_node plan) (range_with_len 0 (length plan.nodes)) node made (in_range (length plan.nodes) node within) held in
+    elim (Contains-append_cases opening after call among) [
+      | inl early ↦
+          let one = made_in node [] (flat_map (steps_of_call plan) opening) step (contains-flat_map (steps_of_call plan) opening call step early there) in
+          record {
+            front = one.front;
+            made = in_plan (made_by node one.front step) (Contains-append_left first last (made_by node one.front step)
+                (subst (λ (l : List MadeText). Contains l (made_by node one.front step)) (sym (turn_is plan node [] opening)) one.made));
+            among = λ s old. elim (one.among s old) [
+              | inl none ↦ contains_nothing s none
+              | inr is ↦ let of = contains-flat_map_back (steps_of_call plan) opening s is in (of.0, Contains-append_left opening after of.0 of.1, of.2)
+            ];
+          }
+      | inr late ↦
+          let one = made_in node [] (steps_of_call plan call) step there in
+          record {
+            front = one.front;
+            made = in_plan (made_by node one.front step)
+                (Contains-append_right first last (made_by node one.front step) (contains-flat_map (λ c. made_after node [] (steps_of_call plan c)) after call (made_by node one.front step) late one.made));
+            among = λ s old. elim (one.among s old) [ inl none ↦ contains_nothing s none | inr is ↦ (call, among, is) ];
+          }
+    ]
 
 -- ---- where a step touches
 
@@ -146,11 +179,11 @@ pub record IsTouched (plan : PlanText) (node context number : ℕ) (told : Bool)
   pub key_is : touch.key ≡ number
   pub changes : told ≡ true → touch.changes ≡ true
 
-module _ (plan : PlanText) (node : ℕ) (call : Call) where
+module _ (plan : PlanText) (node : ℕ) where
   abbrev number_in : ActText → ℕ
   number_in act = place_of_key (keys_named plan) (key_of_step plan.keys act.key)
 
-  module _ (act : ActText) (is : IsMade plan node call (step_of act)) where
+  module _ (act : ActText) (is : IsMade plan node (step_of act)) where
     abbrev reached : List ℕ
     reached = drop act.up (reach plan.keys is.front (plan_path plan node) act)
 
@@ -189,7 +222,7 @@ module _ (plan : PlanText) (node : ℕ) (call : Call) where
     pub touches_all : (context : ℕ) → changes act.word ≡ true → looks_along act.word ≡ true → Contains (drop act.up (plan_path plan node)) context → IsTouched plan node context (number_in act) false
     touches_all context changing looks there = touches_reached context looks (subst (λ p. Contains p context) (sym (reach_is changing)) there)
 
--- ---- look-ups behind a compute of their call
+-- ---- look-ups behind a compute
 
 -- the step computes a value of the key, no further up than this
 pub record Computes (declared : List KeyText) (key : KeyValue) (at : ℕ) (act : Option ActText) : Type 0 where
@@ -249,12 +282,13 @@ module _ (plan : PlanText) (node : ℕ) (call : Call) (within : node < length pl
         | inl kept ↦
             let below = below_computes plan.keys key path is.front in
             let here : Contains (drop act.up below) (get_or path at 0) = subst (Contains (drop act.up below)) kept.1 (contains_drop act.up at below low kept.0) in
-            touches_reached plan node call act is (get_or path at 0) looks (subst (λ p. Contains (drop act.up p) (get_or path at 0)) (reach_below plan.keys is.front path act still) here)
+            touches_reached plan node act is (get_or path at 0) looks (subst (λ p. Contains (drop act.up p) (get_or path at 0)) (reach_below plan.keys is.front path act still) here)
         | inr computed ↦
             let one = computed.2 in
             let all = computes_all one.one.word one.gives in
             let before = subst (Contains is.front) (step_is computed.0 one.one one.is) computed.1 in
-            let made = is_made plan node call (step_of one.one) within among (is.among (step_of one.one) before) in
+            let of = is.among (step_of one.one) before in
+            let made = is_made plan node of.0 (step_of one.one) within of.1 of.2 in
             subst (λ k. IsTouched plan node (get_or path at 0) (place_of_key (keys_named plan) k) false) one.same
-            (touches_all plan node call one.one made (get_or path at 0) all.0 all.1 (contains_drop one.one.up at path one.low less))
+            (touches_all plan node one.one made (get_or path at 0) all.0 all.1 (contains_drop one.one.up at path one.low less))
       ]

@@ -1,9 +1,11 @@
 -- The calls of a node, some of whose steps compute values at open places, end near those of a plain run.
-use Rattle.std.proofs.Common.{◌≡◌, ℕ, inl, inr, true, false, List, [], ◌∷◌, ◌++◌, map, refl, ap, sym, subst, ◌∙◌, append_assoc, append-nil, arith}
+use Rattle.std.proofs.Common.{◌≡◌, ℕ, inl, inr, true, false, List, [], ◌∷◌, ◌++◌, map, refl, ap, sym, subst, ◌∙◌, append_assoc, append-nil, true≢false, arith}
 use Rattle.std.specs.Prelude.{All, ◌&&◌, if◌then◌else◌}
+use Rattle.std.specs.List.{flat_map}
 use Rattle.std.proofs.lemmas.List.{map-append}
+use Rattle.std.proofs.lemmas.List.Elements.{Contains-append_cases}
 use Rattle.std.proofs.lemmas.List.Sums.{sum_by-append}
-use Rattle.ext_history.proofs.Lists.{bools}
+use Rattle.ext_history.proofs.Lists.{bools, contains_none}
 use Rattle.ext_tree.specs.Trees.{IsPathOf}
 use Rattle.ext_tree.proofs.Walks.{one_path}
 use Rattle.ext_lifecycle.specs.declared.call.Call.{Call}
@@ -11,7 +13,7 @@ use Rattle.ext_lifecycle.specs.declared.outcome.Outcome.{Outcome}
 use Rattle.ext_lifecycle.specs.Endings.{all_successful, is_successful, with_fault}
 use Rattle.ext_lifecycle.specs.FaultTexts.{fault_text}
 use Rattle.ext_lifecycle.specs.Lifecycle.{MakesAll, MakesBefores, ending_of, endings_of}
-use Rattle.ext_plan.specs.Plans.{PlanText}
+use Rattle.ext_plan.specs.Plans.{KeyText, PlanText, StepText}
 use Rattle.ext_plan.specs.PlanCalls.{steps_of_call}
 use Rattle.ext_store.specs.Stores.{IsLaneOf}
 use Rattle.ext_engine.specs.Order.{LaneGoesOn}
@@ -28,13 +30,13 @@ use Rattle.ext_one_report.proofs.MatchingWords.{Places, RunView}
 use Rattle.ext_one_report.proofs.Calls.{all_first, all_later, steps_faults, steps_go, steps_lane, steps_memory, told_so}
 use Rattle.ext_one_report.proofs.CallLists.{all_go, befores_go, if_made, successful_more}
 use Rattle.ext_one_report.specs.Shares.{Open}
-use Rattle.ext_one_report.proofs.Open.{also, still_open}
+use Rattle.ext_one_report.proofs.Open.{ComputesOpen, also, still_open}
 use Rattle.ext_one_report.proofs.OpenSteps.{AreBesideOpen}
-use Rattle.ext_one_report.proofs.OpenCalls.{CallFitsOpen, CallsNear, LeavesNear, AllCallsEndNear, BeforesEndNear}
-use Rattle.ext_one_report.proofs.OpenFits.{fits_later}
-use Rattle.ext_one_report.proofs.OpenGoing.{beside_first, beside_later, left_then}
+use Rattle.ext_one_report.proofs.OpenCalls.{AllCallsEndNear, BeforesEndNear, BeforesFit, CallFitsOpen, CallsNear, LeavesNear, NoneOpen}
+use Rattle.ext_one_report.proofs.OpenFits.{fits_later, still_twice}
+use Rattle.ext_one_report.proofs.OpenGoing.{beside_first, beside_later, left_then, then_settled}
 use Rattle.ext_one_report.proofs.OpenEnds.{Near}
-use Rattle.ext_one_report.proofs.OpenLists.{left_itself, steps_near}
+use Rattle.ext_one_report.proofs.OpenLists.{StepsNear, computes_before, left_itself, steps_near}
 
 -- ---- whether all were successful
 
@@ -66,6 +68,18 @@ more_near os o e end near one =
 joined : (os rest all : List Outcome) (o : Outcome) → all ≡ o ∷ rest → (os ++ o ∷ []) ++ rest ≡ os ++ all
 joined os rest all o is = append_assoc os (o ∷ []) rest ∙ ap (λ l. os ++ l) (sym is)
 
+-- what some steps and others compute is settled where both are
+none_both : (keys : List KeyText) (path : List ℕ) (open_at : Open) (first second : Places) (steps more : List StepText) → NoneOpen keys path (still_open first open_at) steps
+    → NoneOpen keys path (still_open second (still_open first open_at)) more → NoneOpen keys path (still_open (also second first) open_at) (steps ++ more)
+none_both keys path open_at first second steps more none others = record {
+  none = λ step there computes.
+      let twice = subst (λ (o : Open). ComputesOpen keys path o step) (sym (still_twice open_at first second)) computes in
+      elim (Contains-append_cases steps more step there) [
+        | inl early ↦ none.none step early (computes_before keys path (still_open first open_at) second step twice)
+        | inr late ↦ others.none step late twice
+      ];
+}
+
 module _ (run : RunView) (plan : PlanText) (node : ℕ) (path : List ℕ) (path_is : IsPathOf run.store.tree node path) where
   -- no call was made
   pub none_near : (os rest : List Outcome) (places : Places) (open_at : Open) (a b c : PlanLane) (e : CallsEnd) → rest ≡ [] → b ≡ a → CallsNear os e → AreBesideOpen run path places open_at a c e.state
@@ -86,7 +100,7 @@ module _ (run : RunView) (plan : PlanText) (node : ℕ) (path : List ℕ) (path_
   module _ (call : Call) (places : Places) (open_at : Open) (a : PlanLane) (o : Outcome) (m b : PlanLane) (s : ValueState) (made : Makes plan run.store node a call o m) (further : LaneGoesOn m b)
       (both : AreBesideOpen run path places open_at a b s) where
     one_near : CallFitsOpen run plan path places open_at call → All (StepFinds plan.keys o) (steps_of_call plan call) → StepsHaveRoom plan.keys path (steps_of_call plan call) s
-        → Near run places open_at a s o m (call_run plan path call s)
+        → StepsNear run plan.keys path (steps_of_call plan call) places open_at a s o m (call_run plan path call s)
     one_near fits finds room =
         let same : made.path ≡ path = one_path run.store.tree both.tree node made.path path made.path_is path_is in
         steps_near run plan.keys path (steps_of_call plan call) places open_at a o m s (beside_first run path places open_at a m b s further both) fits.0 fits.1 finds room
@@ -110,6 +124,11 @@ module _ (run : RunView) (plan : PlanText) (node : ℕ) (path : List ℕ) (path_
         faults = rest.faults ∙ steps_faults plan.keys path (steps_of_call plan call) s;
       }
 
+      left_settled : (os : List Outcome) (e : CallsEnd) (rest : Calls run (also settled places) (still_open settled open_at) m (call_run plan path call s).state os b e)
+          → (both_left os e rest).left.settled ≡ also rest.left.settled settled
+      unfolding both_left
+      left_settled os e rest = then_settled run path places open_at a m b s (call_run plan path call s).state both (call_goes call a o m made) further e.state one.left rest.left
+
   pub fit_later : (calls : List Call) (places : Places) (open_at : Open) (settled : Places) (a b : PlanLane) (s : ValueState) → AreBesideOpen run path places open_at a b s
       → All (CallFitsOpen run plan path places open_at) calls → All (CallFitsOpen run plan path (also settled places) (still_open settled open_at)) calls
   fit_later calls places open_at settled a b s both fits = λ n d within.
@@ -128,7 +147,7 @@ module _ (run : RunView) (plan : PlanText) (node : ℕ) (path : List ℕ) (path_
       let end = call_run plan path call e.state in
       let further = all_go run plan node path places path_is calls m made.1 b made.5 in
       let found : CallsFind plan (call ∷ calls) (o ∷ made.1) = subst (CallsFind plan (call ∷ calls)) made.3 finds in
-      let one = one_near call places open_at a o m b e.state made.4 further both (all_first (CallFitsOpen run plan path places open_at) call calls fits) found.0 room.0 in
+      let one = (one_near call places open_at a o m b e.state made.4 further both (all_first (CallFitsOpen run plan path places open_at) call calls fits) found.0 room.0).near in
       let fit = fit_later calls places open_at one.left.settled a b e.state both (all_later (CallFitsOpen run plan path places open_at) call calls fits) in
       let rest = all_near calls (done ++ o ∷ []) _ _ m made.1 b (and_call e end) (more_near done o e end near one)
       (both_later call places open_at a o m b e.state made.4 further both one) fit found.1 room.1 made.5 in
@@ -137,42 +156,61 @@ module _ (run : RunView) (plan : PlanText) (node : ℕ) (path : List ℕ) (path_
 
   -- ---- calls up to the first that is not successful
 
+  -- Such calls end near, and where all are successful all whose values they compute are settled
+  pub record BeforesNear (calls : List Call) (places : Places) (open_at : Open) (a : PlanLane) (s : ValueState) (os : List Outcome) (b : PlanLane) (e : CallsEnd) : Type 0 where
+    pub ends : Calls run places open_at a s os b e
+    pub settles : all_successful e.calls ≡ true → NoneOpen plan.keys path (still_open ends.left.settled open_at) (flat_map (steps_of_call plan) calls)
+
   pub befores_near : (calls : List Call) (done : List Outcome) (places : Places) (open_at : Open) (a : PlanLane) (os : List Outcome) (b : PlanLane) (e : CallsEnd) → all_successful e.calls ≡ true
-      → CallsNear done e → AreBesideOpen run path places open_at a b e.state → All (CallFitsOpen run plan path places open_at) calls → CallsFind plan calls os
-      → BeforesHaveRoom plan path calls e.state → MakesBefores (Makes plan run.store node) calls a os b → Calls run places open_at a e.state (done ++ os) b (make_befores (call_run plan path) calls e)
-  befores_near [] done places open_at a os b e all near both fits finds room made = none_near done os places open_at a b b e made.0 made.1 near both
+      → CallsNear done e → AreBesideOpen run path places open_at a b e.state → BeforesFit run plan path places open_at calls → CallsFind plan calls os
+      → BeforesHaveRoom plan path calls e.state → MakesBefores (Makes plan run.store node) calls a os b → BeforesNear calls places open_at a e.state (done ++ os) b (make_befores (call_run plan path) calls e)
+  befores_near [] done places open_at a os b e all near both fits finds room made = record {
+    ends = none_near done os places open_at a b b e made.0 made.1 near both;
+    settles = λ good. record { none = λ step there computes. contains_none step there };
+  }
   befores_near (call ∷ calls) done places open_at a os b e all near both fits finds room made =
       let o = made.0 in
       let m = made.2 in
       let end = call_run plan path call e.state in
       let found : CallsFind plan (call ∷ calls) (o ∷ made.1) = subst (CallsFind plan (call ∷ calls)) made.3 finds in
-      let fits_one = all_first (CallFitsOpen run plan path places open_at) call calls fits in
       let first : make_befores (call_run plan path) (call ∷ calls) e ≡ make_befores (call_run plan path) calls (and_call e end) = ap (make_befores (call_run plan path) calls) (if_made (call_run plan path) e call all) in
       let good : all_successful (and_call e end).calls ≡ is_successful end.verdict = successful_more e.calls end.verdict ∙ ap (λ b. b && is_successful end.verdict) all in
       elim (bools (is_successful (ending_of o.verdict))) [
         | inl on ↦
             let further = befores_go run plan node path places path_is calls m made.1 b (made.5.0 on) in
-            let one = one_near call places open_at a o m b e.state made.4 further both fits_one found.0 room.0 in
+            let its = one_near call places open_at a o m b e.state made.4 further both fits.0 found.0 room.0 in
+            let one = its.near in
             let passed : is_successful end.verdict ≡ true = ap is_successful (sym one.says) ∙ (told_so o.verdict ∙ on) in
-            let fit = fit_later calls places open_at one.left.settled a b e.state both (all_later (CallFitsOpen run plan path places open_at) call calls fits) in
+            let fit = fits.1 one.left.settled (record { were_open = one.left.were_open; none_left = its.settles on }) in
             let rest = befores_near calls (done ++ o ∷ []) _ _ m made.1 b (and_call e end) (good ∙ passed) (more_near done o e end near one)
             (both_later call places open_at a o m b e.state made.4 further both one) fit found.1 (room.1 passed) (made.5.0 on) in
-            subst (λ x. Calls run places open_at a e.state (done ++ os) b x) (sym first)
-            (subst (λ l. Calls run places open_at a e.state l b (make_befores (call_run plan path) calls (and_call e end))) (joined done made.1 os o made.3)
-            (both_left call places open_at a o m b e.state made.4 further both one _ _ rest))
+            let ends = both_left call places open_at a o m b e.state made.4 further both one _ _ rest.ends in
+            let are = left_settled call places open_at a o m b e.state made.4 further both one _ _ rest.ends in
+            let joins : BeforesNear (call ∷ calls) places open_at a e.state ((done ++ o ∷ []) ++ made.1) b (make_befores (call_run plan path) calls (and_call e end)) = record {
+              ends = ends;
+              settles = λ fine.
+                  subst (λ (p : Places). NoneOpen plan.keys path (still_open p open_at) (flat_map (steps_of_call plan) (call ∷ calls))) (sym are)
+                  (none_both plan.keys path open_at one.left.settled rest.ends.left.settled (steps_of_call plan call) (flat_map (steps_of_call plan) calls) (its.settles on) (rest.settles fine));
+            } in
+            subst (λ x. BeforesNear (call ∷ calls) places open_at a e.state (done ++ os) b x) (sym first)
+            (subst (λ l. BeforesNear (call ∷ calls) places open_at a e.state l b (make_befores (call_run plan path) calls (and_call e end))) (joined done made.1 os o made.3) joins)
         | inr off ↦
             let none = made.5.1 off in
             let further : LaneGoesOn m b = subst (λ (x : PlanLane). LaneGoesOn m x) (sym none.1) (goes_same m) in
-            let one = one_near call places open_at a o m b e.state made.4 further both fits_one found.0 room.0 in
+            let one = (one_near call places open_at a o m b e.state made.4 further both fits.0 found.0 room.0).near in
             let ended : is_successful end.verdict ≡ false = ap is_successful (sym one.says) ∙ (told_so o.verdict ∙ off) in
             let last = none_near (done ++ o ∷ []) made.1 _ _ m b b (and_call e end) none.0 none.1 (more_near done o e end near one) (both_later call places open_at a o m b e.state made.4 further both one) in
-            subst (λ x. Calls run places open_at a e.state (done ++ os) b x) (sym (first ∙ stays_ended (call_run plan path) calls (and_call e end) (good ∙ ended)))
-            (subst (λ l. Calls run places open_at a e.state l b (and_call e end)) (joined done made.1 os o made.3) (both_left call places open_at a o m b e.state made.4 further both one _ _ last))
+            let stops : BeforesNear (call ∷ calls) places open_at a e.state ((done ++ o ∷ []) ++ made.1) b (and_call e end) = record {
+              ends = both_left call places open_at a o m b e.state made.4 further both one _ _ last;
+              settles = λ fine. absurd (true≢false (sym fine ∙ (good ∙ ended)));
+            } in
+            subst (λ x. BeforesNear (call ∷ calls) places open_at a e.state (done ++ os) b x) (sym (first ∙ stays_ended (call_run plan path) calls (and_call e end) (good ∙ ended)))
+            (subst (λ l. BeforesNear (call ∷ calls) places open_at a e.state l b (and_call e end)) (joined done made.1 os o made.3) stops)
       ]
 
   pub befores_first : (calls : List Call) (places : Places) (open_at : Open) (a : PlanLane) (os : List Outcome) (b : PlanLane) (s : ValueState)
-      → AreBesideOpen run path places open_at a b s → All (CallFitsOpen run plan path places open_at) calls → CallsFind plan calls os
-      → BeforesHaveRoom plan path calls s → MakesBefores (Makes plan run.store node) calls a os b → Calls run places open_at a s os b (make_befores (call_run plan path) calls (no_calls s))
+      → AreBesideOpen run path places open_at a b s → BeforesFit run plan path places open_at calls → CallsFind plan calls os
+      → BeforesHaveRoom plan path calls s → MakesBefores (Makes plan run.store node) calls a os b → BeforesNear calls places open_at a s os b (make_befores (call_run plan path) calls (no_calls s))
   befores_first calls places open_at a os b s both fits finds room made =
       befores_near calls [] places open_at a os b (no_calls s) refl (record { says = refl; counts = refl }) both fits finds room made
 
@@ -184,4 +222,4 @@ all_calls_end_near = λ run plan node path places open_at calls done a os b e pa
 
 pub befores_end_near : BeforesEndNear
 befores_end_near = λ run plan node path places open_at calls a os b s path_is both fits finds room made.
-    let all = befores_first run plan node path path_is calls places open_at a os b s both fits finds room made in (all.near, all.left)
+    let all = (befores_first run plan node path path_is calls places open_at a os b s both fits finds room made).ends in (all.near, all.left)

@@ -1,6 +1,7 @@
 -- The steps of a call, the calls of a node and all calls of a test, where some of them compute values at open places: on a lane, and in a plain run.
 -- JUnit 5 User Guide, "Relative Execution Order of User Code and Extensions"; Javadoc `ExtensionContext.Store`, `getOrComputeIfAbsent`.
 use Rattle.std.specs.Prelude.{ℕ, ◌≡◌, ◌≢◌, ◌+◌, ◌⊎◌, ◌++◌, true, false, nat_eq, List, [], ◌∷◌, All, Contains, Some, length, map, drop}
+use Rattle.std.specs.List.{flat_map}
 use Rattle.ext_history.specs.Histories.{seen_by}
 use Rattle.ext_model.specs.declared.event.Event.{Event}
 use Rattle.ext_model.specs.Events.{is_on}
@@ -27,7 +28,7 @@ use Rattle.ext_one_report.proofs.CallListsWords.{BeforesHaveRoom, CallsFind, Cal
 use Rattle.ext_one_report.proofs.CallsWords.{StepWithin}
 use Rattle.ext_one_report.proofs.MatchingWords.{HasNumberIn, IsNumbered, Matches, Places, RunView, cell_of, plain_slot}
 use Rattle.ext_one_report.proofs.TestCallsWords.{MakesTest, TestFinds, TestHasRoom, afters_round, befores_round, plain_test}
-use Rattle.ext_one_report.proofs.Open.{AreNear, AreOpenBeside, ComputesOpen, also, place_of_step, still_open}
+use Rattle.ext_one_report.proofs.Open.{AreNear, ComputesOpen, also, place_of_step, still_open}
 use Rattle.ext_one_report.specs.Shares.{Open}
 use Rattle.ext_one_report.proofs.OpenSteps.{AreBesideOpen, StandsInBoth}
 
@@ -49,12 +50,26 @@ StepsFit run keys path places open_at (step ∷ more) =
 abbrev pub CallFitsOpen : RunView → PlanText → List ℕ → Places → Open → Call → Type 0
 CallFitsOpen run plan path places open_at call = StayOnPath (length path) (steps_of_call plan call) × StepsFit run plan.keys path places open_at (steps_of_call plan call)
 
--- what fits goes on to fit where more places are settled: a step that would compute the value of a settled place is one that looks up among the places
-abbrev pub StepsFitLater : Type 0
-StepsFitLater =
-    (run : RunView) (keys : List KeyText) (path : List ℕ) (places : Places) (open_at : Open) (settled : Places) (steps : List StepText)
-    → AreOpenBeside run places open_at → IsPathOf run.store.tree (start_of path) path
-    → StepsFit run keys path places open_at steps → StepsFit run keys path (also settled places) (still_open settled open_at) steps
+-- none of the steps computes the value of an open place
+pub record NoneOpen (keys : List KeyText) (path : List ℕ) (open_at : Open) (steps : List StepText) : Type 0 where
+  pub none : (step : StepText) → Contains steps step → ComputesOpen keys path open_at step → ⊥
+
+-- of the open places these are settled, and so are all whose values the steps compute
+pub record AreSettled (keys : List KeyText) (path : List ℕ) (open_at : Open) (settled : Places) (steps : List StepText) : Type 0 where
+  pub were_open : (context : ℕ) (key : KeyValue) → settled context key ≡ true → (v : ValueText) × (open_at context key ≡ Some v)
+  pub none_left : NoneOpen keys path (still_open settled open_at) steps
+
+-- Calls that are made up to the first that is not successful: each fits where all is settled that those before it compute
+abbrev pub BeforesFit : RunView → PlanText → List ℕ → Places → Open → List Call → Type 0
+BeforesFit run plan path places open_at [] = Unit {0}
+BeforesFit run plan path places open_at (call ∷ calls) =
+    CallFitsOpen run plan path places open_at call
+    × ((settled : Places) → AreSettled plan.keys path open_at settled (steps_of_call plan call) → BeforesFit run plan path (also settled places) (still_open settled open_at) calls)
+
+-- and so does a call that is made where all of them are successful
+abbrev pub FitsBehind : RunView → PlanText → List ℕ → Places → Open → List Call → Call → Type 0
+FitsBehind run plan path places open_at befores call =
+    (settled : Places) → AreSettled plan.keys path open_at settled (flat_map (steps_of_call plan) befores) → CallFitsOpen run plan path (also settled places) (still_open settled open_at) call
 
 -- ---- how calls end
 
@@ -91,7 +106,7 @@ abbrev pub BeforesEndNear : Type 0
 BeforesEndNear =
     (run : RunView) (plan : PlanText) (node : ℕ) (path : List ℕ) (places : Places) (open_at : Open) (calls : List Call)
     (before : PlanLane) (outcomes : List Outcome) (after : PlanLane) (s : ValueState)
-    → IsPathOf run.store.tree node path → AreBesideOpen run path places open_at before after s → All (CallFitsOpen run plan path places open_at) calls → CallsFind plan calls outcomes
+    → IsPathOf run.store.tree node path → AreBesideOpen run path places open_at before after s → BeforesFit run plan path places open_at calls → CallsFind plan calls outcomes
     → BeforesHaveRoom plan path calls s → MakesBefores (Makes plan run.store node) calls before outcomes after
     → CallsNear outcomes (make_befores (call_run plan path) calls (no_calls s)) × LeavesNear run places open_at before s after (make_befores (call_run plan path) calls (no_calls s)).state
 
@@ -100,6 +115,7 @@ abbrev pub TestEndsNear : Type 0
 TestEndsNear =
     (run : RunView) (plan : PlanText) (node : ℕ) (path : List ℕ) (places : Places) (open_at : Open) (before : PlanLane) (outcomes : List Outcome) (after : PlanLane) (s : ValueState)
     → IsPathOf run.store.tree node path → AreBesideOpen run path places open_at before after s
-    → All (CallFitsOpen run plan path places open_at) (befores_round plan node path ++ test_call node ∷ afters_round plan node path) → TestHasRoom plan node path s
+    → BeforesFit run plan path places open_at (befores_round plan node path) → FitsBehind run plan path places open_at (befores_round plan node path) (test_call node)
+    → All (CallFitsOpen run plan path places open_at) (afters_round plan node path) → TestHasRoom plan node path s
     → (made : MakesTest plan node path run.store before outcomes after) → TestFinds plan node path run.store before outcomes after made
     → CallsNear outcomes (plain_test plan node path s) × LeavesNear run places open_at before s after (plain_test plan node path s).state

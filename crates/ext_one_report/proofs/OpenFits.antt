@@ -19,7 +19,7 @@ use Rattle.ext_one_report.proofs.MatchingWords.{Places, RunView}
 use Rattle.ext_one_report.proofs.StepsWords.{LooksWithin, TouchesWithin}
 use Rattle.ext_one_report.proofs.Open.{AreOpenBeside, ComputesOpen, also, at_place, place_of_step, still_open}
 use Rattle.ext_one_report.specs.Shares.{Open}
-use Rattle.ext_one_report.proofs.OpenCalls.{LeavesAbove, StepsFit, StepsFitLater}
+use Rattle.ext_one_report.proofs.OpenCalls.{LeavesAbove, StepsFit}
 use Rattle.ext_one_report.proofs.WordCases.{computes_all}
 
 -- ---- places that are settled
@@ -191,6 +191,7 @@ module _ (run : RunView) (keys : List KeyText) (path : List ℕ) where
   fits_same : (places other : Places) (open_at also_open : Open) (steps : List StepText) → places ≡ other → open_at ≡ also_open → StepsFit run keys path places open_at steps → StepsFit run keys path other also_open steps
   fits_same places other open_at also_open steps same alike fits = subst (λ x. StepsFit run keys path x also_open steps) same (subst (λ x. StepsFit run keys path places x steps) alike fits)
 
+  -- what fits goes on to fit where more places are settled: a step that would compute the value of a settled place is one that looks up among the places
   pub fits_later : (on_path : IsPathOf run.store.tree (start_of path) path) (steps : List StepText) (places : Places) (open_at : Open) (settled : Places) → AreOpenBeside run places open_at
       → StepsFit run keys path places open_at steps → StepsFit run keys path (also settled places) (still_open settled open_at) steps
   fits_later on_path [] places open_at settled beside fits = tt
@@ -221,8 +222,3 @@ module _ (run : RunView) (keys : List KeyText) (path : List ℕ) where
           fits_same _ _ _ _ more (λ i c k. or_swap (places c k) (at c k) (settled c k) i) (λ i c k. open_swap (settled c k) (at c k) (open_at c k) i) later,
         )
       ]
-
--- ---- as the lemmas on nodes want it
-
-pub steps_fit_later : StepsFitLater
-steps_fit_later = λ run keys path places open_at settled steps beside on_path fits. fits_later run keys path on_path steps places open_at settled beside fits

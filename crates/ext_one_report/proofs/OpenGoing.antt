@@ -209,3 +209,7 @@ module _ (run : RunView) (path : List ℕ) (places : Places) (open_at : Open) (a
               | inl early ↦ one.untouched c k n v apart.0 opened has goes.seen.0 (sym goes.seen.1) e early on
               | inr late ↦ λ own. two.untouched c k n v apart.1 (opens (first c k) (open_at c k) v apart.0 opened) has further.seen.0 (sym further.seen.1) e late on (own ∙ sym goes.number)
             ]
+
+    pub then_settled : left_then.settled ≡ also second first
+    unfolding left_then
+    then_settled = refl

@@ -1,23 +1,25 @@
 -- Which places nodes share with nodes beside them, where all of them compute the same value: of a plan in which nodes that may run beside one another touch a place that one of them may
 -- change only so.
 -- Javadoc `ExtensionContext.Store`, `getOrComputeIfAbsent`; what a step touches, and when two touches agree, are definitions of [ext_races].
-use Rattle.std.specs.Prelude.{ℕ, ◌≡◌, ◌≢◌, Bool, true, false, List, ◌∷◌, drop, All, Contains, Option, Some, None}
+use Rattle.std.specs.Prelude.{ℕ, ◌≡◌, ◌≢◌, Bool, true, false, List, [], ◌∷◌, ◌++◌, drop, All, Contains, Option, Some, None}
+use Rattle.std.specs.List.{flat_map}
 use Rattle.ext_tree.specs.Keys.{KeyValue}
 use Rattle.ext_tree.specs.Trees.{IsParentOf, IsPathOf}
 use Rattle.ext_lifecycle.specs.declared.call.Call.{Call}
+use Rattle.ext_lifecycle.specs.Callbacks.{test_call}
 use Rattle.ext_plan.specs.Plans.{PlanText, StepKeyText, StepText}
 use Rattle.ext_plan.specs.PlanCalls.{concurrent_of, steps_of_call}
 use Rattle.ext_plan.specs.ReadPlans.{ids_of_nodes}
 use Rattle.ext_plan.specs.StepCalls.{start_of}
 use Rattle.ext_plan.specs.StoreKeys.{key_of_step}
 use Rattle.ext_plan.specs.Values.{ValueText}
-use Rattle.ext_races.specs.MadeSteps.{calls_of}
+use Rattle.ext_races.specs.MadeSteps.{calls_after, calls_before, calls_of}
 use Rattle.ext_one_report.proofs.PlanCells.{changed_by}
 use Rattle.ext_one_report.proofs.MatchingWords.{Places, RunView}
 use Rattle.ext_one_report.specs.Within.{is_within}
 use Rattle.ext_one_report.proofs.Open.{ComputesOpen}
 use Rattle.ext_one_report.specs.Shares.{Open}
-use Rattle.ext_one_report.proofs.OpenCalls.{CallFitsOpen}
+use Rattle.ext_one_report.proofs.OpenCalls.{CallFitsOpen, NoneOpen}
 
 -- ---- plans
 
@@ -44,9 +46,15 @@ module _ (plan : PlanText) (run : RunView) (touched changes : ℕ → Places) (s
     pub computes : (node : ℕ) (path : List ℕ) (call : Call) (step : StepText) (key : StepKeyText) (up : ℕ) (v : ValueText) → IsPathOf (ids_of_nodes plan.nodes) node path → Contains (calls_of plan node) call
         → Contains (steps_of_call plan call) step → changed_by step ≡ Some (key, up) → shares node (start_of (drop up path)) (key_of_step plan.keys key) ≡ Some v
         → ComputesOpen plan.keys path (shares node) step
-    -- and each step that looks at one of them comes behind one of its own call that computes it
-    pub calls : (node : ℕ) (path : List ℕ) (call : Call) → IsPathOf (ids_of_nodes plan.nodes) node path → Contains (calls_of plan node) call
-        → CallFitsOpen run plan path (unshared (touched node) (shares node)) (shares node) call
+    -- and each step that looks at one of them comes behind one that computes it, in its own call or in one before the body. So calls fit whichever of these places are open: those up to the body
+    -- where none is whose value the callbacks before them compute,
+    pub befores : (node : ℕ) (path : List ℕ) (before : List Call) (call : Call) (more : List Call) (open_at : Open) → IsPathOf (ids_of_nodes plan.nodes) node path
+        → calls_before plan node ++ test_call node ∷ [] ≡ before ++ call ∷ more
+        → ((context : ℕ) (key : KeyValue) (v : ValueText) → open_at context key ≡ Some v → shares node context key ≡ Some v) → NoneOpen plan.keys path open_at (flat_map (steps_of_call plan) before)
+        → CallFitsOpen run plan path (unshared (touched node) open_at) open_at call
+    -- and those after it
+    pub afters : (node : ℕ) (path : List ℕ) (call : Call) (open_at : Open) → IsPathOf (ids_of_nodes plan.nodes) node path → Contains (calls_after plan node) call
+        → ((context : ℕ) (key : KeyValue) (v : ValueText) → open_at context key ≡ Some v → shares node context key ≡ Some v) → CallFitsOpen run plan path (unshared (touched node) open_at) open_at call
     -- a child shares what its parent does, where it touches it
     pub below : (parent child context : ℕ) (key : KeyValue) (v : ValueText) → IsParentOf (ids_of_nodes plan.nodes) parent child → shares parent context key ≡ Some v → touched child context key ≡ true
         → shares child context key ≡ Some v

@@ -1,5 +1,5 @@
 -- The calls of nodes that share values: step by step, what a step touches is not shared or is settled by a compute before it, or the step computes the value itself.
-use Rattle.std.proofs.Common.{◌≡◌, ◌<◌, ◌≤◌, ◌⊎◌, ℕ, Bool, true, false, List, [], ◌∷◌, ◌++◌, length, get_or, Contains, drop, Option, Some, None, refl, ap, sym, subst, ◌∙◌, inl, inr, append_assoc}
+use Rattle.std.proofs.Common.{◌≡◌, ◌<◌, ◌≤◌, ◌⊎◌, ℕ, Bool, true, false, List, [], ◌∷◌, ◌++◌, length, get_or, Contains, drop, Option, Some, None, refl, ap, sym, subst, ◌∙◌, inl, inr, append_assoc, append-nil}
 use Rattle.std.specs.Prelude.{if◌then◌else◌}
 use Rattle.std.proofs.lemmas.Bool.{cases_Bool, or_left, or_right, true≢false}
 use Rattle.std.proofs.lemmas.List.Elements.{All-contains, Contains-append_right, Contains-push_cases}
@@ -28,12 +28,13 @@ use Rattle.ext_one_report.proofs.CoveredTouches.{contains_drop, kept_or_computed
 use Rattle.ext_one_report.proofs.Open.{ComputesOpen, also, at_place, place_of_step, still_open}
 use Rattle.ext_one_report.specs.Shares.{Open, shares_in}
 use Rattle.ext_races.specs.OneReports.{SharesValues}
-use Rattle.ext_one_report.proofs.OpenCalls.{CallFitsOpen, LeavesAbove, StepsFit}
+use Rattle.ext_one_report.proofs.OpenCalls.{CallFitsOpen, LeavesAbove, NoneOpen, StepsFit}
 use Rattle.ext_one_report.proofs.OpenFits.{at_itself}
 use Rattle.ext_one_report.proofs.Shared.{unshared}
-use Rattle.ext_one_report.proofs.SharedNodes.{some_or_none, still_is_unshared, unshared_is}
+use Rattle.ext_one_report.proofs.SharedNodes.{some_or_none, still_is_unshared, touched_there, unshared_is}
+use Rattle.ext_one_report.proofs.SharedNodesPlaces as open_places
 use Rattle.ext_one_report.proofs.SharedSteps.{acts_there, computes_there, from_start, goes_up, leaves_above, path_is, within}
-use Rattle.ext_one_report.proofs.SharedTouches.{changes_there, looked_above, touches_there}
+use Rattle.ext_one_report.proofs.SharedTouches.{IsMadeBehind, changes_there, looked_above, touches_there}
 use Rattle.ext_one_report.proofs.WordCases.{computes_all, still_looks}
 
 -- ---- places
@@ -57,8 +58,11 @@ still_changes word still gives = true≢false (sym (computes_all word gives).0 �
 one_act : (act other : ActText) → Some act ≡ Some other → act ≡ other
 one_act act other e = cc e
 
+-- A call of a node whose steps come behind those of other calls, where some of the places that the node shares are open, but none whose value those before compute
 module _ (plan : PlanText) (read : IsReadPlan plan) (shares : SharesValues plan) (run : RunView) (tree : run.store.tree ≡ ids_of_nodes plan.nodes)
-    (node : ℕ) (call : Call) (less : node < length (ids_of_nodes plan.nodes)) (among : Contains (calls_of plan node) call) where
+    (node : ℕ) (call : Call) (less : node < length (ids_of_nodes plan.nodes)) (among : Contains (calls_of plan node) call) (earlier : List StepText) (is_behind : IsMadeBehind plan node call earlier)
+    (opened : Open) (open_is : (context : ℕ) (key : KeyValue) (v : ValueText) → opened context key ≡ Some v → shares_in plan node context key ≡ Some v)
+    (none_before : NoneOpen plan.keys (plan_path plan node) opened earlier) where
   abbrev path : List ℕ
   path = plan_path plan node
 
@@ -89,19 +93,38 @@ module _ (plan : PlanText) (read : IsReadPlan plan) (shares : SharesValues plan)
       } in
       unshared_is plan node context key (touched_by plan node context key one) (still_is_unshared plan read shares node context key false one refl)
 
-  -- nor is the place that it changes, where this is not shared
-  acts_alone : (act : ActText) → Contains (steps_of_call plan call) (step_of act) → changes act.word ≡ true → shared (start act) (key_of act) ≡ None → alone (start act) (key_of act) ≡ true
-  acts_alone act there changing none =
+  -- the place that a step of the node changes is touched,
+  acts_touched : (one : Call) → Contains (calls_of plan node) one → (act : ActText) → Contains (steps_of_call plan one) (step_of act) → changes act.word ≡ true → touched_in plan node (start act) (key_of act) ≡ true
+  acts_touched one own act there changing =
       let key = key_of act in
-      let one : IsTouchedBelow plan node (start act) key false = record {
+      let is : IsTouchedBelow plan node (start act) key false = record {
         touch = touch_of node (place_of_key (keys_named plan) key) act (changes act.word) (start act);
-        made = acts_there plan read shares node call less among act there changing;
+        made = acts_there plan read shares node one less own act there changing;
         below = within_itself plan read node (within plan read shares node call less among);
         context_is = refl;
         key_is = refl;
         changes = λ told. absurd cc;
       } in
-      unshared_is plan node (start act) key (touched_by plan node (start act) key one) none
+      touched_by plan node (start act) key is
+
+  -- and where it is not shared it is among the others
+  acts_alone : (act : ActText) → Contains (steps_of_call plan call) (step_of act) → changes act.word ≡ true → shared (start act) (key_of act) ≡ None → alone (start act) (key_of act) ≡ true
+  acts_alone act there changing none = unshared_is plan node (start act) (key_of act) (acts_touched call among act there changing) none
+
+  -- where its place is settled, such a step that looks up does so among the places
+  changing_looks : (one : Call) → Contains (calls_of plan node) one → (act : ActText) → Contains (steps_of_call plan one) (step_of act) → changes act.word ≡ true → looks_along act.word ≡ true → (settled : Places)
+      → ((context : ℕ) (key : KeyValue) → alone context key ≡ true → settled context key ≡ true) → settled (start act) (key_of act) ≡ true → LooksWithin plan.keys (plan_path plan node) settled act.key act.up
+  changing_looks one own act there changing looks settled has here =
+      let key = key_of act in
+      let number = place_of_key (keys_named plan) key in
+      let rest = from_start (drop act.up path) (goes_up plan read shares node one less own act there) in
+      all_contained (λ c. settled c key ≡ true) (drop act.up path) (λ c held. elim (contains_cases (start act) c rest.0 (subst (λ p. Contains p c) rest.1 held)) [
+        | inl same ↦ subst (λ x. settled x key ≡ true) same here
+        | inr later ↦
+            let touch = touch_of node number act false c in
+            let along = subst (λ p. Contains (touches_along node number act p) touch) (sym rest.1) (looked_above node number act (start act) rest.0 c looks later) in
+            has c key (looked_alone c act (changes_there plan node one (within plan read shares node call less among) own act there changing touch along))
+      ])
 
   -- ---- what is so behind some steps of the call
 
@@ -125,37 +148,22 @@ module _ (plan : PlanText) (read : IsReadPlan plan) (shares : SharesValues plan)
   leaves : (step : StepText) → Contains (steps_of_call plan call) step → (front : List StepText) (places : Places) (open_at : Open) → AreBehind front places open_at → LeavesAbove run plan.keys (plan_path plan node) open_at step
   leaves step there front places open_at behind = leaves_above plan read shares node call less among run tree step there open_at behind.open_in
 
-  module _ (front : List StepText) (act : ActText) (more : List StepText) (whole : steps_of_call plan call ≡ front ++ step_of act ∷ more) (places : Places) (open_at : Open) (behind : AreBehind front places open_at)
+  module _ (front : List StepText) (act : ActText) (more : List StepText) (whole : steps_of_call plan call ≡ front ++ step_of act ∷ more) (places : Places) (open_at : Open) (behind : AreBehind (earlier ++ front) places open_at)
       (there : Contains (steps_of_call plan call) (step_of act)) where
-    -- a step that changes the place it acts on, and looks at those above
-    changing_looks : changes act.word ≡ true → looks_along act.word ≡ true → (settled : Places)
-        → ((context : ℕ) (key : KeyValue) → alone context key ≡ true → settled context key ≡ true) → settled (start act) (key_of act) ≡ true → LooksWithin plan.keys (plan_path plan node) settled act.key act.up
-    changing_looks changing looks settled has here =
-        let key = key_of act in
-        let number = place_of_key (keys_named plan) key in
-        let rest = from_start (drop act.up path) (goes_up plan read shares node call less among act there) in
-        all_contained (λ c. settled c key ≡ true) (drop act.up path) (λ c held. elim (contains_cases (start act) c rest.0 (subst (λ p. Contains p c) rest.1 held)) [
-          | inl same ↦ subst (λ x. settled x key ≡ true) same here
-          | inr later ↦
-              let touch = touch_of node number act false c in
-              let along = subst (λ p. Contains (touches_along node number act p) touch) (sym rest.1) (looked_above node number act (start act) rest.0 c looks later) in
-              has c key (looked_alone c act (changes_there plan node call (within plan read shares node call less among) among front act more whole changing touch along))
-        ])
-
     settles : changes act.word ≡ true → (settled : Places) → ((context : ℕ) (key : KeyValue) → alone context key ≡ true → settled context key ≡ true)
         → settled (start act) (key_of act) ≡ true → Settles settled (step_of act)
     settles changing settled has here = λ other is gives.
         let same = one_act act other (ap act_of is) in
         subst (λ (a : ActText). LooksWithin plan.keys path settled a.key a.up) same
-        (changing_looks changing (computes_all act.word (ap (λ (a : ActText). gives_value a.word) same ∙ gives)).1 settled has here)
+        (changing_looks call among act there changing (computes_all act.word (ap (λ (a : ActText). gives_value a.word) same ∙ gives)).1 settled has here)
 
     -- it is at a place where the same stands, or computes the value of an open one
     changing_fits : changes act.word ≡ true → Fits (step_of act) places open_at
     changing_fits changing =
         let key = key_of act in
         let stands : places (start act) key ≡ true → Fits (step_of act) places open_at = λ here. inl (
-          within_by plan.keys path places act.key act.up (looks_along act.word) (λ looks. changing_looks changing looks places behind.unshared_in here) (λ acts. here),
-          leaves (step_of act) there front places open_at behind,
+          within_by plan.keys path places act.key act.up (looks_along act.word) (λ looks. changing_looks call among act there changing looks places behind.unshared_in here) (λ acts. here),
+          leaves (step_of act) there (earlier ++ front) places open_at behind,
           settles changing places behind.unshared_in here,
         ) in
         elim (some_or_none (shared (start act) key)) [
@@ -171,24 +179,24 @@ module _ (plan : PlanText) (read : IsReadPlan plan) (shares : SharesValues plan)
           ]
         ]
 
-    -- a look-up is where nothing is shared, or behind a compute of its call
+    -- a look-up is where nothing is shared, or behind a compute
     looked_at : changes act.word ≡ false → looks_along act.word ≡ true → (at : ℕ) → act.up ≤ at → at < length (plan_path plan node)
         → places (get_or (plan_path plan node) at 0) (key_of act) ≡ true
     looked_at still looks at low inside =
         let key = key_of act in
         let number = place_of_key (keys_named plan) key in
         let c = get_or path at 0 in
-        elim (kept_or_computed plan.keys key front path at inside) [
+        elim (kept_or_computed plan.keys key (earlier ++ front) path at inside) [
           | inl kept ↦
-              let below = below_computes plan.keys key path front in
+              let below = below_computes plan.keys key path (earlier ++ front) in
               let touch = touch_of node number act false c in
               let held = subst (Contains (drop act.up below)) kept.1 (contains_drop act.up at below low kept.0) in
-              let along = subst (λ p. Contains (touches_along node number act (drop act.up p)) touch) (reach_below plan.keys front path act still) (looked_along node number act (drop act.up below) c still looks held) in
+              let along = subst (λ p. Contains (touches_along node number act (drop act.up p)) touch) (reach_below plan.keys (earlier ++ front) path act still) (looked_along node number act (drop act.up below) c still looks held) in
               behind.unshared_in c key
-              (looked_alone c act (touches_there plan node call (within plan read shares node call less among) among front act more whole touch along))
+              (looked_alone c act (touches_there plan node call earlier is_behind front act more whole touch along))
           | inr computed ↦
               let one = computed.2 in
-              let all = behind.looked one.one (subst (Contains front) (step_is computed.0 one.one one.is) computed.1) one.gives in
+              let all = behind.looked one.one (subst (Contains (earlier ++ front)) (step_is computed.0 one.one one.is) computed.1) one.gives in
               subst (λ k. places c k ≡ true) one.same
               (All-contains (λ x. places x (key_of_step plan.keys one.one.key) ≡ true) (drop one.one.up path) c all (contains_drop one.one.up at path one.low inside))
         ]
@@ -197,13 +205,13 @@ module _ (plan : PlanText) (read : IsReadPlan plan) (shares : SharesValues plan)
     looking_fits still =
         let looks = still_looks act.word still in inl (
           subst (λ (b : Bool). TouchesWithin b plan.keys path places act.key act.up) (sym looks) (from_drop (λ c. places c (key_of act) ≡ true) act.up path (looked_at still looks)),
-          leaves (step_of act) there front places open_at behind,
+          leaves (step_of act) there (earlier ++ front) places open_at behind,
           λ other is gives. absurd (still_changes act.word still (ap (λ (a : ActText). gives_value a.word) (one_act act other (ap act_of is)) ∙ gives)),
         )
 
   -- ---- each step, by its form
 
-  fits : (front : List StepText) (step : StepText) (more : List StepText) (whole : steps_of_call plan call ≡ front ++ step ∷ more) (places : Places) (open_at : Open) (behind : AreBehind front places open_at)
+  fits : (front : List StepText) (step : StepText) (more : List StepText) (whole : steps_of_call plan call ≡ front ++ step ∷ more) (places : Places) (open_at : Open) (behind : AreBehind (earlier ++ front) places open_at)
       (there : Contains (steps_of_call plan call) step) → Fits step places open_at
   fits front (keyed word key text up) more whole places open_at behind there =
       let act = an_act word key text up in
@@ -211,8 +219,8 @@ module _ (plan : PlanText) (read : IsReadPlan plan) (shares : SharesValues plan)
         | inl changing ↦ changing_fits front act more whole places open_at behind there changing
         | inr still ↦ looking_fits front act more whole places open_at behind there still
       ]
-  fits front (fail text) more whole places open_at behind there = inl (tt, leaves (fail text) there front places open_at behind, λ act is gives. absurd (cc is))
-  fits front (abort text) more whole places open_at behind there = inl (tt, leaves (abort text) there front places open_at behind, λ act is gives. absurd (cc is))
+  fits front (fail text) more whole places open_at behind there = inl (tt, leaves (fail text) there (earlier ++ front) places open_at behind, λ act is gives. absurd (cc is))
+  fits front (abort text) more whole places open_at behind there = inl (tt, leaves (abort text) there (earlier ++ front) places open_at behind, λ act is gives. absurd (cc is))
 
   -- ---- one step after another
 
@@ -248,25 +256,69 @@ module _ (plan : PlanText) (read : IsReadPlan plan) (shares : SharesValues plan)
     ];
   }
 
-  all_fit : (front steps : List StepText) → steps_of_call plan call ≡ front ++ steps → (places : Places) (open_at : Open) → AreBehind front places open_at → StepsFit run plan.keys (plan_path plan node) places open_at steps
+  all_fit : (front steps : List StepText) → steps_of_call plan call ≡ front ++ steps → (places : Places) (open_at : Open) → AreBehind (earlier ++ front) places open_at → StepsFit run plan.keys (plan_path plan node) places open_at steps
   all_fit front [] whole places open_at behind = tt
   all_fit front (step ∷ more) whole places open_at behind =
       let there = subst (λ steps. Contains steps step) (sym whole) (Contains-append_right front (step ∷ more) step (contains_first step more)) in
       let rest = whole ∙ sym (append_assoc front (step ∷ []) more) in
       elim (fits front step more whole places open_at behind there) [
-        | inl one ↦ inl (one.0, one.1, all_fit (front ++ step ∷ []) more rest places open_at (behind_first front step places open_at behind one.2))
+        | inl one ↦ inl (
+          one.0,
+          one.1,
+          all_fit (front ++ step ∷ []) more rest places open_at (subst (λ l. AreBehind l places open_at) (append_assoc earlier front (step ∷ [])) (behind_first (earlier ++ front) step places open_at behind one.2)),
+        )
         | inr one ↦
             let at = place_of_step plan.keys path step in
-            inr (one.0, all_fit (front ++ step ∷ []) more rest (also at places) (still_open at open_at) (behind_computed front step places open_at at behind one.1))
+            inr (
+              one.0,
+              all_fit (front ++ step ∷ []) more rest (also at places) (still_open at open_at)
+                  (subst (λ l. AreBehind l (also at places) (still_open at open_at)) (append_assoc earlier front (step ∷ [])) (behind_computed (earlier ++ front) step places open_at at behind one.1)),
+            )
       ]
 
-  pub call_fits_open : CallFitsOpen run plan (plan_path plan node) (unshared (touched_in plan node) (shares_in plan node)) (shares_in plan node) call
+  -- ---- the call
+
+  abbrev others : Places
+  others = unshared (touched_in plan node) opened
+
+  is_other : (context : ℕ) (key : KeyValue) → touched_in plan node context key ≡ true → opened context key ≡ None → others context key ≡ true
+  is_other context key touched none = open_places.unshared_is (touched_in plan node) opened context key touched none
+
+  alone_other : (context : ℕ) (key : KeyValue) → alone context key ≡ true → others context key ≡ true
+  alone_other context key is =
+      let parts = open_places.unshared_parts (touched_in plan node) (shares_in plan node) context key is in
+      is_other context key parts.0 (elim (some_or_none (opened context key)) [
+        | inl none ↦ none
+        | inr some ↦ open_places.not_both (shared context key) some.0 parts.1 (open_is context key some.0 some.1)
+      ])
+
+  -- the place of a compute before the call is not open
+  none_there : (one : Call) → Contains (calls_of plan node) one → (act : ActText) → Contains (steps_of_call plan one) (step_of act) → changes act.word ≡ true → Contains earlier (step_of act)
+      → opened (start act) (key_of act) ≡ None
+  none_there one own act there changing held = elim (some_or_none (opened (start act) (key_of act))) [
+    | inl none ↦ none
+    | inr some ↦ absurd (none_before.none (step_of act) held
+        (computes_there plan read shares node one less own (step_of act) there opened act.key act.up some.0 (ap (λ (b : Bool). if b then Some (act.key, act.up) else None) changing)
+        (open_is (start act) (key_of act) some.0 some.1) some.1))
+  ]
+
+  behind_calls : AreBehind earlier others opened
+  behind_calls = record {
+    unshared_in = alone_other;
+    shared_in = λ context key v is. elim (some_or_none (opened context key)) [
+      | inl none ↦ inl (is_other context key (touched_there plan read shares node context key v is) none)
+      | inr some ↦ inr (some.1 ∙ ap (λ w. Some w) (open_places.one_value (shared context key) some.0 v (open_is context key some.0 some.1) is))
+    ];
+    open_in = open_is;
+    looked = λ act held gives.
+        let of = is_behind.of (step_of act) held in
+        let all = computes_all act.word gives in
+        changing_looks of.0 of.1 act of.2 all.0 all.1 others alone_other
+        (is_other (start act) (key_of act) (acts_touched of.0 of.1 act of.2 all.0) (none_there of.0 of.1 act of.2 all.0 held));
+  }
+
+  pub call_fits_open : CallFitsOpen run plan (plan_path plan node) (unshared (touched_in plan node) opened) opened call
   call_fits_open = (
     call_stays plan read node path (path_is plan read shares node call less among) call among,
-    all_fit [] (steps_of_call plan call) refl alone shared (record {
-      unshared_in = λ context key is. is;
-      shared_in = λ context key v is. inr is;
-      open_in = λ context key v is. is;
-      looked = λ act held gives. contains_nothing (step_of act) held;
-    }),
+    all_fit [] (steps_of_call plan call) refl others opened (subst (λ l. AreBehind l others opened) (sym (append-nil earlier)) behind_calls),
   )

@@ -12,7 +12,7 @@ use Rattle.ext_tree.specs.Trees.{IsPathOf}
 use Rattle.ext_lifecycle.specs.declared.call.Call.{Call}
 use Rattle.ext_lifecycle.specs.declared.outcome.Outcome.{Outcome}
 use Rattle.ext_lifecycle.specs.Lifecycle.{MakesAll, MakesBefores}
-use Rattle.ext_plan.specs.Plans.{KeyText, StepText}
+use Rattle.ext_plan.specs.Plans.{KeyText, PlanText, StepText}
 use Rattle.ext_plan.specs.PlanCalls.{steps_of_call}
 use Rattle.ext_plan.specs.ReadPlans.{StayOnPath}
 use Rattle.ext_plan.specs.Steps.{height}
@@ -23,6 +23,8 @@ use Rattle.ext_engine.specs.Meeting.{HasSeenWithin, first_seen}
 use Rattle.ext_engine.specs.Order.{IsMadeIn, LaneGoesOn}
 use Rattle.ext_engine.proofs.Acts.{Acts, same_made}
 use Rattle.ext_parallel.specs.StoreCalls.{PlanLane}
+use Rattle.ext_races.specs.MadeSteps.{calls_after, calls_before}
+use Rattle.ext_races.proofs.Lists.{all_contained}
 use Rattle.ext_plain.specs.NodeCalls.{CallsEnd, call_run, make_all, make_befores, no_calls}
 use Rattle.ext_plain.specs.ValueStates.{ValueState}
 use Rattle.ext_plain.proofs.Nodes.{start_is}
@@ -33,7 +35,7 @@ use Rattle.ext_one_report.proofs.CallLists.{all_alike, befores_first}
 use Rattle.ext_one_report.proofs.Matching.{matches_at_fewer, numbered_at_fewer}
 use Rattle.ext_one_report.proofs.Open.{AreNear, AreOpenBeside, also, place_of_step, still_open}
 use Rattle.ext_one_report.specs.Shares.{Open, SharesNothing}
-use Rattle.ext_one_report.proofs.OpenCalls.{CallFitsOpen, CallsNear, LeavesNear, StepsFit}
+use Rattle.ext_one_report.proofs.OpenCalls.{BeforesFit, CallFitsOpen, CallsNear, LeavesNear, StepsFit}
 use Rattle.ext_one_report.proofs.OpenSteps.{AreBesideOpen, StandsInBoth}
 use Rattle.ext_one_report.proofs.Shared.{unshared}
 use Rattle.ext_one_report.proofs.Levels.{AreLevel}
@@ -52,7 +54,7 @@ use Rattle.ext_one_report.proofs.SharedNodesPasses.{Passes, own_fewer}
 use Rattle.ext_one_report.proofs.SharedNodesPlaces.{not_both, still_cases, still_parts, unshared_is, unshared_parts}
 use Rattle.ext_one_report.proofs.SharedNodesTold.{AreCounted}
 use Rattle.ext_one_report.proofs.SharedNodesTurn.{Since, Whole, computed_then, own_then}
-use Rattle.ext_one_report.proofs.SharedTestsOpen.{beside_at_others, calls_fit, calls_fit_others, shared_beside}
+use Rattle.ext_one_report.proofs.SharedTestsOpen.{after_fits, befores_fit, beside_at_others, calls_fit_others, shared_beside}
 use Rattle.ext_one_report.proofs.OpenCallLists.{all_calls_end_near, befores_end_near}
 
 -- steps that fit some places fit others, where these have all of them that are in a context of the path
@@ -73,6 +75,20 @@ fits_places run keys path (step ∷ steps) places more o stay each fits =
             ]) computes.1,
       )
     ]
+
+-- and so do calls one after another
+befores_fit_places : (run : RunView) (plan : PlanText) (path : List ℕ) (calls : List Call) (places more : Places) (o : Open)
+    → ((context : ℕ) (key : KeyValue) → Contains path context → places context key ≡ true → more context key ≡ true) → BeforesFit run plan path places o calls → BeforesFit run plan path more o calls
+befores_fit_places run plan path [] places more o each fits = tt
+befores_fit_places run plan path (call ∷ calls) places more o each fits = (
+  (fits.0.0, fits_places run plan.keys path (steps_of_call plan call) places more o fits.0.0 each fits.0.1),
+  λ settled are. befores_fit_places run plan path calls (also settled places) (also settled more) (still_open settled o)
+      (λ context key there is. elim (or_either (places context key) (settled context key) is) [
+        | inl was ↦ or_first (more context key) (settled context key) (each context key there was)
+        | inr on ↦ or_second (more context key) (settled context key) on
+      ])
+      (fits.1 settled are),
+)
 
 module _ (g : Ground) where
   abbrev pub Own : Call → Type 0
@@ -142,14 +158,24 @@ module _ (g : Ground) where
       near = subst (λ (l : List PlanLane). AreNear g.run o (first_seen l) s) was since.near;
     }
 
-    -- the calls of the node fit these places
-    fits : (call : Call) → Own call → CallFitsOpen g.run g.plan g.path places o call
-    fits call own =
-        let one = calls_fit g.plan g.run g.locks g.h g.touched g.changes g.changed g.shares g.basis g.node g.path (path_in g) o among call own in (
+    -- what is among the others that it touches is among these, in a context of its path
+    on_its_way : (context : ℕ) (key : KeyValue) → Contains g.path context → unshared (g.touched g.node) o context key ≡ true → places context key ≡ true
+    on_its_way context key there place =
+        away_is g.plan done (unshared (g.touched g.node) o) context key place
+        (λ x x_in inside. path_apart g.plan (plan_tree g.plan g.run g.locks g.h g.touched g.changes g.changed g.shares g.basis) g.node g.path x context (path_in g) (are x x_in) there inside)
+
+    -- the callbacks before its body fit these places
+    opening_fits : BeforesFit g.run g.plan g.path places o (calls_before g.plan g.node)
+    opening_fits =
+        befores_fit_places g.run g.plan g.path (calls_before g.plan g.node) (unshared (g.touched g.node) o) places o on_its_way
+        (befores_fit g.plan g.run g.locks g.h g.touched g.changes g.changed g.shares g.basis g.node g.path (path_in g) o among)
+
+    -- and so do those after it
+    fits : (call : Call) → Contains (calls_after g.plan g.node) call → CallFitsOpen g.run g.plan g.path places o call
+    fits call there =
+        let one = after_fits g.plan g.run g.locks g.h g.touched g.changes g.changed g.shares g.basis g.node g.path (path_in g) o among call there in (
           one.0,
-          fits_places g.run g.plan.keys g.path (steps_of_call g.plan call) (unshared (g.touched g.node) o) places o one.0
-              (λ context key there place. away_is g.plan done (unshared (g.touched g.node) o) context key place
-              (λ x x_in inside. path_apart g.plan (plan_tree g.plan g.run g.locks g.h g.touched g.changes g.changed g.shares g.basis) g.node g.path x context (path_in g) (are x x_in) there inside)) one.1,
+          fits_places g.run g.plan.keys g.path (steps_of_call g.plan call) (unshared (g.touched g.node) o) places o one.0 on_its_way one.1,
         )
 
     -- and where the node shares nothing, all that they touch is among them
@@ -232,21 +258,21 @@ module _ (g : Ground) where
     held_here : Holds s
     held_here = record { memory = since.level.memory; keeps = since.level.keeps; gave = since.level.gave; of_plan = since.level.of_plan }
 
-    pub befores_called : (calls : List Call) (os : List Outcome) → All Own calls → MakesBefores (MakesFully g.plan g.run g.locks g.node None) calls a os b
+    pub befores_called : (calls : List Call) (os : List Outcome) → All Own calls → calls_before g.plan g.node ≡ calls → MakesBefores (MakesFully g.plan g.run g.locks g.node None) calls a os b
         → (make_befores (call_run g.plan g.path) calls (no_calls s)).state.store.drawn < most_numbers g.plan.size → Called os (make_befores (call_run g.plan g.path) calls (no_calls s))
-    befores_called [] os own made drawn = record {
+    befores_called [] os own are_its made drawn = record {
       near = subst (λ (l : List Outcome). CallsNear l (no_calls s)) (sym made.0) (record { says = refl; counts = refl });
       counted = λ nothing. subst (λ (l : List Outcome). AreCounted l (no_calls s)) (sym made.0) (record { computed = refl; found = refl });
       later = o;
       step = nothing_passes (sym made.1);
     }
-    befores_called (call ∷ calls) os own made drawn =
+    befores_called (call ∷ calls) os own are_its made drawn =
         let all = call ∷ calls in
         let room = befores_room (keys_named g.plan) (most_numbers g.plan.size) g.plan g.path all (no_calls s) refl (each_of Own Named all named own) since.level.gave since.level.memory drawn in
         let its = beside (first_of_befores g.plan g.run g.locks g.node None call calls a os b made) in
         let finds = befores_find g.plan g.run g.locks g.node None all a os b made in
         let makes = befores_made g.plan g.run g.locks g.node None all a os b made in
-        let both = befores_end_near g.run g.plan g.node g.path places o all a os b s g.path_is its (each_of Own (CallFitsOpen g.run g.plan g.path places o) all fits own) finds room makes in
+        let both = befores_end_near g.run g.plan g.node g.path places o all a os b s g.path_is its (subst (λ (l : List Call). BeforesFit g.run g.plan g.path places o l) are_its opening_fits) finds room makes in
         record {
           near = both.0;
           counted = λ nothing.
@@ -257,16 +283,16 @@ module _ (g : Ground) where
           step = passes _ both.1 (node_calls.befores_hold g.plan g.run g.basis.read g.node g.path (path_in g) all (no_calls s) own held_here);
         }
 
-    pub all_called : (calls : List Call) (before os : List Outcome) (e : CallsEnd) → e.state ≡ s → CallsNear before e → (SharesNothing (g.shares g.node) → AreCounted before e) → All Own calls → MakesAll (MakesFully g.plan g.run g.locks g.node None) calls a os b
+    pub all_called : (calls : List Call) (before os : List Outcome) (e : CallsEnd) → e.state ≡ s → CallsNear before e → (SharesNothing (g.shares g.node) → AreCounted before e) → All Own calls → calls_after g.plan g.node ≡ calls → MakesAll (MakesFully g.plan g.run g.locks g.node None) calls a os b
         → (make_all (call_run g.plan g.path) calls e).state.store.drawn < most_numbers g.plan.size → Called (before ++ os) (make_all (call_run g.plan g.path) calls e)
-    all_called [] before os e at near counted own made drawn = record {
+    all_called [] before os e at near counted own are_its made drawn = record {
       near = subst (λ (l : List Outcome). CallsNear (before ++ l) e) (sym made.0) (subst (λ (l : List Outcome). CallsNear l e) (sym (append-nil before)) near);
       counted = λ nothing.
           subst (λ (l : List Outcome). AreCounted (before ++ l) e) (sym made.0) (subst (λ (l : List Outcome). AreCounted l e) (sym (append-nil before)) (counted nothing));
       later = o;
       step = subst (λ (t : ValueState). Passes g.plan g.run g.h (g.touched g.node) done o xs s o ys t) (sym at) (nothing_passes (sym made.1));
     }
-    all_called (call ∷ calls) before os e at near counted own made drawn =
+    all_called (call ∷ calls) before os e at near counted own are_its made drawn =
         let all = call ∷ calls in
         let B : ValueState → Type 0 = λ t. AreBesideOpen g.run g.path places o a b t in
         let held : Holds e.state = subst Holds (sym at) held_here in
@@ -274,7 +300,8 @@ module _ (g : Ground) where
         let its : AreBesideOpen g.run g.path places o a b e.state = subst B (sym at) (beside (first_of_all g.plan g.run g.locks g.node None call calls a os b made)) in
         let finds = all_find g.plan g.run g.locks g.node None all a os b made in
         let makes = all_made g.plan g.run g.locks g.node None all a os b made in
-        let both = all_calls_end_near g.run g.plan g.node g.path places o all before a os b e g.path_is near its (each_of Own (CallFitsOpen g.run g.plan g.path places o) all fits own) finds room makes in
+        let both = all_calls_end_near g.run g.plan g.node g.path places o all before a os b e g.path_is near its
+        (subst (All (CallFitsOpen g.run g.plan g.path places o)) are_its (all_contained (CallFitsOpen g.run g.plan g.path places o) (calls_after g.plan g.node) fits)) finds room makes in
         let E : ValueState → Type 0 = λ q. LeavesNear g.run places o a q b (make_all (call_run g.plan g.path) all e).state in
         let leaves = subst E at both.1 in
         record {

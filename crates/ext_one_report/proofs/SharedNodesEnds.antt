@@ -24,7 +24,7 @@ use Rattle.ext_plan.specs.PlanCalls.{concurrent_of, registered, test_of}
 use Rattle.ext_plan.specs.ReadPlans.{ids_of_nodes}
 use Rattle.ext_plan.specs.StepCalls.{start_of}
 use Rattle.ext_plan.specs.Values.{ValueText}
-use Rattle.ext_races.specs.MadeSteps.{calls_of, plan_path}
+use Rattle.ext_races.specs.MadeSteps.{calls_after, calls_before, calls_of, plan_path}
 use Rattle.ext_engine.specs.RunLaws.{HasRun, nodes_of}
 use Rattle.ext_engine.specs.Meeting.{HasSeenWithin, first_seen}
 use Rattle.ext_engine.specs.Order.{AllGoOn, CallsGoOn, ChildRun, IsMadeIn}
@@ -163,6 +163,12 @@ module _ (g : Ground) (container : is_some (test_of g.plan g.node) ≡ false) (e
   on_path : g.path ≡ plan_path g.plan g.node
   on_path = its_path g.plan tree g.node g.path (path_in g)
 
+  befores_are : calls_before g.plan g.node ≡ befores
+  befores_are = λ i. befores_of (registered g.plan) (container i) g.node (sym on_path i)
+
+  afters_are : calls_after g.plan g.node ≡ afters
+  afters_are = λ i. afters_of (registered g.plan) (container i) g.node (sym on_path i)
+
   befores_its : All (Contains (calls_of g.plan g.node)) befores
   befores_its = befores_own g.plan g.node g.path false on_path container
 
@@ -262,7 +268,7 @@ module _ (g : Ground) (container : is_some (test_of g.plan g.node) ≡ false) (e
     opened =
         let on = lanes_run.befores_made in
         befores_called g w [] no_child o before.first lanes_run.opened on.lane on.left on.rest on.first_was on.first_is (no_acts g.h before.first) opening from_opened opened_in opened_within
-        (befores_go (over g) going g.node None befores on.lane lanes_run.befores on.left on.change) r.state since_first befores lanes_run.befores befores_its on.change opened_drawn
+        (befores_go (over g) going g.node None befores on.lane lanes_run.befores on.left on.change) r.state since_first befores lanes_run.befores befores_its befores_are on.change opened_drawn
 
     since_opened : Since g w [] opened.later lanes_run.opened opened_end.state
     since_opened = since_then g w [] [] o opened.later before.first lanes_run.opened r.state opened_end.state no_child no_child (no_acts g.h before.first) opening from_opened since_first opened.step
@@ -328,7 +334,7 @@ module _ (g : Ground) (container : is_some (test_of g.plan g.node) ≡ false) (e
         let e : CallsEnd = record opened_end { state = bodied_run.state } in
         all_called g w bodied.done bodied.are bodied.open_still lanes_run.body.first lanes_run.ends.called on.lane on.left on.rest on.first_was on.first_is to_bodied calling closing called_in called_within
         (all_go (over g) going g.node None afters on.lane lanes_run.ends.afters on.left on.change) bodied_run.state bodied.since afters lanes_run.befores lanes_run.ends.afters e refl
-        (record { says = opened.near.says; counts = opened.near.counts }) (λ nothing. let are = opened.counted nothing in record { computed = are.computed; found = are.found }) afters_its on.change called_drawn
+        (record { says = opened.near.says; counts = opened.near.counts }) (λ nothing. let are = opened.counted nothing in record { computed = are.computed; found = are.found }) afters_its afters_are on.change called_drawn
 
     -- what is open in the end
     abbrev last : Open

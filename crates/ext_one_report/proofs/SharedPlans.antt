@@ -1,28 +1,35 @@
 -- The nodes of a plan that share values share the places of its touches.
-use Rattle.std.proofs.Common.{◌≡◌, ℕ, List, Contains, Some, drop, sym, subst}
+use Rattle.std.proofs.Common.{◌≡◌, ◌<◌, ℕ, List, [], ◌∷◌, ◌++◌, length, Contains, Some, drop, sym, subst, arith}
+use Rattle.std.proofs.lemmas.List.Elements.{Contains-append_left, Contains-append_right}
+use Rattle.std.specs.List.{flat_map}
+use Rattle.ext_tree.specs.Keys.{KeyValue}
 use Rattle.ext_tree.specs.Trees.{IsPathOf}
 use Rattle.ext_lifecycle.specs.declared.call.Call.{Call}
+use Rattle.ext_lifecycle.specs.Callbacks.{test_call}
 use Rattle.ext_plan.specs.Plans.{PlanText, StepKeyText, StepText}
 use Rattle.ext_plan.specs.PlanCalls.{steps_of_call}
 use Rattle.ext_plan.specs.ReadPlans.{IsReadPlan, ids_of_nodes}
 use Rattle.ext_plan.specs.StepCalls.{start_of}
 use Rattle.ext_plan.specs.StoreKeys.{key_of_step}
 use Rattle.ext_plan.specs.Values.{ValueText}
-use Rattle.ext_races.specs.MadeSteps.{calls_of}
+use Rattle.ext_races.specs.MadeSteps.{calls_after, calls_before, calls_of}
 use Rattle.ext_one_report.proofs.PlanCells.{changed_by}
 use Rattle.ext_one_report.proofs.MatchingWords.{RunView}
 use Rattle.ext_one_report.proofs.Covered.{touched_in}
 use Rattle.ext_one_report.proofs.CoveredCalls.{made_path}
 use Rattle.ext_one_report.proofs.CoveredPaths.{has_context}
 use Rattle.ext_one_report.proofs.Open.{ComputesOpen}
-use Rattle.ext_one_report.proofs.OpenCalls.{CallFitsOpen}
-use Rattle.ext_one_report.specs.Shares.{shares_in}
+use Rattle.ext_one_report.proofs.OpenCalls.{CallFitsOpen, NoneOpen}
+use Rattle.ext_one_report.specs.Shares.{Open, shares_in}
 use Rattle.ext_races.specs.OneReports.{SharesValues}
 use Rattle.ext_one_report.proofs.Shared.{unshared}
 use Rattle.ext_one_report.proofs.SharedPlansWords.{PlansAreShared}
 use Rattle.ext_one_report.proofs.SharedCalls.{call_fits_open}
 use Rattle.ext_one_report.proofs.SharedNodes.{above, below, beside, outside, same, touched_there}
 use Rattle.ext_one_report.proofs.SharedSteps.{computes_there}
+use Rattle.ext_one_report.proofs.SharedFound.{same_count}
+use Rattle.ext_one_report.proofs.SharedTouches.{IsMadeBehind, behind_befores, behind_none}
+use Rattle.ext_races.proofs.Lists.{contains_first, contains_nothing}
 
 computes : (plan : PlanText) → IsReadPlan plan → SharesValues plan → (node : ℕ) (path : List ℕ) (call : Call) (step : StepText) (key : StepKeyText) (up : ℕ) (v : ValueText)
     → IsPathOf (ids_of_nodes plan.nodes) node path → Contains (calls_of plan node) call → Contains (steps_of_call plan call) step → changed_by step ≡ Some (key, up)
@@ -33,12 +40,40 @@ computes plan read shares node path call step key up v is among there changed e 
     let given = subst (λ p. shares_in plan node (start_of (drop up p)) (key_of_step plan.keys key) ≡ Some v) along e in
     subst (λ p. ComputesOpen plan.keys p (shares_in plan node) step) (sym along) (computes_there plan read shares node call less among step there (shares_in plan node) key up v changed given given)
 
-calls : (plan : PlanText) (run : RunView) → IsReadPlan plan → SharesValues plan → run.store.tree ≡ ids_of_nodes plan.nodes → (node : ℕ) (path : List ℕ) (call : Call)
-    → IsPathOf (ids_of_nodes plan.nodes) node path → Contains (calls_of plan node) call → CallFitsOpen run plan path (unshared (touched_in plan node) (shares_in plan node)) (shares_in plan node) call
-calls plan run read shares tree node path call is among =
+-- a call of a node behind others, where none of the places that it shares is open whose value those compute
+fits : (plan : PlanText) (run : RunView) → IsReadPlan plan → SharesValues plan → run.store.tree ≡ ids_of_nodes plan.nodes → (node : ℕ) (path : List ℕ) (call : Call)
+    → IsPathOf (ids_of_nodes plan.nodes) node path → Contains (calls_of plan node) call → (earlier : List StepText) → IsMadeBehind plan node call earlier → (open_at : Open)
+    → ((context : ℕ) (key : KeyValue) (v : ValueText) → open_at context key ≡ Some v → shares_in plan node context key ≡ Some v) → NoneOpen plan.keys path open_at earlier
+    → CallFitsOpen run plan path (unshared (touched_in plan node) open_at) open_at call
+fits plan run read shares tree node path call is among earlier behind open_at open_is none =
     let less = has_context (ids_of_nodes plan.nodes) read.runnable.tree node path is in
-    subst (λ p. CallFitsOpen run plan p (unshared (touched_in plan node) (shares_in plan node)) (shares_in plan node) call) (sym (made_path plan read node path is))
-    (call_fits_open plan read shares run tree node call less among)
+    let along = made_path plan read node path is in
+    subst (λ p. CallFitsOpen run plan p (unshared (touched_in plan node) open_at) open_at call) (sym along)
+    (call_fits_open plan read shares run tree node call less among earlier behind open_at open_is (subst (λ p. NoneOpen plan.keys p open_at earlier) along none))
+
+is_within : (plan : PlanText) → IsReadPlan plan → (node : ℕ) (path : List ℕ) → IsPathOf (ids_of_nodes plan.nodes) node path → node < length plan.nodes
+is_within plan read node path is =
+    let less = has_context (ids_of_nodes plan.nodes) read.runnable.tree node path is in
+    let count = same_count plan in
+    omega (arith, less, count)
+
+befores : (plan : PlanText) (run : RunView) → IsReadPlan plan → SharesValues plan → run.store.tree ≡ ids_of_nodes plan.nodes → (node : ℕ) (path : List ℕ) (before : List Call) (call : Call) (more : List Call) (open_at : Open)
+    → IsPathOf (ids_of_nodes plan.nodes) node path → calls_before plan node ++ test_call node ∷ [] ≡ before ++ call ∷ more
+    → ((context : ℕ) (key : KeyValue) (v : ValueText) → open_at context key ≡ Some v → shares_in plan node context key ≡ Some v) → NoneOpen plan.keys path open_at (flat_map (steps_of_call plan) before)
+    → CallFitsOpen run plan path (unshared (touched_in plan node) open_at) open_at call
+befores plan run read shares tree node path before call more open_at is whole open_is none =
+    let opening = calls_before plan node ++ test_call node ∷ [] in
+    let there : Contains opening call = subst (λ (l : List Call). Contains l call) (sym whole) (Contains-append_right before (call ∷ more) call (contains_first call more)) in
+    fits plan run read shares tree node path call is (Contains-append_left opening (calls_after plan node) call there) (flat_map (steps_of_call plan) before)
+    (behind_befores plan node (is_within plan read node path is) before call more whole) open_at open_is none
+
+afters : (plan : PlanText) (run : RunView) → IsReadPlan plan → SharesValues plan → run.store.tree ≡ ids_of_nodes plan.nodes → (node : ℕ) (path : List ℕ) (call : Call) (open_at : Open)
+    → IsPathOf (ids_of_nodes plan.nodes) node path → Contains (calls_after plan node) call
+    → ((context : ℕ) (key : KeyValue) (v : ValueText) → open_at context key ≡ Some v → shares_in plan node context key ≡ Some v) → CallFitsOpen run plan path (unshared (touched_in plan node) open_at) open_at call
+afters plan run read shares tree node path call open_at is there open_is =
+    let opening = calls_before plan node ++ test_call node ∷ [] in
+    fits plan run read shares tree node path call is (Contains-append_right opening (calls_after plan node) call there) [] (behind_none plan node (is_within plan read node path is) call there) open_at open_is
+    (record { none = λ step held computes. contains_nothing step held })
 
 pub plans_are_shared : PlansAreShared
 plans_are_shared plan run read shares tree = record {
@@ -46,7 +81,8 @@ plans_are_shared plan run read shares tree = record {
   outside = outside plan read shares;
   above = λ node context key v path e is. above plan read shares node context key v e path is;
   computes = computes plan read shares;
-  calls = calls plan run read shares tree;
+  befores = befores plan run read shares tree;
+  afters = afters plan run read shares tree;
   below = below plan read shares;
   beside = beside plan read shares;
   same = same plan read shares;

@@ -1,5 +1,5 @@
 -- A step of a call at places that its node shares: where it changes one it computes the value, and it changes none above one.
-use Rattle.std.proofs.Common.{◌≡◌, ◌<◌, ℕ, true, false, List, [], ◌∷◌, ◌++◌, length, Contains, drop, Some, None, refl, ap, sym, subst, ◌∙◌, arith, inl, inr}
+use Rattle.std.proofs.Common.{◌≡◌, ◌<◌, ℕ, true, false, List, [], ◌∷◌, length, Contains, drop, Some, None, refl, ap, sym, subst, ◌∙◌, arith, inl, inr}
 use Rattle.std.specs.Prelude.{◌&&◌}
 use Rattle.std.proofs.lemmas.Bool.{cases_Bool, true≢false}
 use Rattle.std.proofs.lemmas.List.{length-drop}
@@ -20,7 +20,6 @@ use Rattle.ext_races.specs.Acts.{ActText}
 use Rattle.ext_races.specs.MadeSteps.{calls_of, plan_path}
 use Rattle.ext_races.specs.Touches.{keys_named, text_if, touch_of, touches_made}
 use Rattle.ext_plan.specs.StepWords.{changes, gives_value, has_text, leaves_closeable, word_eq}
-use Rattle.ext_races.proofs.Lists.{contains_cases, contains_nothing}
 use Rattle.ext_one_report.proofs.PlanCells.{changed_by}
 use Rattle.ext_one_report.proofs.MatchingWords.{RunView}
 use Rattle.ext_one_report.proofs.Covered.{changed_in, touched_in}
@@ -38,14 +37,6 @@ use Rattle.ext_one_report.proofs.SharedTouches.{changes_there}
 use Rattle.ext_one_report.proofs.WordCases.{of_computes}
 
 -- ---- lists
-
--- what stands before an item and behind it
-pub split_at : {A : Type 0} (xs : List A) (x : A) → Contains xs x → (front : List A) × (more : List A) × (xs ≡ front ++ x ∷ more)
-split_at [] x there = contains_nothing x there
-split_at (y ∷ xs) x there = elim (contains_cases y x xs there) [
-  | inl same ↦ ([], xs, ap (λ z. z ∷ xs) same)
-  | inr later ↦ let rest = split_at xs x later in (y ∷ rest.0, rest.1, ap (λ zs. y ∷ zs) rest.2)
-]
 
 pub from_start : (path : List ℕ) → 0 < length path → (above : List ℕ) × (path ≡ start_of path ∷ above)
 from_start [] some = absurd (omega (arith, some))
@@ -79,8 +70,7 @@ module _ (plan : PlanText) (read : IsReadPlan plan) (shares : SharesValues plan)
       → Contains (touches_made plan) (touch_of node (place_of_key (keys_named plan) (key_of_step plan.keys act.key)) act (changes act.word) (start_of (drop act.up (plan_path plan node))))
   acts_there act there changing =
       let number = place_of_key (keys_named plan) (key_of_step plan.keys act.key) in
-      let split = split_at (steps_of_call plan call) (step_of act) there in
-      changes_there plan node call within among split.0 act split.1 split.2 changing (touch_of node number act (changes act.word) (start_of (drop act.up path)))
+      changes_there plan node call within among act there changing (touch_of node number act (changes act.word) (start_of (drop act.up path)))
       (along_first node number act (drop act.up path) (goes_up act there))
 
   -- where the place is shared, it computes the value

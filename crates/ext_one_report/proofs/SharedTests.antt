@@ -46,7 +46,7 @@ use Rattle.ext_one_report.proofs.FrameNodes.{within_nodes}
 use Rattle.ext_one_report.proofs.FrameSteps.{seals_leave}
 use Rattle.ext_one_report.proofs.Open.{AreNear, also, still_open}
 use Rattle.ext_one_report.specs.Shares.{Open, SharesNothing, AreToldNear}
-use Rattle.ext_one_report.proofs.OpenCalls.{CallFitsOpen, CallsNear, LeavesNear}
+use Rattle.ext_one_report.proofs.OpenCalls.{BeforesFit, CallFitsOpen, CallsNear, FitsBehind, LeavesNear}
 use Rattle.ext_one_report.proofs.OpenSteps.{AreBesideOpen}
 use Rattle.ext_one_report.proofs.Shared.{unshared}
 use Rattle.ext_one_report.proofs.SharedNodes.{some_or_none}
@@ -65,7 +65,7 @@ use Rattle.ext_one_report.proofs.SharedClosesOpen.{computed_fewer, near_after, n
 use Rattle.ext_one_report.proofs.SharedNodesBasis.{in_plan, run_tree}
 use Rattle.ext_one_report.proofs.SharedNodesPlaces.{still_parts, unshared_is}
 use Rattle.ext_one_report.proofs.SharedNodesTold.{near_none, near_own, told_as}
-use Rattle.ext_one_report.proofs.SharedTestsOpen.{beside_at_others, calls_fit, calls_fit_others, open_elsewhere, open_not_below, shared_beside}
+use Rattle.ext_one_report.proofs.SharedTestsOpen.{after_fits, befores_fit, beside_at_others, body_fits, calls_fit_others, open_elsewhere, open_not_below, shared_beside}
 use Rattle.ext_one_report.proofs.TestRooms as rooms
 use Rattle.ext_one_report.proofs.OpenTests.{test_ends_near}
 
@@ -175,9 +175,13 @@ module _ (plan : PlanText) (run : RunView) (locks : LocksView) (h : History) (to
     near =
         let on = its_run.calls in
         let makes = test_made plan run locks node (Some its_run.held) path on.lane its_run.outcomes on.left on.change in
+        let befores_are = rooms.befores_are plan run basis.read node path its is_test in
         test_ends_near run plan node path places open_at on.lane its_run.outcomes on.left r.state path_is beside
-        (rooms.all_own plan run basis.read node path its is_test (CallFitsOpen run plan path places open_at)
-        (calls_fit plan run locks h touched changes changed shares basis node path its open_at begins.open_is)) room makes.0 makes.1
+        (subst (λ (calls : List Call). BeforesFit run plan path places open_at calls) befores_are (befores_fit plan run locks h touched changes changed shares basis node path its open_at begins.open_is))
+        (subst (λ (calls : List Call). FitsBehind run plan path places open_at calls (test_call node)) befores_are
+        (body_fits plan run locks h touched changes changed shares basis node path its open_at begins.open_is))
+        (rooms.all_after plan run basis.read node path its is_test (CallFitsOpen run plan path places open_at)
+        (after_fits plan run locks h touched changes changed shares basis node path its open_at begins.open_is)) room makes.0 makes.1
 
     abbrev settled : Places
     settled = near.1.settled

@@ -1,21 +1,22 @@
 -- The open places of a node, of those that it shares: which contexts they are in, what is beside them, and that the node's calls fit them; and the calls of a node that shares nothing.
-use Rattle.std.proofs.Common.{◌≡◌, ◌≢◌, ℕ, inl, inr, Bool, true, false, not, ◌&&◌, ◌||◌, List, ◌∷◌, Contains, Option, None, Some, refl, sym, subst}
+use Rattle.std.proofs.Common.{◌≡◌, ◌≢◌, ℕ, inl, inr, Bool, true, false, ◌||◌, List, [], ◌∷◌, ◌++◌, Contains, Option, None, Some, refl, sym, subst, ◌∙◌, append_assoc}
 use Rattle.std.specs.Prelude.{All, if◌then◌else◌}
-use Rattle.std.proofs.lemmas.List.Elements.{Contains-get_or}
-use Rattle.ext_history.proofs.Lists.{contains_later}
+use Rattle.std.proofs.lemmas.List.Elements.{Contains-get_or, Contains-push_cases}
+use Rattle.std.specs.List.{flat_map}
+use Rattle.ext_history.proofs.Lists.{contains_later, contains_none}
 use Rattle.ext_model.specs.History.{History}
 use Rattle.ext_tree.specs.Keys.{KeyValue}
 use Rattle.ext_tree.specs.Trees.{IsPathOf}
 use Rattle.ext_lifecycle.specs.declared.call.Call.{Call}
+use Rattle.ext_lifecycle.specs.Callbacks.{test_call}
 use Rattle.ext_locks.specs.Opening.{LocksView}
-use Rattle.ext_plan.specs.Plans.{PlanText}
+use Rattle.ext_plan.specs.Plans.{PlanText, StepText}
 use Rattle.ext_plan.specs.PlanCalls.{steps_of_call}
 use Rattle.ext_plan.specs.ReadPlans.{ids_of_nodes}
-use Rattle.ext_plan.specs.StepCalls.{start_of}
 use Rattle.ext_plan.specs.Values.{ValueText}
 use Rattle.ext_plain.specs.ValueStates.{ValueState}
-use Rattle.ext_plain.proofs.Nodes.{start_is}
-use Rattle.ext_races.specs.MadeSteps.{calls_of}
+use Rattle.ext_races.specs.MadeSteps.{calls_after, calls_before, calls_of}
+use Rattle.ext_races.proofs.Lists.{contains-flat_map, contains-flat_map_back}
 use Rattle.ext_parallel.specs.StoreCalls.{PlanLane}
 use Rattle.ext_one_report.proofs.CallListsWords.{CallFits}
 use Rattle.ext_one_report.proofs.CallsWords.{AreBeside}
@@ -23,52 +24,31 @@ use Rattle.ext_one_report.proofs.MatchingWords.{Places, RunView}
 use Rattle.ext_one_report.specs.Within.{is_within}
 use Rattle.ext_one_report.proofs.Open.{AreOpenBeside, also, still_open}
 use Rattle.ext_one_report.specs.Shares.{Open, SharesNothing}
-use Rattle.ext_one_report.proofs.OpenCalls.{CallFitsOpen, StepsFit}
+use Rattle.ext_one_report.proofs.OpenCalls.{AreSettled, BeforesFit, CallFitsOpen, FitsBehind, NoneOpen}
 use Rattle.ext_one_report.proofs.OpenSteps.{AreBesideOpen}
 use Rattle.ext_one_report.proofs.Shared.{unshared}
 use Rattle.ext_one_report.proofs.SharedNodes.{some_or_none}
 use Rattle.ext_one_report.proofs.SharedNodesWords.{IsSharedBasis}
-use Rattle.ext_one_report.proofs.NodePlaces.{both_ways}
+use Rattle.ext_one_report.proofs.NodePlaces.{both_ways, or_second}
 use Rattle.ext_one_report.proofs.NodeTrees.{on_its_path, under_within, within_itself}
-use Rattle.ext_one_report.proofs.SharedNodesBasis.{in_run}
-use Rattle.ext_one_report.proofs.SharedNodesPlaces.{not_both, unshared_all, unshared_is, unshared_off}
-use Rattle.ext_one_report.proofs.OpenFits.{steps_fit_later}
+use Rattle.ext_one_report.proofs.SharedNodesPlaces.{not_both, still_parts, unshared_all, unshared_is, unshared_off}
+use Rattle.ext_one_report.proofs.OpenLists.{computes_before}
 
 -- ---- fewer open places
 
--- something is there
-abbrev has : Option ValueText → Bool
-has None = false
-has (Some v) = true
+also_by : (context : ℕ) (key : KeyValue) (touched : Places) (on : Bool) (o : Option ValueText) → (on ≡ true → (v : ValueText) × (o ≡ Some v)) → ((v : ValueText) → o ≡ Some v → touched context key ≡ true)
+    → (unshared touched (λ c k. o) context key || on) ≡ unshared touched (λ c k. if on then None else o) context key
+also_by context key touched true o were there = let was = were refl in or_second (unshared touched (λ c k. o) context key) true refl ∙ sym (there was.0 was.1)
+also_by context key touched false o were there = or_none (unshared touched (λ c k. o) context key)
+  where
+    or_none : (b : Bool) → (b || false) ≡ b
+    or_none true = refl
+    or_none false = refl
 
-still_by : (s o : Option ValueText) → ((v : ValueText) → o ≡ Some v → s ≡ Some v) → (if has s && not (has o) then None else s) ≡ o
-still_by None None each = refl
-still_by None (Some v) each = absurd (cc (each v refl))
-still_by (Some w) None each = refl
-still_by (Some w) (Some v) each = each v refl
-
-or_none : (b : Bool) → (b || false) ≡ b
-or_none true = refl
-or_none false = refl
-
-also_by : (context : ℕ) (key : KeyValue) (touched : Places) (s o : Option ValueText) → ((v : ValueText) → o ≡ Some v → s ≡ Some v) → ((v : ValueText) → s ≡ Some v → touched context key ≡ true)
-    → (unshared touched (λ c k. s) context key || (has s && not (has o))) ≡ unshared touched (λ c k. o) context key
-also_by context key touched None None each there = or_none (touched context key)
-also_by context key touched None (Some v) each there = absurd (cc (each v refl))
-also_by context key touched (Some w) None each there = sym (there w refl)
-also_by context key touched (Some w) (Some v) each there = refl
-
--- those that are open no more
-abbrev closed_now : Open → Open → Places
-closed_now shares open_at context key = has (shares context key) && not (has (open_at context key))
-
-module _ (touched : Places) (shares open_at : Open) (open_is : (context : ℕ) (key : KeyValue) (v : ValueText) → open_at context key ≡ Some v → shares context key ≡ Some v)
-    (there : (context : ℕ) (key : KeyValue) (v : ValueText) → shares context key ≡ Some v → touched context key ≡ true) where
-  still_same : still_open (closed_now shares open_at) shares ≡ open_at
-  still_same = λ i context key. still_by (shares context key) (open_at context key) (open_is context key) i
-
-  also_same : also (closed_now shares open_at) (unshared touched shares) ≡ unshared touched open_at
-  also_same = λ i context key. also_by context key touched (shares context key) (open_at context key) (open_is context key) (there context key) i
+-- where some open places are settled, these and the others that are touched are all that is touched and not open
+also_same : (touched : Places) (open_at : Open) (settled : Places) → ((context : ℕ) (key : KeyValue) → settled context key ≡ true → (v : ValueText) × (open_at context key ≡ Some v))
+    → ((context : ℕ) (key : KeyValue) (v : ValueText) → open_at context key ≡ Some v → touched context key ≡ true) → also settled (unshared touched open_at) ≡ unshared touched (still_open settled open_at)
+also_same touched open_at settled were there = λ i context key. also_by context key touched (settled context key) (open_at context key) (were context key) (there context key) i
 
 -- ---- the open places of a node
 
@@ -107,6 +87,51 @@ module _ (plan : PlanText) (run : RunView) (locks : LocksView) (h : History) (to
         | inr some ↦ not_both (shares node context key) some.0 none (open_is context key some.0 some.1)
       ]
 
+  -- ---- the calls up to the body
+
+  module _ (path : List ℕ) (its : IsPathOf (ids_of_nodes plan.nodes) node path) where
+    abbrev AreOf : Open → Type 0
+    AreOf open_at = (context : ℕ) (key : KeyValue) (v : ValueText) → open_at context key ≡ Some v → shares node context key ≡ Some v
+
+    later_of : (open_at : Open) (settled : Places) → AreOf open_at → AreOf (still_open settled open_at)
+    later_of open_at settled open_is context key v is = open_is context key v (still_parts settled open_at context key v is).1
+
+    fits_same : (open_at : Open) (settled : Places) (steps : List StepText) → AreOf open_at → AreSettled plan.keys path open_at settled steps
+        → unshared (touched node) (still_open settled open_at) ≡ also settled (unshared (touched node) open_at)
+    fits_same open_at settled steps open_is are =
+        sym (also_same (touched node) open_at settled are.were_open (λ context key v is. basis.shared.touched_there node context key v (open_is context key v is)))
+
+    -- each of them fits, where all is settled that those before it compute
+    befores_fit_from : (before calls last : List Call) (open_at : Open) → calls_before plan node ++ test_call node ∷ [] ≡ before ++ (calls ++ last) → AreOf open_at
+        → NoneOpen plan.keys path open_at (flat_map (steps_of_call plan) before) → BeforesFit run plan path (unshared (touched node) open_at) open_at calls
+    befores_fit_from before [] last open_at whole open_is none = tt
+    befores_fit_from before (call ∷ calls) last open_at whole open_is none = (
+      basis.shared.befores node path before call (calls ++ last) open_at its whole open_is none,
+      λ settled are.
+          let later = still_open settled open_at in
+          subst (λ (places : Places). BeforesFit run plan path places later calls) (fits_same open_at settled (steps_of_call plan call) open_is are)
+          (befores_fit_from (before ++ call ∷ []) calls last later (whole ∙ sym (append_assoc before (call ∷ []) (calls ++ last))) (later_of open_at settled open_is) (record {
+            none = λ step held computes.
+                let from = contains-flat_map_back (steps_of_call plan) (before ++ call ∷ []) step held in
+                elim (Contains-push_cases before call from.0 from.1) [
+                  | inl old ↦ none.none step (contains-flat_map (steps_of_call plan) before from.0 step old from.2) (computes_before plan.keys path open_at settled step computes)
+                  | inr same ↦ are.none_left.none step (subst (λ c. Contains (steps_of_call plan c) step) (sym same) from.2) computes
+                ];
+          })),
+    )
+
+    nothing_before : (open_at : Open) → NoneOpen plan.keys path open_at (flat_map (steps_of_call plan) [])
+    nothing_before open_at = record { none = λ step held computes. contains_none step held }
+
+    pub befores_fit : (open_at : Open) → AreOf open_at → BeforesFit run plan path (unshared (touched node) open_at) open_at (calls_before plan node)
+    befores_fit open_at open_is = befores_fit_from [] (calls_before plan node) (test_call node ∷ []) open_at refl open_is (nothing_before open_at)
+
+    pub body_fits : (open_at : Open) → AreOf open_at → FitsBehind run plan path (unshared (touched node) open_at) open_at (calls_before plan node) (test_call node)
+    body_fits open_at open_is settled are =
+        let later = still_open settled open_at in
+        subst (λ (places : Places). CallFitsOpen run plan path places later (test_call node)) (fits_same open_at settled (flat_map (steps_of_call plan) (calls_before plan node)) open_is are)
+        (basis.shared.befores node path (calls_before plan node) (test_call node) [] later its refl (later_of open_at settled open_is) are.none_left)
+
   module _ (path : List ℕ) (its : IsPathOf (ids_of_nodes plan.nodes) node path) (open_at : Open)
       (open_is : (context : ℕ) (key : KeyValue) (v : ValueText) → open_at context key ≡ Some v → shares node context key ≡ Some v) where
     -- they are not in its own context,
@@ -124,19 +149,9 @@ module _ (plan : PlanText) (run : RunView) (locks : LocksView) (h : History) (to
         (under_within plan basis.read.runnable.tree node context (on_its_path plan basis.read.runnable.tree context (context ∷ above) node its_path there))
         (basis.shared.outside node context key v (open_is context key v is))
 
-    -- and its calls fit them
-    pub calls_fit : (call : Call) → Contains (calls_of plan node) call → CallFitsOpen run plan path (unshared (touched node) open_at) open_at call
-    calls_fit call own =
-        let fits = basis.shared.calls node path call its own in
-        let whole = shared_beside (shares node) (λ context key v is. is) in
-        let path_is = in_run plan run locks h touched changes changed shares basis node path its in
-        let on_path : IsPathOf run.store.tree (start_of path) path = subst (λ n. IsPathOf run.store.tree n path) (sym (start_is run.store.tree node path path_is)) path_is in
-        let there : (context : ℕ) (key : KeyValue) (v : ValueText) → shares node context key ≡ Some v → touched node context key ≡ true = λ context key v is. basis.shared.touched_there node context key v is in
-        let fewer = steps_fit_later run plan.keys path (unshared (touched node) (shares node)) (shares node) (closed_now (shares node) open_at) (steps_of_call plan call) whole on_path fits.1 in (
-          fits.0,
-          subst (λ (x : Places × Open). StepsFit run plan.keys path x.0 x.1 (steps_of_call plan call))
-              (λ i. (also_same (touched node) (shares node) open_at open_is there i, still_same (touched node) (shares node) open_at open_is there i)) fewer,
-        )
+    -- and its callbacks after the body fit them
+    pub after_fits : (call : Call) → Contains (calls_after plan node) call → CallFitsOpen run plan path (unshared (touched node) open_at) open_at call
+    after_fits call there = basis.shared.afters node path call open_at its there open_is
 
     -- where it shares nothing, none is open, and all that its calls touch is among the others
     pub calls_fit_others : SharesNothing (shares node) → (call : Call) → Contains (calls_of plan node) call → CallFits plan path (unshared (touched node) open_at) call

@@ -1,24 +1,26 @@
 -- The touches of a plan's steps with what they are: a compute looks at all places of its key above its own, and a step of a call touches what its act does, after the steps before it.
 use Rattle.std.proofs.Common.{◌≡◌, ◌<◌, ℕ, zero, suc, Bool, true, false, List, [], ◌∷◌, ◌++◌, length, Contains, drop, map, Option, Some, None, refl, ap, sym, subst, ◌∙◌, arith, inl, inr, append_assoc, append-nil}
 use Rattle.std.specs.Prelude.{if◌then◌else◌}
-use Rattle.std.specs.List.{range_with_len}
+use Rattle.std.specs.List.{flat_map, range_with_len}
+use Rattle.std.proofs.lemmas.Grind.{flat_map-append}
 use Rattle.std.proofs.lemmas.Bool.{true≢false}
-use Rattle.std.proofs.lemmas.List.Elements.{All-contains}
+use Rattle.std.proofs.lemmas.List.Elements.{All-contains, Contains-append_left, Contains-append_right}
 use Rattle.ext_tree.specs.Trees.{Id, IsPathOf, IsWalk}
 use Rattle.ext_tree.proofs.Walks.{one_walk}
 use Rattle.ext_lifecycle.specs.declared.call.Call.{Call}
+use Rattle.ext_lifecycle.specs.Callbacks.{test_call}
 use Rattle.ext_plan.specs.Plans.{KeyText, PlanText, StepText}
 use Rattle.ext_plan.specs.PlanCalls.{steps_of_call}
 use Rattle.ext_plan.specs.ReadPlans.{IsReadPlan, ids_of_nodes}
 use Rattle.ext_plan.specs.StoreKeys.{key_of_step, place_of_key}
 use Rattle.ext_races.specs.Acts.{ActText, act_of}
-use Rattle.ext_races.specs.MadeSteps.{MadeText, calls_of, made_after, made_by, made_of_node, path_of, plan_path, steps_made}
+use Rattle.ext_races.specs.MadeSteps.{MadeText, calls_after, calls_before, calls_of, made_after, made_by, made_in_turn, made_of_node, path_of, plan_path, steps_made}
 use Rattle.ext_races.specs.Touches.{TouchText, below_computes, keys_named, reach, touch_of, touches_above, touches_along, touches_made, touches_of, touches_of_act}
 use Rattle.ext_plan.specs.StepWords.{changes, gives_value, looks_along}
 use Rattle.ext_races.proofs.Lists.{contains-flat_map, contains-flat_map_back, contains-map, contains-map_back, contains_cases, contains_first, contains_later, contains_nothing}
 use Rattle.ext_races.proofs.Within.{nodes_within}
 use Rattle.ext_one_report.proofs.CoveredPaths.{path_there}
-use Rattle.ext_one_report.proofs.CoveredTouches.{in_range, step_of}
+use Rattle.ext_one_report.proofs.CoveredTouches.{in_range, is_made, step_of, turn_is}
 use Rattle.ext_one_report.proofs.SharedFound.{same_count}
 use Rattle.ext_one_report.proofs.WordCases.{computes_all}
 
@@ -131,25 +133,69 @@ made_split node before (first ∷ front) step more =
     contains_later (made_by node before first) (made_by node (before ++ first ∷ front) step) (made_after node (before ++ first ∷ []) (front ++ step ∷ more))
     (subst (λ b. Contains (made_after node (before ++ first ∷ []) (front ++ step ∷ more)) (made_by node b step)) (append_assoc before (first ∷ []) front) rest)
 
-module _ (plan : PlanText) (node : ℕ) (call : Call) (within : node < length plan.nodes) (among : Contains (calls_of plan node) call) (front : List StepText) (act : ActText) (more : List StepText)
-    (whole : steps_of_call plan call ≡ front ++ step_of act ∷ more) where
-  abbrev number_in : ℕ
-  number_in = place_of_key (keys_named plan) (key_of_step plan.keys act.key)
+-- what a step touches that changes the place it acts on, whatever comes before it
+module _ (plan : PlanText) (node : ℕ) (call : Call) (within : node < length plan.nodes) (among : Contains (calls_of plan node) call) (act : ActText) (there : Contains (steps_of_call plan call) (step_of act)) where
+  pub changes_there : changes act.word ≡ true → (t : TouchText)
+      → Contains (touches_along node (place_of_key (keys_named plan) (key_of_step plan.keys act.key)) act (drop act.up (plan_path plan node))) t → Contains (touches_made plan) t
+  changes_there changing t held =
+      let is = is_made plan node call (step_of act) within among there in
+      let number = place_of_key (keys_named plan) (key_of_step plan.keys act.key) in
+      contains-flat_map (touches_of (ids_of_nodes plan.nodes) plan.keys (keys_named plan)) (steps_made plan) (made_by node is.front (step_of act)) t is.made
+      (subst (λ p. Contains (touches_along node number act (drop act.up p)) t) (sym (reach_all plan.keys is.front (plan_path plan node) act changing)) held)
 
-  abbrev made : MadeText
-  made = made_by node front (step_of act)
+-- the steps of this call are made behind those, which are of calls of the node
+pub record IsMadeBehind (plan : PlanText) (node : ℕ) (call : Call) (earlier : List StepText) : Type 0 where
+  pub made : (front : List StepText) (step : StepText) (more : List StepText) → steps_of_call plan call ≡ front ++ step ∷ more → Contains (steps_made plan) (made_by node (earlier ++ front) step)
+  pub of : (step : StepText) → Contains earlier step → (one : Call) × Contains (calls_of plan node) one × Contains (steps_of_call plan one) step
 
-  is_made : Contains (steps_made plan) made
-  is_made =
-      contains-flat_map (made_of_node plan) (range_with_len 0 (length plan.nodes)) node made (in_range (length plan.nodes) node within)
-      (contains-flat_map (λ c. made_after node [] (steps_of_call plan c)) (calls_of plan node) call made among
-      (subst (λ steps. Contains (made_after node [] steps) made) (sym whole) (made_split node [] front (step_of act) more)))
+module _ (plan : PlanText) (node : ℕ) (within : node < length plan.nodes) where
+  abbrev opening : List Call
+  opening = calls_before plan node ++ test_call node ∷ []
 
-  -- what a step touches by its act
-  pub touches_there : (t : TouchText) → Contains (touches_along node number_in act (drop act.up (reach plan.keys front (plan_path plan node) act))) t → Contains (touches_made plan) t
-  touches_there t there = contains-flat_map (touches_of (ids_of_nodes plan.nodes) plan.keys (keys_named plan)) (steps_made plan) made t is_made there
+  abbrev first : List MadeText
+  first = made_in_turn plan node [] opening
 
-  -- where it changes the place that it acts on, that is all of the path from there
-  pub changes_there : changes act.word ≡ true → (t : TouchText) → Contains (touches_along node number_in act (drop act.up (plan_path plan node))) t → Contains (touches_made plan) t
-  changes_there changing t there =
-      touches_there t (subst (λ p. Contains (touches_along node number_in act (drop act.up p)) t) (sym (reach_all plan.keys front (plan_path plan node) act changing)) there)
+  abbrev last : List MadeText
+  last = flat_map (λ c. made_after node [] (steps_of_call plan c)) (calls_after plan node)
+
+  in_plan : (made : MadeText) → Contains (first ++ last) made → Contains (steps_made plan) made
+  in_plan made held = contains-flat_map (made_of_node plan) (range_with_len 0 (length plan.nodes)) node made (in_range (length plan.nodes) node within) held
+
+  -- those of a callback before the body, and of the body, behind those of all callbacks before it
+  pub behind_befores : (before : List Call) (call : Call) (more : List Call) → calls_before plan node ++ test_call node ∷ [] ≡ before ++ call ∷ more → IsMadeBehind plan node call (flat_map (steps_of_call plan) before)
+  behind_befores before call more is = record {
+    made = λ front step rest whole.
+        let f : Call → List StepText = steps_of_call plan in
+        let early = flat_map f before in
+        let late = flat_map f more in
+        let all : flat_map f opening ≡ (early ++ front) ++ step ∷ (rest ++ late) =
+        ap (flat_map f) is ∙ (flat_map-append f before (call ∷ more) ∙ (ap (λ l. early ++ (l ++ late)) whole
+        ∙ (ap (λ l. early ++ l) (append_assoc front (step ∷ rest) late) ∙ sym (append_assoc early front (step ∷ (rest ++ late)))))) in
+        let made = made_by node (early ++ front) step in
+        in_plan made (Contains-append_left first last made
+        (subst (λ (l : List MadeText). Contains l made) (sym (turn_is plan node [] opening))
+        (subst (λ (steps : List StepText). Contains (made_after node [] steps) made) (sym all) (made_split node [] (early ++ front) step (rest ++ late)))));
+    of = λ step held.
+        let one = contains-flat_map_back (steps_of_call plan) before step held in (
+          one.0,
+          Contains-append_left opening (calls_after plan node) one.0 (subst (λ (l : List Call). Contains l one.0) (sym is) (Contains-append_left before (call ∷ more) one.0 one.1)),
+          one.2,
+        );
+  }
+
+  -- those of a callback after it behind its own alone
+  pub behind_none : (call : Call) → Contains (calls_after plan node) call → IsMadeBehind plan node call []
+  behind_none call among = record {
+    made = λ front step rest whole.
+        let made = made_by node front step in
+        in_plan made (Contains-append_right first last made (contains-flat_map (λ c. made_after node [] (steps_of_call plan c)) (calls_after plan node) call made among
+        (subst (λ (steps : List StepText). Contains (made_after node [] steps) made) (sym whole) (made_split node [] front step rest))));
+    of = λ step held. contains_nothing step held;
+  }
+
+-- what a step touches by its act
+pub touches_there : (plan : PlanText) (node : ℕ) (call : Call) (earlier : List StepText) → IsMadeBehind plan node call earlier → (front : List StepText) (act : ActText) (more : List StepText)
+    → steps_of_call plan call ≡ front ++ step_of act ∷ more → (t : TouchText)
+    → Contains (touches_along node (place_of_key (keys_named plan) (key_of_step plan.keys act.key)) act (drop act.up (reach plan.keys (earlier ++ front) (plan_path plan node) act))) t → Contains (touches_made plan) t
+touches_there plan node call earlier behind front act more whole t held =
+    contains-flat_map (touches_of (ids_of_nodes plan.nodes) plan.keys (keys_named plan)) (steps_made plan) (made_by node (earlier ++ front) (step_of act)) t (behind.made front (step_of act) more whole) held

@@ -1,5 +1,5 @@
 -- The calls of a test in a plain run: which they are, what each of them keeps, and that there is room at each step where numbers are left at the end.
-use Rattle.std.proofs.Common.{◌≡◌, ℕ, ◌<◌, true, List, [], ◌∷◌, ◌++◌, Contains, refl, ap, sym, subst, arith, append_assoc}
+use Rattle.std.proofs.Common.{◌≡◌, ℕ, ◌<◌, true, List, [], ◌∷◌, ◌++◌, Contains, refl, ap, sym, subst, arith}
 use Rattle.std.specs.Prelude.{All, is_some}
 use Rattle.std.proofs.lemmas.List.Elements.{All-head, Contains-append_left, Contains-append_right}
 use Rattle.ext_model.specs.Sizes.{most_numbers}
@@ -9,7 +9,7 @@ use Rattle.ext_lifecycle.specs.Callbacks.{afters_of, befores_of, test_call}
 use Rattle.ext_plan.specs.Plans.{PlanText}
 use Rattle.ext_plan.specs.PlanCalls.{registered, steps_of_call, test_of}
 use Rattle.ext_plan.specs.ReadPlans.{IsReadPlan, ids_of_nodes}
-use Rattle.ext_races.specs.MadeSteps.{calls_of, plan_path}
+use Rattle.ext_races.specs.MadeSteps.{calls_after, calls_before, calls_of, plan_path}
 use Rattle.ext_races.specs.Touches.{keys_named}
 use Rattle.ext_races.proofs.Lists.{all_contained}
 use Rattle.ext_plain.specs.ValueStates.{ValueState}
@@ -28,10 +28,17 @@ module _ (plan : PlanText) (run : RunView) (read : IsReadPlan plan) (node : ℕ)
   abbrev pub Own : Call → Type 0
   Own = calls.Own plan run read node path its
 
+  back : plan_path plan node ≡ path
+  back = sym (its_path plan read.runnable.tree node path its)
+
+  pub befores_are : calls_before plan node ≡ befores_round plan node path
+  befores_are = λ i. befores_of (registered plan) (is_test i) node (back i)
+
+  pub afters_are : calls_after plan node ≡ afters_round plan node path
+  afters_are = λ i. afters_of (registered plan) (is_test i) node (back i)
+
   calls_are : calls_of plan node ≡ befores_round plan node path ++ test_call node ∷ [] ++ afters_round plan node path
-  calls_are =
-      let back : plan_path plan node ≡ path = sym (its_path plan read.runnable.tree node path its) in
-      λ i. befores_of (registered plan) (is_test i) node (back i) ++ test_call node ∷ [] ++ afters_of (registered plan) (is_test i) node (back i)
+  calls_are = λ i. befores_are i ++ test_call node ∷ [] ++ afters_are i
 
   abbrev opening : List Call
   opening = befores_round plan node path ++ test_call node ∷ []
@@ -53,11 +60,9 @@ module _ (plan : PlanText) (run : RunView) (read : IsReadPlan plan) (node : ℕ)
   pub own_afters : All Own (afters_round plan node path)
   own_afters = all_contained Own (afters_round plan node path) (λ call there. is_own call (Contains-append_right opening (afters_round plan node path) call there))
 
-  -- what is so of each of its calls is so of all
-  pub all_own : (P : Call → Type 0) → ((call : Call) → Own call → P call) → All P (befores_round plan node path ++ test_call node ∷ afters_round plan node path)
-  all_own P each =
-      all_contained P (befores_round plan node path ++ test_call node ∷ afters_round plan node path)
-      (λ call there. each call (is_own call (subst (λ l. Contains l call) (sym (append_assoc (befores_round plan node path) (test_call node ∷ []) (afters_round plan node path))) there)))
+  -- what is so of each of its callbacks after the body is so of all
+  pub all_after : (P : Call → Type 0) → ((call : Call) → Contains (calls_after plan node) call → P call) → All P (afters_round plan node path)
+  all_after P each = all_contained P (afters_round plan node path) (λ call there. each call (subst (λ (l : List Call). Contains l call) (sym afters_are) there))
 
   -- ---- what each call keeps
 

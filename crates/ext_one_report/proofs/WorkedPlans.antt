@@ -49,7 +49,7 @@ all_pass p [] each = refl
 all_pass p (y ∷ xs) each = both_true (p y) (list_all p xs) (each y (contains_first y xs)) (all_pass p xs (λ x there. each x (contains_later y x xs there)))
 
 -- no two touches of a plan are such
-abbrev no_pair : PlanText → (TouchText → TouchText → Bool) → Bool
+abbrev pub no_pair : PlanText → (TouchText → TouchText → Bool) → Bool
 no_pair plan p = list_all (λ t. list_all (λ u. not (p t u)) (touches_made plan)) (touches_made plan)
 
 not_such : (plan : PlanText) (p : TouchText → TouchText → Bool) (t u : TouchText) → no_pair plan p ≡ true → Contains (touches_made plan) t → Contains (touches_made plan) u → p t u ≡ true → ⊥
@@ -57,7 +57,7 @@ not_such plan p t u none one two such =
     let free : not (p t u) ≡ true = passes (λ u. not (p t u)) (touches_made plan) u (passes (λ t. list_all (λ u. not (p t u)) (touches_made plan)) (touches_made plan) t none one) two in
     true≢false (sym free ∙ ap not such)
 
-none_such : (plan : PlanText) (p : TouchText → TouchText → Bool) → ((t u : TouchText) → Contains (touches_made plan) t → Contains (touches_made plan) u → p t u ≡ true → ⊥) → no_pair plan p ≡ true
+pub none_such : (plan : PlanText) (p : TouchText → TouchText → Bool) → ((t u : TouchText) → Contains (touches_made plan) t → Contains (touches_made plan) u → p t u ≡ true → ⊥) → no_pair plan p ≡ true
 none_such plan p none = all_pass (λ t. list_all (λ u. not (p t u)) (touches_made plan)) (touches_made plan) (λ t one. all_pass (λ u. not (p t u)) (touches_made plan) (λ u two. elim (cases_Bool (p t u)) [
   | inl such ↦ absurd (none t u one two such)
   | inr other ↦ ap not other
@@ -66,7 +66,7 @@ none_such plan p none = all_pass (λ t. list_all (λ u. not (p t u)) (touches_ma
 -- ---- plans that keep apart
 
 -- the nodes may run beside one another, and the first may change the place that the second touches
-abbrev meet : PlanText → TouchText → TouchText → Bool
+abbrev pub meet : PlanText → TouchText → TouchText → Bool
 meet plan t u = nodes_beside plan t.node u.node && t.changes && (t.context == u.context) && (t.key == u.key)
 
 keeps_apart : (plan : PlanText) → no_pair plan (meet plan) ≡ true → KeepsApart plan
@@ -127,11 +127,11 @@ one_by_one_keeps_apart before first second = record {
 abbrev clash : PlanText → TouchText → TouchText → Bool
 clash plan t u = nodes_beside plan t.node u.node && clashes t u
 
-no_race : (plan : PlanText) (race : Race) → no_pair plan (clash plan) ≡ true → ¬ IsRace plan race
+pub no_race : (plan : PlanText) (race : Race) → no_pair plan (clash plan) ≡ true → ¬ IsRace plan race
 no_race plan race none is = not_such plan (clash plan) is.first is.second none is.first_made is.second_made
     (both_true _ _ (nodes_told plan is.first.node is.second.node (touch_within plan is.first is.first_made) (touch_within plan is.second is.second_made) is.beside) is.clash)
 
-same_text : (text : List ℕ) → bytes_eq text text ≡ true
+pub same_text : (text : List ℕ) → bytes_eq text text ≡ true
 same_text text = (bytes_decides text text).1 refl
 
 pub computes_are_no_race : ComputesAreNoRace

@@ -191,7 +191,24 @@ TestsAreRead =
 abbrev pub ComputesShareValues : Type 0
 ComputesShareValues = (text : List ℕ) → SharesValues (computing text)
 
--- Both tests share it in the class's context.
+-- The same two tests, if the class's callback before each of them computes the value, and they make these steps in their
+-- bodies and in the class's callback after each.
+abbrev pub computing_each : List ℕ → List StepText → List StepText → PlanText
+computing_each text body after = record (two_tests [] [] []) {
+  nodes = container root_id []
+      ∷ record (container class_id []) { before_each = (keyed words.Compute a text 1 ∷ []) ∷ []; after_each = (after ∷ []) }
+      ∷ test_of_class modes.Concurrent (codes "m") body ∷ test_of_class modes.Concurrent (codes "n") body ∷ [];
+}
+
+-- They share the value, if they look it up in their bodies, which run only after it was computed.
+abbrev pub LooksBehindShareValues : Type 0
+LooksBehindShareValues = (text wanted : List ℕ) → SharesValues (computing_each text (keyed words.Want a wanted 0 ∷ []) [])
+
+-- But not if the callback after each looks it up, which also runs if the one before failed.
+abbrev pub LooksAfterDoNot : Type 0
+LooksAfterDoNot = (text wanted : List ℕ) → ¬ SharesValues (computing_each text [] (keyed words.Want a wanted 0 ∷ []))
+
+-- Both of the two tests that compute in the class's context share the value there.
 abbrev pub FirstShares : Type 0
 FirstShares = (text : List ℕ)
     → shares_in (computing text) 2 1 (key_of_step (computing text).keys a)

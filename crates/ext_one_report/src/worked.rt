@@ -1,5 +1,5 @@
 //! Worked plans.
-ghost use Rattle.ext_one_report.specs.WorkedPlans.{ComputesAreNoRace, ComputesDoNot, LookAndPutDoNot, LooksKeepApart, OneByOneKeepsApart, OneTextTellsOne, OwnPutsKeepApart, PutsAboveDoNot, ReplacedDoesNotTellOne, TestsAreBeside, TestsAreRead, TwoContextsTellOne, TwoFaultsDoNotTellOne, TwoKeysKeepApart, WorkedHasKeys, WorkedHasNumbers, WorkedIsRead, WorkedKeepsApart, WorkedTellsOne, ClassSharesNone, ComputesShareValues, FirstShares, SecondShares};
+ghost use Rattle.ext_one_report.specs.WorkedPlans.{ComputesAreNoRace, ComputesDoNot, LookAndPutDoNot, LooksKeepApart, OneByOneKeepsApart, OneTextTellsOne, OwnPutsKeepApart, PutsAboveDoNot, ReplacedDoesNotTellOne, TestsAreBeside, TestsAreRead, TwoContextsTellOne, TwoFaultsDoNotTellOne, TwoKeysKeepApart, WorkedHasKeys, WorkedHasNumbers, WorkedIsRead, WorkedKeepsApart, WorkedTellsOne, ClassSharesNone, ComputesShareValues, FirstShares, LooksAfterDoNot, LooksBehindShareValues, SecondShares};
 
 /// Proves which of some small plans keep apart and whose closes tell one text, and that one plan
 /// has all that `report_laws` asks. It does nothing when it runs.
@@ -24,6 +24,8 @@ pub fn worked_plans()
     ensures tests_are_beside { TestsAreBeside }
     ensures tests_are_read { TestsAreRead }
     ensures computes_share { ComputesShareValues }
+    ensures looks_behind_share { LooksBehindShareValues }
+    ensures looks_after_do_not { LooksAfterDoNot }
     ensures first_shares { FirstShares }
     ensures second_shares { SecondShares }
     ensures class_shares_none { ClassSharesNone }

@@ -1,5 +1,5 @@
 -- What is found of a plan, put together.
-use Rattle.std.proofs.Common.{◌≡◌, ℕ, ◌<◌, ◌≤◌, Bool, true, false, List, length, map, sym, ap, subst, ◌∙◌, arith, All, inl, inr}
+use Rattle.std.proofs.Common.{◌≡◌, ℕ, ◌<◌, ◌≤◌, Bool, true, false, List, [], length, sym, ap, subst, ◌∙◌, arith, All, inl, inr}
 use Rattle.std.specs.Prelude.{◌==◌, ◌&&◌, nat_le, nat_lt}
 use Rattle.std.proofs.lemmas.Bool.{and_cases, and_parts, both_ways, cases_eq, cases_lt, eq-eqb, eqb-true, le-leb, lt-leb, lt-ltb, ltb-true, ne_eqb}
 use Rattle.std.specs.Borrow.{Bor}
@@ -12,17 +12,18 @@ use Rattle.ext_tree.specs.Trees.{Id}
 use Rattle.ext_plan.specs.Plans.{KeyText, PlanText}
 use Rattle.ext_plan.specs.ReadPlans.{ids_of_nodes}
 use Rattle.ext_plan.specs.declared.plan.StepKey.{StepKey}
-use Rattle.ext_plan.proofs.Lists.{All-map-back}
 use Rattle.ext_races.specs.declared.made.MadeStep.{MadeStep}
 use Rattle.ext_races.specs.declared.race.Race.{Race}
 use Rattle.ext_races.specs.Acts.{draws}
 use Rattle.ext_races.specs.InnerGroups.{IsGrouped}
 use Rattle.ext_races.specs.InnerNaming.{keys_of, keys_told}
 use Rattle.ext_races.specs.InnerTold.{groups_told}
-use Rattle.ext_races.specs.MadeSteps.{MadeText, made_view, steps_made}
+use Rattle.ext_races.specs.InnerMade.{made_views}
+use Rattle.ext_races.specs.MadeSteps.{MadeText, steps_made}
 use Rattle.ext_races.specs.Found.{HasRaces, IsWithin}
 use Rattle.ext_races.specs.Races.{AreRaces, IsRace}
 use Rattle.ext_races.specs.Touches.{TouchText, keys_named, numbers_drawn, touches_made, touches_of}
+use Rattle.ext_races.proofs.After.{views_all}
 use Rattle.ext_races.proofs.Exact.{are_races}
 use Rattle.ext_races.proofs.Within.{nodes_within}
 
@@ -83,8 +84,8 @@ module _ (plan : PlanText) (most : ℕ) (groups : List (List TouchText)) (keys :
   pub no_races : 0 < most → length told ≡ 0 → (race : Race) → ¬ IsRace plan race
   no_races some empty race is = let at = are.all (omega (arith, empty, some)) race is in let less = at.1 in omega (arith, less, empty)
 
-pub nodes_in : (plan : PlanText) (made : List MadeStep) (ids : List Id) → map made_view made ≡ steps_made plan → ids ≡ ids_of_nodes plan.nodes → All (λ m. m.node < length ids) made
+pub nodes_in : (plan : PlanText) (made : List MadeStep) (ids : List Id) → made_views [] made ≡ steps_made plan → ids ≡ ids_of_nodes plan.nodes → All (λ m. m.node < length ids) made
 nodes_in plan made ids steps nodes =
     let long = ap length nodes ∙ length-map plan.nodes (λ n. n.id) in
-    All-map-back (λ m. m.node < length ids) made_view made
-    (All-weaker (λ m. m.node < length plan.nodes) (λ m. m.node < length ids) (λ m less. omega (arith, less, long)) (map made_view made) (subst (All (λ m. m.node < length plan.nodes)) (sym steps) (nodes_within plan)))
+    views_all (λ n. n < length ids) [] made
+    (All-weaker (λ m. m.node < length plan.nodes) (λ m. m.node < length ids) (λ m less. omega (arith, less, long)) (made_views [] made) (subst (All (λ m. m.node < length plan.nodes)) (sym steps) (nodes_within plan)))

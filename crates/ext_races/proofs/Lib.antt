@@ -10,6 +10,7 @@ pub mod Lists
 pub mod Named
 pub mod Noted
 pub mod Paths
+pub mod Reaches
 pub mod Searches
 pub mod Sides
 pub mod StepTouches

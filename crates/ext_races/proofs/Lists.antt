@@ -65,21 +65,27 @@ flat_map-range_more f count =
     ap (λ n. flat_map f (range_with_len 0 n)) (add-one count) ∙ ap (flat_map f) (range_more 0 count) ∙ flat_map-append f (range_with_len 0 count) ((0 + count) ∷ [])
     ∙ ap (λ k. flat_map f (range_with_len 0 count) ++ (f k ++ [])) (zero-add count) ∙ ap (λ ys. flat_map f (range_with_len 0 count) ++ ys) (append-nil (f count))
 
-pub map-take_more : {A B : Type 0} (f : A → B) (xs : List A) (i : ℕ) (x : A) → i < length xs → x ≡ get_or xs i x → map f (take (i + 1) xs) ≡ map f (take i xs) ++ f x ∷ []
-map-take_more f xs i x less is = ap (map f) (ap (λ n. take n xs) (add-one i) ∙ go xs i x less is) ∙ map-append f (take i xs) (x ∷ [])
+pub take_more : {A : Type 0} (xs : List A) (i : ℕ) (x : A) → i < length xs → x ≡ get_or xs i x → take (i + 1) xs ≡ take i xs ++ x ∷ []
+take_more xs i x less is = ap (λ n. take n xs) (add-one i) ∙ go xs i x less is
   where
     go : {A : Type 0} (xs : List A) (i : ℕ) (x : A) → i < length xs → x ≡ get_or xs i x → take (suc i) xs ≡ take i xs ++ x ∷ []
     go [] i x less is = absurd (omega (arith, less))
     go (y ∷ xs) zero x less is = ap (λ z. z ∷ []) (sym is)
     go (y ∷ xs) (suc i) x less is = ap (λ zs. y ∷ zs) (go xs i x (omega (arith, less)) is)
 
+pub map-take_more : {A B : Type 0} (f : A → B) (xs : List A) (i : ℕ) (x : A) → i < length xs → x ≡ get_or xs i x → map f (take (i + 1) xs) ≡ map f (take i xs) ++ f x ∷ []
+map-take_more f xs i x less is = ap (map f) (take_more xs i x less is) ∙ map-append f (take i xs) (x ∷ [])
+
+same_at : {A : Type 0} (xs : List A) (i : ℕ) (d e : A) → i < length xs → get_or xs i d ≡ get_or xs i e
+same_at [] i d e less = absurd (omega (arith, less))
+same_at (x ∷ xs) zero d e less = refl
+same_at (x ∷ xs) (suc i) d e less = same_at xs i d e (omega (arith, less))
+
+pub take_at_more : {A : Type 0} (xs : List A) (i : ℕ) (d : A) → i < length xs → take (i + 1) xs ≡ take i xs ++ get_or xs i d ∷ []
+take_at_more xs i d less = take_more xs i (get_or xs i d) less (same_at xs i d (get_or xs i d) less)
+
 pub map-take_at : {A B : Type 0} (f : A → B) (xs : List A) (i : ℕ) (d : A) → i < length xs → map f (take (i + 1) xs) ≡ map f (take i xs) ++ f (get_or xs i d) ∷ []
-map-take_at f xs i d less = map-take_more f xs i (get_or xs i d) less (same xs i d (get_or xs i d) less)
-  where
-    same : {A : Type 0} (xs : List A) (i : ℕ) (d e : A) → i < length xs → get_or xs i d ≡ get_or xs i e
-    same [] i d e less = absurd (omega (arith, less))
-    same (x ∷ xs) zero d e less = refl
-    same (x ∷ xs) (suc i) d e less = same xs i d e (omega (arith, less))
+map-take_at f xs i d less = map-take_more f xs i (get_or xs i d) less (same_at xs i d (get_or xs i d) less)
 
 pub contains_at : {A : Type 0} (xs : List A) (k : ℕ) (d : A) → k < length xs → Contains xs (get_or xs k d)
 contains_at [] k d less = absurd (omega (arith, less))

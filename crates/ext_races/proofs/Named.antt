@@ -12,7 +12,8 @@ use Rattle.std.proofs.lemmas.Map.Views.{list_any-from_Contains}
 use Rattle.ext_tree.specs.Traits.{key_eq_equiv}
 use Rattle.ext_races.specs.declared.made.MadeStep.{MadeStep}
 use Rattle.ext_races.specs.InnerNaming.{keys_told}
-use Rattle.ext_races.specs.MadeSteps.{MadeText, made_view}
+use Rattle.ext_races.specs.InnerMade.{made_view}
+use Rattle.ext_races.specs.MadeSteps.{MadeText}
 use Rattle.ext_races.specs.Touches.{key_of_made, keys_of_steps, with_key_of}
 
 -- one key more stands at the end, if any does

@@ -1,16 +1,14 @@
 -- What a step touches, by the act that it is.
-use Rattle.std.proofs.Common.{◌≡◌, ℕ, ◌*◌, ◌<◌, Bool, true, false, List, [], ◌∷◌, Option, Some, None, IfSome, drop, take, map, length, get_or, ◌+◌, ◌++◌, refl, ap, sym, subst, ◌∙◌, arith, All}
+use Rattle.std.proofs.Common.{◌≡◌, ℕ, ◌*◌, ◌<◌, Bool, true, false, List, [], ◌∷◌, Option, Some, None, IfSome, drop, take, ◌+◌, refl, ap, sym, subst, ◌∙◌, arith, All}
 use Rattle.std.proofs.Math.Nat.{mul-le-mul_right}
 use Rattle.std.proofs.lemmas.List.Elements.{All-drop, All-take, All-weaker}
 use Rattle.ext_tree.specs.Keys.{KeyValue}
 use Rattle.ext_tree.specs.Traits.{key_eq}
 use Rattle.ext_tree.specs.Trees.{Id}
 use Rattle.std.specs.Prelude.{◌&&◌, if◌then◌else◌}
-use Rattle.ext_plan.specs.Plans.{KeyText, StepText, step_view}
-use Rattle.ext_plan.specs.declared.plan.Step.{Step}
+use Rattle.ext_plan.specs.Plans.{KeyText, StepText}
 use Rattle.ext_plan.specs.StoreKeys.{is_there, key_of_step, place_of_key}
 use Rattle.ext_plan.specs.StepWords.{changes, gives_value}
-use Rattle.ext_races.proofs.Lists.{map-take_more}
 use Rattle.ext_races.specs.Acts.{ActText, act_of}
 use Rattle.ext_races.specs.InnerGroups.{HasGroups}
 use Rattle.ext_races.specs.MadeSteps.{MadeText, path_of}
@@ -51,17 +49,6 @@ module _ (P : ℕ → Type 0) where
 
   pub all_reach : (declared : List KeyText) (before : List StepText) (path : List ℕ) (act : ActText) → All P path → All P (reach declared before path act)
   all_reach declared before path act all = all_reach_if (changes act.word) path (below_computes declared (key_of_step declared act.key) path before) all (all_below declared (key_of_step declared act.key) path before all)
-
--- ---- one step after another
-
-below_push : (declared : List KeyText) (key : KeyValue) (path : List ℕ) (before : List StepText) (step : StepText)
-    → below_computes declared key path (before ++ step ∷ []) ≡ below_act declared key (below_computes declared key path before) (act_of step)
-below_push declared key path [] step = refl
-below_push declared key path (first ∷ more) step = below_push declared key (below_act declared key path (act_of first)) more step
-
-pub below_more : (declared : List KeyText) (key : KeyValue) (path : List ℕ) (before : List Step) (i : ℕ) (step : Step) → i < length before → step ≡ get_or before i step
-    → below_computes declared key path (map step_view (take (i + 1) before)) ≡ below_act declared key (below_computes declared key path (map step_view (take i before))) (act_of (step_view step))
-below_more declared key path before i step less read = ap (below_computes declared key path) (map-take_more step_view before i step less read) ∙ below_push declared key path (map step_view (take i before)) (step_view step)
 
 pub reach_below : (declared : List KeyText) (before : List StepText) (path : List ℕ) (act : ActText) → changes act.word ≡ false → below_computes declared (key_of_step declared act.key) path before ≡ reach declared before path act
 reach_below declared before path act looks = rw looks refl

@@ -3,9 +3,11 @@ pub mod Beside
 pub mod Clashes
 pub mod Found
 pub mod InnerGroups
+pub mod InnerMade
 pub mod InnerNaming
 pub mod InnerPassing
 pub mod InnerProving
+pub mod InnerReach
 pub mod InnerTold
 pub mod MadeSteps
 pub mod OneReports

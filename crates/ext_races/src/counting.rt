@@ -16,7 +16,7 @@ const KEYS: usize = 1_024;
 /// Counts the different keys that the steps of the plan name in a run: `None` if they are more than
 /// 1,024.
 ///
-/// Takes memory for the steps that the plan may make, 32 bytes each, and for the keys, and gives it
+/// Takes memory for the steps that the plan may make, 24 bytes each, and for the keys, and gives it
 /// back; fails with `AllocError` only if that is refused.
 pub fn count_keys(alloc: Global, plan: &Plan) -> Result<Option<usize>, AllocError>
     requires { IsRunnablePlan (plan_view plan.now) }

@@ -29,7 +29,7 @@ use std::alloc::{AllocError, Global};
 /// `TooManyNumbers` that they may draw more numbers than a plan of this size may. Such a plan has
 /// no one report, whatever its nodes touch.
 ///
-/// Takes memory for the steps that the plan may make, 32 bytes each, for what they touch, for each
+/// Takes memory for the steps that the plan may make, 24 bytes each, for what they touch, for each
 /// node, and for a list for each key that they name in each context; fails with `AllocError` only
 /// if that is refused. The time grows with the number of steps. At a place where nodes that may run
 /// beside one another don't all look or all compute the same, it grows with the number of pairs of

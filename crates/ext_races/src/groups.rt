@@ -1,20 +1,21 @@
 //! Touches in groups: one for each place, and one for each context's values whose closes may fail.
-ghost use Rattle.std.specs.Prelude.{◌≡◌, ◌+◌, ◌*◌, ◌<◌, [], ◌∷◌, true, All, IfOk, IfSome, OnOk, length, map, vec_len, drop, take, reverse};
+ghost use Rattle.std.specs.Prelude.{◌≡◌, ◌+◌, ◌*◌, ◌<◌, [], ◌∷◌, true, false, List, All, IfOk, IfSome, OnOk, length, map, vec_len, drop, take, reverse};
 ghost use Rattle.std.specs.List.{flat_map, list_any};
 ghost use Rattle.ext_plan.specs.StepCalls.{keys_in};
-ghost use Rattle.ext_plan.specs.Plans.{step_key_view};
+ghost use Rattle.ext_plan.specs.Plans.{StepText, step_key_view};
 ghost use Rattle.ext_plan.specs.StoreKeys.{is_there, key_of_step, place_of_key};
 ghost use Rattle.ext_races.specs.Acts.{act_view};
 ghost use Rattle.ext_races.specs.InnerGroups.{AreEmpty, HasGroups, IsAdded, IsGrouped, IsPushed, groups_view};
+ghost use Rattle.ext_races.specs.InnerMade.{left_by, made_behind, made_view, made_views};
 ghost use Rattle.ext_races.specs.InnerNaming.{keys_told};
+ghost use Rattle.ext_races.specs.InnerReach.{AreWhole, Tells};
 ghost use Rattle.ext_races.specs.InnerTold.{touch_eq};
-ghost use Rattle.ext_races.specs.MadeSteps.{made_view};
 ghost use Rattle.ext_races.specs.Touches.{key_of_made, touch_view, touches_above, touches_along, touches_of};
 
 use crate::act::act_of;
 use crate::made::{MadeStep, path_in};
 use crate::naming::store_key;
-use crate::reach::reach;
+use crate::reach::{forget, note, reach, whole_paths};
 use crate::touch::{Touch, touch_of};
 use ext_model::{ContextNo, KeyNo};
 use ext_plan::{KeyedStep, StepKey, StepKeys};
@@ -36,11 +37,12 @@ pub(crate) fn groups_of<'p>(
     requires keys { directory.now ≡ keys_told (keys_in keys.now) (map made_view made.now) }
     requires nodes { All (λ m. m.node < length tree.now) made.now }
     ensures count { IfOk result (λ v. vec_len v ≡ length tree.now * (length directory.now + 1)) }
-    ensures groups { IfOk result (λ v. IsGrouped (length directory.now) (flat_map (touches_of tree.now (keys_in keys.now) directory.now) (map made_view made.now)) (groups_view v.items)) }
+    ensures groups { IfOk result (λ v. IsGrouped (length directory.now) (flat_map (touches_of tree.now (keys_in keys.now) directory.now) (made_views [] made.now)) (groups_view v.items)) }
 {
     let mut groups = no_groups(alloc, tree.len() * (directory.len() + 1))?;
+    let mut below = whole_paths(alloc, directory.len())?;
     for step in made {
-        add_step(alloc, keys, directory, tree, step, &mut groups)?;
+        add_step(alloc, keys, directory, tree, step, &mut below, &mut groups)?;
     }
     Ok(groups)
 }
@@ -56,28 +58,44 @@ fn no_groups<'p>(alloc: Global, count: usize) -> Result<Vec<Vec<Touch<'p>>>, All
     Ok(groups)
 }
 
-/// Adds what a step touches. Its key has to be in the directory.
+/// Adds what a step touches, and notes what it computes. Its key has to be in the directory.
 fn add_step<'p>(
     alloc: Global,
     keys: &StepKeys<'_>,
     directory: &Directory,
     tree: &Tree,
     step: &MadeStep<'p>,
+    below: &mut Vec<usize>,
     groups: &mut Vec<Vec<Touch<'p>>>,
 ) -> Result<(), AllocError>
+    requires below { length below.old.items ≡ length directory.now }
     requires key { IfSome (key_of_made (keys_in keys.now) (made_view step.now)) (λ key. is_there directory.now key ≡ true) }
     requires node { step.now.node < length tree.now }
     requires count { vec_len groups.old ≡ length tree.now * (length directory.now + 1) }
-    ensures { OnOk result (IsAdded (length directory.now) (touches_of tree.now (keys_in keys.now) directory.now (made_view step.now)) (groups_view groups.old.items) (groups_view groups.new.items)) }
+    ensures added { OnOk result ((before : List StepText) → Tells (keys_in keys.now) directory.now before below.old.items → IsAdded (length directory.now) (touches_of tree.now (keys_in keys.now) directory.now (made_behind before step.now)) (groups_view groups.old.items) (groups_view groups.new.items)) }
+    ensures tells { OnOk result ((before : List StepText) → Tells (keys_in keys.now) directory.now before below.old.items → Tells (keys_in keys.now) directory.now (left_by before step.now) below.new.items) }
 {
+    begin(step, below);
     let Some(act) = act_of(step.step) else {
         return Ok(());
     };
     let key = key_number(alloc, keys, directory, act.key)?;
-    let seen = reach(alloc, keys, &act, step.before, path_in(tree, step.node))?;
+    let seen = reach(below.as_slice(), &act, key, path_in(tree, step.node));
     let path = ancestor(seen, act.up);
     add_act(groups, directory.len(), step.node, key, &act, path)?;
+    note(below, &act, key);
     Ok(())
+}
+
+/// Forgets what was computed, if the step is marked as the first.
+fn begin(step: &MadeStep<'_>, below: &mut Vec<usize>)
+    ensures count { length below.new.items ≡ length below.old.items }
+    ensures kept { step.now.first ≡ false → below.new.items ≡ below.old.items }
+    ensures whole { step.now.first ≡ true → AreWhole below.new.items }
+{
+    if step.first {
+        forget(below);
+    }
 }
 
 /// The number of a key that a step names, which has to be in the directory.

@@ -6,8 +6,8 @@ ghost use Rattle.ext_plan.specs.Plans.{plan_view, step_key_view, step_view};
 ghost use Rattle.ext_plan.specs.StepCalls.{keys_in};
 ghost use Rattle.ext_plan.specs.StoreKeys.{key_of_step, with_key};
 ghost use Rattle.ext_races.specs.Acts.{draws};
+ghost use Rattle.ext_races.specs.InnerMade.{made_view};
 ghost use Rattle.ext_races.specs.InnerNaming.{keys_of, keys_told};
-ghost use Rattle.ext_races.specs.MadeSteps.{made_view};
 ghost use Rattle.ext_races.specs.Touches.{key_of_made, with_key_of};
 
 use crate::act::{act_of, draws};

@@ -1,71 +1,64 @@
 //! How much of its node's path a step touches.
-ghost use Rattle.std.specs.Prelude.{◌≡◌, IfOk, map, take};
-ghost use Rattle.ext_plan.specs.Plans.{step_view};
-ghost use Rattle.ext_plan.specs.StepCalls.{keys_in};
-ghost use Rattle.ext_plan.specs.StoreKeys.{key_of_step};
-ghost use Rattle.ext_tree.specs.Traits.{key_eq};
-ghost use Rattle.ext_races.specs.Acts.{act_of, act_view};
-ghost use Rattle.ext_races.specs.Touches.{below_act, reach};
+ghost use Rattle.std.specs.Prelude.{◌≡◌, ◌<◌, IfOk, length, take, if◌then◌else◌};
+ghost use Rattle.ext_plan.specs.StepWords.{changes};
+ghost use Rattle.ext_races.specs.Acts.{act_view};
+ghost use Rattle.ext_races.specs.InnerReach.{AreWhole, below_at, noted};
 
-use crate::act::act_of;
-use crate::naming::store_key;
-use ext_model::ContextNo;
-use ext_plan::{KeyedStep, Step, StepKeys};
-use ext_tree::Key;
+use ext_model::{ContextNo, KeyNo};
+use ext_plan::KeyedStep;
 use std::alloc::{AllocError, Global};
 
-/// The part of a path that an act reaches after these steps of the same call: a look-up stops below
-/// a context where one of them computed a value of its key.
-pub(crate) fn reach<'t>(
-    alloc: Global,
-    keys: &StepKeys<'_>,
-    act: &KeyedStep<'_>,
-    before: &[Step],
-    path: &'t [ContextNo],
-) -> Result<&'t [ContextNo], AllocError>
-    ensures { IfOk result (λ r. r.now ≡ reach (keys_in keys.now) (map step_view before.now) path.now (act_view act.now)) }
+/// No path has more contexts.
+const LEVELS: usize = 16;
+
+/// For each of so many keys how many contexts of a path a look-up touches: all of them. Takes memory
+/// for them.
+pub(crate) fn whole_paths(alloc: Global, keys: usize) -> Result<Vec<usize>, AllocError>
+    ensures count { IfOk result (λ v. length v.items ≡ keys) }
+    ensures whole { IfOk result (λ v. AreWhole v.items) }
 {
-    if act.word.changes() {
-        return Ok(path);
-    }
-    let key = store_key(alloc, keys, act.key)?;
-    let mut below = path;
-    for step in before {
-        below = below_step(alloc, keys, &key, step, below)?;
+    let mut below = Vec::new(alloc);
+    for _ in 0..keys {
+        below.push(LEVELS)?;
     }
     Ok(below)
 }
 
-/// The part of the path below the context in which the step computes a value of this key.
-fn below_step<'t>(
-    alloc: Global,
-    keys: &StepKeys<'_>,
-    key: &Key,
-    step: &Step,
-    path: &'t [ContextNo],
-) -> Result<&'t [ContextNo], AllocError>
-    ensures { IfOk result (λ r. r.now ≡ below_act (keys_in keys.now) key.now path.now (act_of (step_view step.now))) }
+/// Forgets what was computed.
+pub(crate) fn forget(below: &mut Vec<usize>)
+    ensures count { length below.new.items ≡ length below.old.items }
+    ensures whole { AreWhole below.new.items }
 {
-    let Some(act) = act_of(step) else {
-        return Ok(path);
-    };
-    if act.word.gives_value() && act.up < path.len() && is_of(alloc, keys, &act, key)? {
-        return Ok(lower(path, act.up));
+    for key in 0..below.len() {
+        below[key] = LEVELS;
     }
-    Ok(path)
 }
 
-/// Tests whether an act names this key.
-fn is_of(
-    alloc: Global,
-    keys: &StepKeys<'_>,
+/// The part of a path that an act on the key with this number reaches: a look-up stops below a
+/// context where a step computed a value of its key.
+pub(crate) fn reach<'t>(
+    below: &[usize],
     act: &KeyedStep<'_>,
-    key: &Key,
-) -> Result<bool, AllocError>
-    ensures { IfOk result (λ is. is ≡ key_eq (key_of_step (keys_in keys.now) (act_view act.now).key) key.now) }
+    key: KeyNo,
+    path: &'t [ContextNo],
+) -> &'t [ContextNo]
+    requires { key < length below.now }
+    ensures { result.now ≡ (if changes (act_view act.now).word then path.now else take (below_at below.now key) path.now) }
 {
-    let called = keys.key_of(alloc, act.key)?;
-    Ok(called.key() == key)
+    if act.word.changes() {
+        return path;
+    }
+    lower(path, below[key])
+}
+
+/// Notes where an act computes a value of the key with this number.
+pub(crate) fn note(below: &mut Vec<usize>, act: &KeyedStep<'_>, key: KeyNo)
+    requires { key < length below.old.items }
+    ensures { below.new.items ≡ noted below.old.items key (act_view act.now) }
+{
+    if act.word.gives_value() && act.up < below[key] {
+        below[key] = act.up;
+    }
 }
 
 /// The first `up` contexts of the path.

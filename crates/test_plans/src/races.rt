@@ -20,7 +20,7 @@ const ONE: &str = "no races: one report\n";
 const NEAR: &str = "no races: one report but for computed and found\n";
 
 /// The fields of these six nodes, and what is told of the plan's races.
-const PLANS: [([&str; 6], &str); 23] = [
+const PLANS: [([&str; 6], &str); 27] = [
     // each test puts into its own context
     (
         [
@@ -178,17 +178,65 @@ const PLANS: [([&str; 6], &str); 23] = [
         ],
         "none a of [e:x]/[c:A]/[t:m] and computefail a of [e:x]/[c:A]/[t:n] in [e:x]/[c:A]\n",
     ),
-    // a compute of another call hides none
+    // behind a compute of a callback before the test
+    (
+        [
+            "",
+            "before_each = [['compute! a x up 1'], ['want a x']]",
+            "test = ['want a x']",
+            "before_each = [['want a x']]\ntest = ['want a x']",
+            "",
+            "test = []",
+        ],
+        NEAR,
+    ),
+    // behind a compute of a callback of its own container
+    (
+        [
+            "",
+            "before_all = [['compute! a x up 1'], ['want a x']]",
+            "test = []",
+            "test = []",
+            "before_all = [['compute! a x up 1'], ['want a x']]",
+            "test = []",
+        ],
+        NEAR,
+    ),
+    // a callback after the test runs also where those before it failed
     (
         [
             "",
             "",
-            "before_each = [['compute a x up 1']]\ntest = ['want a x']",
+            "before_each = [['compute a x up 1']]\ntest = []\nafter_each = [['want a x']]",
             "test = ['compute a x up 1']",
             "",
             "test = []",
         ],
         "want a of [e:x]/[c:A]/[t:m] and compute a of [e:x]/[c:A]/[t:n] in [e:x]/[c:A]\n",
+    ),
+    // and also where another one after it failed
+    (
+        [
+            "",
+            "",
+            "test = []\nafter_each = [['want a x'], ['compute a x up 1']]",
+            "test = ['compute a x up 1']",
+            "",
+            "test = []",
+        ],
+        "want a of [e:x]/[c:A]/[t:m] and compute a of [e:x]/[c:A]/[t:n] in [e:x]/[c:A]\n",
+    ),
+    // a compute of another test hides none
+    (
+        [
+            "",
+            "",
+            "test = ['compute a x up 1']",
+            "test = ['want a x']",
+            "",
+            "test = []",
+        ],
+        "compute a of [e:x]/[c:A]/[t:m] and want a of [e:x]/[c:A]/[t:n] in [e:x]/[c:A]\n",
     ),
     // from below the compute the look-up comes by a place that another test changes
     (

@@ -1,4 +1,4 @@
-use Rattle.std.proofs.Common.{◌≡◌, ◌+◌, ◌*◌, ◌∙◌, map, length, ap, subst, sym, arith, All, ◌<◌, vec_len}
+use Rattle.std.proofs.Common.{◌≡◌, ◌+◌, ◌*◌, ◌∙◌, [], Err, map, length, ap, subst, sym, arith, All, ◌<◌, vec_len}
 use Rattle.std.specs.Prelude.{nat_le}
 use Rattle.std.specs.List.{count_by}
 use Rattle.ext_plan.specs.Plans.{keys_view, plan_view}
@@ -6,9 +6,10 @@ use Rattle.ext_plan.specs.StepCalls.{keys_in}
 use Rattle.ext_races.specs.Acts.{draws}
 use Rattle.ext_races.specs.InnerGroups.{IsGrouped, groups_view}
 use Rattle.ext_races.specs.InnerNaming.{keys_told}
-use Rattle.ext_races.specs.MadeSteps.{made_view}
+use Rattle.ext_races.specs.InnerMade.{made_view, made_views}
 use Rattle.ext_races.specs.Touches.{numbers_drawn, touches_made}
-use Rattle.ext_races.proofs.Finds.{all_or_fewer, drawn_is, nodes_in, touches_in, within_limits}
+use Rattle.ext_races.proofs.After.{drawn_same, keys_same}
+use Rattle.ext_races.proofs.Finds.{all_or_fewer, drawn_is, named_is, nodes_in, touches_in, within_limits}
 use Rattle.ext_races.proofs.finding.races.Goals as goal
 
 pub groups_of-requires-clause-nodes : goal.groups_of-requires-clause-nodes
@@ -26,8 +27,8 @@ found_in-requires-clause-groups c =
     let plan = plan_view c.args.plan.now in
     let made = c.in_ok-made.made.items in
     let keys = c.of-keys.ensures ∙ ap keys_view c.as_slice.ensures.value in
-    let named = c.in-Ok.ensures.keys ∙ ap (λ xs. keys_told (keys_in c.of-keys.result) (map made_view xs)) c.as_slice-3.ensures.value in
-    let are = touches_in plan (map made_view made) c.in_ok-made.ensures (keys_in c.of-keys.result) c.in-Ok.named.0 c.in_ok-tree.tree (groups_view c.in_ok-groups.groups.items) keys c.in_ok-tree.ensures named
+    let named = c.in-Ok.ensures.keys ∙ ap (λ xs. keys_told (keys_in c.of-keys.result) (map made_view xs)) c.as_slice-3.ensures.value ∙ keys_same (keys_in c.of-keys.result) [] [] made in
+    let are = touches_in plan (made_views [] made) c.in_ok-made.ensures (keys_in c.of-keys.result) c.in-Ok.named.0 c.in_ok-tree.tree (groups_view c.in_ok-groups.groups.items) keys c.in_ok-tree.ensures named
     (rw (← c.as_slice-5.ensures.value) c.in_ok-groups.ensures.groups) in
     subst (λ n. IsGrouped n (touches_made plan) (groups_view c.as_slice-6.result.now)) (sym c.len-keys.ensures.count)
     (subst (λ groups. IsGrouped (length c.in-Ok.named.0) (touches_made plan) (groups_view groups)) (sym c.as_slice-6.ensures.value) are)
@@ -37,15 +38,41 @@ found_in-requires-clause-within c =
     let plan = plan_view c.args.plan.now in
     let made = c.in_ok-made.made.items in
     let keys = c.of-keys.ensures ∙ ap keys_view c.as_slice.ensures.value in
-    within_limits plan (map made_view made) c.in_ok-made.ensures (keys_in c.of-keys.result) c.in-Ok.named.0 c.in-Ok.named.1.items c.numbers_drawn-drawn.result keys
-    (c.in-Ok.ensures.keys ∙ ap (λ xs. keys_told (keys_in c.of-keys.result) (map made_view xs)) c.as_slice-3.ensures.value) c.in-Ok.ensures.few c.in-Ok.ensures.names
-    (c.numbers_drawn-drawn.ensures ∙ ap (λ xs. count_by (λ m. draws plan.keep_faults m.step) (map made_view xs)) c.as_slice-4.ensures.value)
+    within_limits plan (made_views [] made) c.in_ok-made.ensures (keys_in c.of-keys.result) c.in-Ok.named.0 c.in-Ok.named.1.items c.numbers_drawn-drawn.result keys
+    (c.in-Ok.ensures.keys ∙ ap (λ xs. keys_told (keys_in c.of-keys.result) (map made_view xs)) c.as_slice-3.ensures.value ∙ keys_same (keys_in c.of-keys.result) [] [] made) c.in-Ok.ensures.few c.in-Ok.ensures.names
+    (c.numbers_drawn-drawn.ensures ∙ ap (λ xs. count_by (λ m. draws plan.keep_faults m.step) (map made_view xs)) c.as_slice-4.ensures.value ∙ drawn_same plan.keep_faults [] made)
     (let few = c.if-drawn-numbers.false in let most = c.numbers-numbers.ensures in omega (arith, few, most))
 
 pub found_in-requires-clause-numbers : goal.found_in-requires-clause-numbers
 found_in-requires-clause-numbers c =
     let plan = plan_view c.args.plan.now in
     let made = c.in_ok-made.made.items in
-    let counted = c.numbers_drawn-drawn.ensures ∙ ap (λ xs. count_by (λ m. draws plan.keep_faults m.step) (map made_view xs)) c.as_slice-4.ensures.value in
+    let counted = c.numbers_drawn-drawn.ensures ∙ ap (λ xs. count_by (λ m. draws plan.keep_faults m.step) (map made_view xs)) c.as_slice-4.ensures.value ∙ drawn_same plan.keep_faults [] made in
     all_or_fewer c.numbers_drawn-drawn.result c.numbers-numbers.result (let few = c.if-drawn-numbers.false in omega (arith, few))
-    ∙ ap (nat_le c.numbers-numbers.result) (drawn_is plan (map made_view made) c.in_ok-made.ensures c.numbers_drawn-drawn.result counted) ∙ ap (λ most. nat_le most (numbers_drawn plan)) c.numbers-numbers.ensures
+    ∙ ap (nat_le c.numbers-numbers.result) (drawn_is plan (made_views [] made) c.in_ok-made.ensures c.numbers_drawn-drawn.result counted) ∙ ap (λ most. nat_le most (numbers_drawn plan)) c.numbers-numbers.ensures
+
+pub returns-in-Err-TooMany : goal.returns-in-Err-TooMany
+returns-in-Err-TooMany c =
+    let plan = plan_view c.args.plan.now in
+    let made = c.in_ok-made.made.items in
+    let declared = keys_in c.of-keys.result in
+    let keys = c.of-keys.ensures ∙ ap keys_view c.as_slice.ensures.value in
+    let told = ap (λ xs. keys_told declared (map made_view xs)) c.as_slice-3.ensures.value ∙ keys_same declared [] [] made in
+    let full = c.in-Err-TooMany.ensures.full (ap Err c.in-Err-TooMany.field-0-is) in
+    let long = ap length (named_is plan (made_views [] made) c.in_ok-made.ensures declared _ keys told) in
+    omega (arith, full, long)
+
+pub returns-then-drawn-numbers : goal.returns-then-drawn-numbers
+returns-then-drawn-numbers c =
+    let plan = plan_view c.args.plan.now in
+    let made = c.in_ok-made.made.items in
+    let declared = keys_in c.of-keys.result in
+    let keys = c.of-keys.ensures ∙ ap keys_view c.as_slice.ensures.value in
+    let told = c.in-Ok.ensures.keys ∙ ap (λ xs. keys_told declared (map made_view xs)) c.as_slice-3.ensures.value ∙ keys_same declared [] [] made in
+    let long = ap length (named_is plan (made_views [] made) c.in_ok-made.ensures declared _ keys told) in
+    let few = c.in-Ok.ensures.few in
+    let counted = c.numbers_drawn-drawn.ensures ∙ ap (λ xs. count_by (λ m. draws plan.keep_faults m.step) (map made_view xs)) c.as_slice-4.ensures.value ∙ drawn_same plan.keep_faults [] made in
+    let drawn = drawn_is plan (made_views [] made) c.in_ok-made.ensures c.numbers_drawn-drawn.result counted in
+    let more = c.if-drawn-numbers.true in
+    let most = c.numbers-numbers.ensures in
+    (omega (arith, long, few), omega (arith, drawn, more, most))

@@ -1,18 +1,26 @@
-use Rattle.std.proofs.Common.{◌≡◌, ◌+◌, ◌*◌, ◌<◌, ◌∷◌, ◌++◌, [], ◌∙◌, ap, sym, subst, arith, length, map, take, append-nil}
+use Rattle.std.proofs.Common.{◌≡◌, ◌+◌, ◌*◌, ◌<◌, ◌∷◌, ◌++◌, [], ◌∙◌, ap, sym, subst, arith, length, take, append-nil}
 use Rattle.std.specs.List.{flat_map}
 use Rattle.std.proofs.lemmas.Grind.{flat_map-append}
 use Rattle.std.proofs.lemmas.List.{length-map, take_all}
 use Rattle.ext_plan.specs.StepCalls.{keys_in}
 use Rattle.ext_races.specs.InnerGroups.{IsAdded, group_view, groups_view}
-use Rattle.ext_races.specs.MadeSteps.{made_view}
+use Rattle.ext_races.specs.InnerMade.{left_after, made_behind, made_views}
+use Rattle.ext_races.specs.InnerReach.{Tells}
 use Rattle.ext_races.specs.Touches.{touches_of}
 use Rattle.ext_races.proofs.Grouped.{added_more, added_none, grouped}
-use Rattle.ext_races.proofs.Lists.{map-take_more}
+use Rattle.ext_races.proofs.After.{left_more_at, views_more}
 use Rattle.ext_races.proofs.Named.{there_at}
+use Rattle.ext_races.proofs.Reaches.{whole_tells}
 use Rattle.ext_races.proofs.groups.groups_of.Goals as goal
 
 pub loop-step-init : goal.loop-step-init
-loop-step-init c = added_none (length c.args.directory.now) (groups_view c.in_ok-groups.groups.items)
+loop-step-init c = record {
+  added = added_none (length c.args.directory.now) (groups_view c.in_ok-groups.groups.items);
+  tells = whole_tells (keys_in c.args.keys.now) c.args.directory.now c.in_ok-below.below.items (c.in_ok-below.ensures.count ∙ c.len-3.ensures.count) c.in_ok-below.ensures.whole;
+}
+
+pub add_step-requires-clause-below : goal.add_step-requires-clause-below
+add_step-requires-clause-below c = c.loop-step.invariant.tells.count
 
 pub add_step-requires-clause-key : goal.add_step-requires-clause-key
 add_step-requires-clause-key c = there_at (keys_in c.args.keys.now) c.args.directory.now c.args.made.now c.loop-step.step-index c.step-item.result c.requires.keys (omega arith) c.step-item.is
@@ -22,7 +30,7 @@ add_step-requires-clause-node c = subst (λ m. m.node < length c.args.tree.now) 
 
 pub add_step-requires-clause-count : goal.add_step-requires-clause-count
 add_step-requires-clause-count c =
-    let so_far = c.loop-step.invariant.count in
+    let so_far = c.loop-step.invariant.added.count in
     let start = length-map c.in_ok-groups.groups.items group_view in
     let now = length-map c.loop-step.groups.items group_view in
     let start_ok = c.in_ok-groups.groups.ok in
@@ -37,15 +45,21 @@ loop-step-preserved c =
     let i = c.loop-step.step-index in
     let first = groups_view c.in_ok-groups.groups.items in
     let after = groups_view c.add_step.new.groups.items in
-    let so_far = map made_view (take i made) in
-    let one = made_view c.step-item.result in
-    let all = added_more (length c.args.directory.now) (flat_map touches so_far) (touches one) first (groups_view c.loop-step.groups.items) after c.loop-step.invariant c.in_ok-add_step.ensures in
-    let same = ap (flat_map touches) (map-take_more made_view made i c.step-item.result (omega arith) c.step-item.is) ∙ flat_map-append touches so_far (one ∷ []) ∙ ap (λ ts. flat_map touches so_far ++ ts) (append-nil (touches one)) in
-    subst (λ ts. IsAdded (length c.args.directory.now) ts first after) (sym same) all
+    let so_far = made_views [] (take i made) in
+    let left = left_after [] (take i made) in
+    let one = made_behind left c.step-item.result in
+    let all = added_more (length c.args.directory.now) (flat_map touches so_far) (touches one) first (groups_view c.loop-step.groups.items) after c.loop-step.invariant.added
+    (c.in_ok-add_step.ensures.added left c.loop-step.invariant.tells) in
+    let same = ap (flat_map touches) (views_more made i c.step-item.result (omega arith) c.step-item.is) ∙ flat_map-append touches so_far (one ∷ []) ∙ ap (λ ts. flat_map touches so_far ++ ts) (append-nil (touches one)) in
+    record {
+      added = subst (λ ts. IsAdded (length c.args.directory.now) ts first after) (sym same) all;
+      tells = subst (λ before. Tells (keys_in c.args.keys.now) c.args.directory.now before c.add_step.new.below.items) (sym (left_more_at made i c.step-item.result (omega arith) c.step-item.is))
+          (c.in_ok-add_step.ensures.tells left c.loop-step.invariant.tells);
+    }
 
 pub returns-clause-count : goal.returns-clause-count
 returns-clause-count c =
-    let so_far = c.loop-step.invariant.count in
+    let so_far = c.loop-step.invariant.added.count in
     let start = length-map c.in_ok-groups.groups.items group_view in
     let now = length-map c.loop-step.groups.items group_view in
     let start_ok = c.in_ok-groups.groups.ok in
@@ -61,4 +75,4 @@ returns-clause-groups c =
     let after = groups_view c.loop-step.groups.items in
     let past = c.loop-step-test.false in
     let whole : take c.loop-step.step-index made ≡ made = take_all c.loop-step.step-index made past in
-    grouped (length c.args.directory.now) (flat_map touches (map made_view made)) first after c.in_ok-groups.ensures.empty (subst (λ m. IsAdded (length c.args.directory.now) (flat_map touches (map made_view m)) first after) whole c.loop-step.invariant)
+    grouped (length c.args.directory.now) (flat_map touches (made_views [] made)) first after c.in_ok-groups.ensures.empty (subst (λ m. IsAdded (length c.args.directory.now) (flat_map touches (made_views [] m)) first after) whole c.loop-step.invariant.added)

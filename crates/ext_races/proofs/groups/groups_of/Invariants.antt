@@ -1,10 +1,14 @@
-use Rattle.std.proofs.Common.{length, map, take}
+use Rattle.std.proofs.Common.{[], length, take}
 use Rattle.std.specs.List.{flat_map}
 use Rattle.ext_plan.specs.StepCalls.{keys_in}
 use Rattle.ext_races.specs.InnerGroups.{IsAdded, groups_view}
-use Rattle.ext_races.specs.MadeSteps.{made_view}
+use Rattle.ext_races.specs.InnerMade.{left_after, made_views}
+use Rattle.ext_races.specs.InnerReach.{Tells}
 use Rattle.ext_races.specs.Touches.{touches_of}
 use Rattle.ext_races.proofs.groups.groups_of.Given as goal
 
 abbrev pub invariant-loop-step : goal.invariant-loop-step
-invariant-loop-step l = IsAdded (length l.directory) (flat_map (touches_of l.tree (keys_in l.keys) l.directory) (map made_view (take l.step-index l.made))) (groups_view l.initial.groups.items) (groups_view l.groups.items)
+invariant-loop-step l = record {
+  added : IsAdded (length l.directory) (flat_map (touches_of l.tree (keys_in l.keys) l.directory) (made_views [] (take l.step-index l.made))) (groups_view l.initial.groups.items) (groups_view l.groups.items);
+  tells : Tells (keys_in l.keys) l.directory (left_after [] (take l.step-index l.made)) l.below.items;
+}

@@ -4,7 +4,7 @@ use Rattle.std.proofs.lemmas.Result.{err_from_is_err_and}
 use Rattle.ext_plan.specs.StepCalls.{keys_in}
 use Rattle.ext_plan.proofs.Lists.{map-drop}
 use Rattle.ext_races.specs.InnerNaming.{keys_told}
-use Rattle.ext_races.specs.MadeSteps.{made_view}
+use Rattle.ext_races.specs.InnerMade.{made_view}
 use Rattle.ext_races.specs.Touches.{key_of_made, keys_of_steps, with_key_of}
 use Rattle.ext_races.proofs.Named.{length_kept}
 use Rattle.ext_races.proofs.naming.keys_named.Goals as goal

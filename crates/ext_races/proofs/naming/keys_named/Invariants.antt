@@ -1,7 +1,7 @@
 use Rattle.std.proofs.Common.{◌≡◌, ◌≤◌, length, drop, map}
 use Rattle.ext_plan.specs.StepCalls.{keys_in}
 use Rattle.ext_races.specs.InnerNaming.{keys_of, keys_told}
-use Rattle.ext_races.specs.MadeSteps.{made_view}
+use Rattle.ext_races.specs.InnerMade.{made_view}
 use Rattle.ext_races.specs.Touches.{keys_of_steps}
 use Rattle.ext_races.proofs.naming.keys_named.Given as goal
 

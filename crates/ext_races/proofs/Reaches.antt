@@ -1,0 +1,141 @@
+-- How much of a path is below what steps computed, as it is noted for each key, one step after another.
+use Rattle.std.proofs.Common.{◌≡◌, ◌≢◌, ℕ, zero, suc, ◌<◌, ◌≤◌, Bool, true, false, List, [], ◌∷◌, ◌++◌, Some, None, All, length, get_or, set, take, refl, sym, ap, subst, ◌∙◌, arith, inl, inr}
+use Rattle.std.specs.Prelude.{◌&&◌, if◌then◌else◌, nat_lt, slice_get}
+use Rattle.std.proofs.lemmas.Bool.{cases_Bool, true≢false}
+use Rattle.std.proofs.lemmas.List.{get_or-set_other, get_or-set_same, length-set, length-take, take_all}
+use Rattle.std.proofs.lemmas.List.Elements.{All-take}
+use Rattle.ext_tree.specs.Keys.{KeyValue}
+use Rattle.ext_tree.specs.Traits.{key_eq}
+use Rattle.ext_tree.proofs.Equalities.{keys_Decides}
+use Rattle.ext_plan.specs.Plans.{KeyText, StepText}
+use Rattle.ext_plan.specs.StepWords.{changes, gives_value}
+use Rattle.ext_plan.specs.StoreKeys.{is_there, key_of_step, place_of_key}
+use Rattle.ext_plan.proofs.KeyLists.{has_place, place_within}
+use Rattle.ext_races.specs.declared.made.MadeStep.{MadeStep}
+use Rattle.ext_races.specs.Acts.{ActText, act_of}
+use Rattle.ext_races.specs.InnerMade.{before_in}
+use Rattle.ext_races.specs.InnerReach.{AreWhole, Tells, below_at, noted}
+use Rattle.ext_races.specs.Touches.{below_act, below_computes, reach}
+
+-- ---- lists
+
+take_fewer : {A : Type 0} (n m : ℕ) (xs : List A) → n ≤ m → take n (take m xs) ≡ take n xs
+take_fewer zero m xs less = refl
+take_fewer (suc n) zero xs less = absurd (omega (arith, less))
+take_fewer (suc n) (suc m) [] less = refl
+take_fewer (suc n) (suc m) (x ∷ xs) less = ap (λ ys. x ∷ ys) (take_fewer n m xs (omega (arith, less)))
+
+take_short : {A : Type 0} (n m : ℕ) (xs : List A) → m ≤ n → take n (take m xs) ≡ take m xs
+take_short n m xs less = take_all n (take m xs) (let long = length-take m xs in grind (arith, long, less))
+
+pub below_push : (declared : List KeyText) (key : KeyValue) (path : List ℕ) (before : List StepText) (step : StepText)
+    → below_computes declared key path (before ++ step ∷ []) ≡ below_act declared key (below_computes declared key path before) (act_of step)
+below_push declared key path [] step = refl
+below_push declared key path (first ∷ more) step = below_push declared key (below_act declared key path (act_of first)) more step
+
+-- what is true of a path is true of the part that an act reaches
+pub all_seen : (P : ℕ → Type 0) (changed : Bool) (below : ℕ) (path : List ℕ) → All P path → All P (if changed then path else take below path)
+all_seen P true below path all = all
+all_seen P false below path all = All-take P below path all
+
+-- ---- what is noted
+
+noted_count : (below : List ℕ) (key up : ℕ) (is : Bool) → length (if is then set below key up else below) ≡ length below
+noted_count below key up true = length-set below key up
+noted_count below key up false = refl
+
+noted_other : (below : List ℕ) (key other up : ℕ) (is : Bool) → other ≢ key → get_or (if is then set below key up else below) other 0 ≡ get_or below other 0
+noted_other below key other up true differ = get_or-set_other below key other up 0 differ
+noted_other below key other up false differ = refl
+
+module _ (declared : List KeyText) (directory : List KeyValue) where
+  pub whole_tells : (below : List ℕ) → length below ≡ length directory → AreWhole below → Tells declared directory [] below
+  whole_tells below long whole = record {
+    count = long;
+    each = λ key path there short.
+        let within = place_within directory key there in
+        ap (λ n. take n path) (whole (place_of_key directory key) (omega (arith, within, long))) ∙ take_all 16 path short;
+  }
+
+  -- as a step begins
+  pub begun : (before : List StepText) (step : MadeStep) (old new : List ℕ) → Tells declared directory before old → length new ≡ length old → (step.first ≡ false → new ≡ old) → (step.first ≡ true → AreWhole new)
+      → Tells declared directory (before_in before step) new
+  begun before step old new tells long kept whole = elim (cases_Bool step.first) [
+    | inl is ↦ rw is (whole_tells new (long ∙ tells.count) (whole is))
+    | inr not ↦ rw not (subst (Tells declared directory before) (sym (kept not)) tells)
+  ]
+
+  -- behind a step that is no act
+  pub no_act : (before : List StepText) (step : StepText) (below : List ℕ) → act_of step ≡ None → Tells declared directory before below → Tells declared directory (before ++ step ∷ []) below
+  no_act before step below is tells = record {
+    count = tells.count;
+    each = λ key path there short. tells.each key path there short ∙ sym (below_push declared key path before step ∙ ap (below_act declared key (below_computes declared key path before)) is);
+  }
+
+  apart : (one other : KeyValue) → is_there directory one ≡ true → is_there directory other ≡ true → key_eq one other ≡ false → place_of_key directory other ≢ place_of_key directory one
+  apart one other there other_there differ same =
+      let both : Some one ≡ Some other = sym (has_place directory one there) ∙ ap (slice_get directory) (sym same) ∙ has_place directory other other_there in
+      let equal : one ≡ other = cc both in
+      true≢false (sym ((keys_Decides one other).1 equal) ∙ differ)
+
+  -- behind an act
+  module _ (before : List StepText) (step : StepText) (act : ActText) (below : List ℕ) (number : ℕ) (is : act_of step ≡ Some act) (there : is_there directory (key_of_step declared act.key) ≡ true)
+      (place : number ≡ place_of_key directory (key_of_step declared act.key)) (tells : Tells declared directory before below) where
+    abbrev own : KeyValue
+    own = key_of_step declared act.key
+
+    -- the part of a path that is noted for the act's own key
+    own_below : (path : List ℕ) (gives less : Bool) → gives_value act.word ≡ gives → nat_lt act.up (below_at below number) ≡ less → length path ≤ 16
+        → take (below_at (if gives && less then set below number act.up else below) number) path ≡ (if gives && true then take act.up (below_computes declared own path before) else below_computes declared own path before)
+    own_below path false less gives is short = ap (λ n. take (below_at below n) path) place ∙ tells.each own path there short
+    own_below path true true gives is short =
+        let within = place_within directory own there in
+        let long = tells.count in
+        let up_less : act.up < below_at below number = lt_of act.up (below_at below number) is in
+        ap (λ n. take n path) (get_or-set_same below number act.up 0 (omega (arith, within, long, place))) ∙ sym (take_fewer act.up (below_at below number) path (omega (arith, up_less)))
+        ∙ ap (take act.up) (ap (λ n. take (below_at below n) path) place ∙ tells.each own path there short)
+      where
+        lt_of : (a b : ℕ) → nat_lt a b ≡ true → a < b
+        lt_of a b e = grind (arith, e)
+    own_below path true false gives is short =
+        let up_more : below_at below number ≤ act.up = ge_of act.up (below_at below number) is in
+        let same = ap (λ n. take (below_at below n) path) place ∙ tells.each own path there short in
+        same ∙ sym (ap (take act.up) (sym same) ∙ take_short act.up (below_at below number) path up_more ∙ same)
+      where
+        ge_of : (a b : ℕ) → nat_lt a b ≡ false → b ≤ a
+        ge_of a b e = grind (arith, e)
+
+    other_below : (key : KeyValue) (path : List ℕ) (gives less : Bool) → key_eq own key ≡ false → is_there directory key ≡ true → length path ≤ 16
+        → take (below_at (if gives && less then set below number act.up else below) (place_of_key directory key)) path
+        ≡ (if gives && false then take act.up (below_computes declared key path before) else below_computes declared key path before)
+    other_below key path gives less differ key_there short =
+        let far : place_of_key directory key ≢ number = λ same. apart own key there key_there differ (same ∙ place) in
+        ap (λ n. take n path) (noted_other below number (place_of_key directory key) act.up (gives && less) far) ∙ tells.each key path key_there short ∙ sym (unless gives (below_computes declared key path before))
+      where
+        unless : (gives : Bool) (whole : List ℕ) → (if gives && false then take act.up whole else whole) ≡ whole
+        unless true whole = refl
+        unless false whole = refl
+
+    pub noted_tells : Tells declared directory (before ++ step ∷ []) (noted below number act)
+    noted_tells = record {
+      count = noted_count below number act.up (gives_value act.word && nat_lt act.up (below_at below number)) ∙ tells.count;
+      each = λ key path key_there short.
+          one key path key_there short ∙ sym (below_push declared key path before step ∙ ap (below_act declared key (below_computes declared key path before)) is);
+    }
+      where
+        one : (key : KeyValue) (path : List ℕ) → is_there directory key ≡ true → length path ≤ 16
+            → take (below_at (noted below number act) (place_of_key directory key)) path ≡ below_act declared key (below_computes declared key path before) (Some act)
+        one key path key_there short = elim (cases_Bool (key_eq own key)) [
+          | inl same ↦
+              let equal : own ≡ key = (keys_Decides own key).0 same in
+              subst (λ k. take (below_at (noted below number act) (place_of_key directory k)) path ≡ below_act declared k (below_computes declared k path before) (Some act)) equal
+              (rw ((keys_Decides own own).1 refl) (subst (λ n. take (below_at (noted below number act) n) path ≡ (if gives_value act.word && true then take act.up (below_computes declared own path before) else below_computes declared own path before)) place
+              (own_below path (gives_value act.word) (nat_lt act.up (below_at below number)) refl refl short)))
+          | inr differ ↦ rw differ (other_below key path (gives_value act.word) (nat_lt act.up (below_at below number)) differ key_there short)
+        ]
+
+  -- so much an act reaches
+  pub reached : (before : List StepText) (below : List ℕ) (act : ActText) (number : ℕ) (path : List ℕ) → Tells declared directory before below → is_there directory (key_of_step declared act.key) ≡ true
+      → number ≡ place_of_key directory (key_of_step declared act.key) → length path ≤ 16 → (if changes act.word then path else take (below_at below number) path) ≡ reach declared before path act
+  reached before below act number path tells there place short =
+      ap (λ part. if changes act.word then path else part) (ap (λ n. take (below_at below n) path) place ∙ tells.each (key_of_step declared act.key) path there short)
