@@ -90,12 +90,13 @@ touches_along node key act (context ∷ above) =
 
 -- ---- look-ups after a compute
 
--- Once a step of a call has computed a value for a key, later look-ups of that key in the same call touch only the
--- places below the one on which that step acts. The steps of a call run in order, up to the first that fails, so when
--- such a look-up runs, a value was computed or found. The compute touches the other places itself: it changes its own
--- and looks at those above. What another node may change there clashes with it, unless that is a compute that agrees;
--- and such a one finds a value, or computes the same. A compute whose factory fails hides nothing: it leaves its place
--- empty and succeeds, so another node's factory may still run after it.
+-- Once a step has computed a value for a key, look-ups of that key that run only where it succeeded (`MadeSteps`) touch
+-- only the places below the one on which that step acts. When such a look-up runs, a value was computed or found. The
+-- compute is of the same node and touches the other places itself: it changes its own and looks at those above. What
+-- another node may change there clashes with it, unless that is a compute that agrees; and such a one finds a value, or
+-- computes the same. If the node itself removes the value in between, that clashes with the other's compute. A compute
+-- whose factory fails hides nothing: it leaves its place empty and succeeds, so another node's factory may still run
+-- after it.
 module _ (declared : List KeyText) (key : KeyValue) where
   -- The part of the path below the context in which the act computes this key, if it does.
   abbrev pub below_act : List ℕ → Option ActText → List ℕ
@@ -107,14 +108,14 @@ module _ (declared : List KeyText) (key : KeyValue) where
   abbrev pub below_computes : List ℕ → List StepText → List ℕ
   below_computes path before = fold (λ below step. below_act below (act_of step)) path before
 
--- How far along a path an act reaches, after these steps of its call.
+-- How far along a path an act reaches, after these steps.
 abbrev pub reach : List KeyText → List StepText → List ℕ → ActText → List ℕ
 reach declared before path act = if changes act.word then path
     else below_computes declared (key_of_step declared act.key) path before
 
 -- ---- touches
 
--- The touches of an act by a node with this path, with these keys' numbers, after these steps of its call.
+-- The touches of an act by a node with this path, with these keys' numbers, after these steps.
 abbrev pub touches_of_act : List KeyText → List KeyValue → ℕ → List ℕ → List StepText → Option ActText → List TouchText
 touches_of_act declared keys node path before None = []
 touches_of_act declared keys node path before (Some act) =
