@@ -256,9 +256,10 @@ const ABORTED: [Ended; 1] = [Ended {
     ..TEST
 }];
 
-/// Tests `terminal_report`: nothing stands behind the totals where no node failed or was aborted.
+/// Tests `terminal_report`: nothing stands behind the totals where no node failed or was aborted, and
+/// a failed test is no failed container.
 #[test]
-fn report_for_people_without_a_fault(rt: HostRuntime) -> Result<(), Fail> {
+fn report_for_people_of_tests_alone(rt: HostRuntime) -> Result<(), Fail> {
     let wanted = "[engine:x] \x1b[32msuccessful\x1b[0m closed 0\n\
          tests 1 successful 1 aborted 0 failed 0 skipped 0\n\
          computed 0 found 0 closed 0 close faults 0\n";
@@ -268,7 +269,13 @@ fn report_for_people_without_a_fault(rt: HostRuntime) -> Result<(), Fail> {
          computed 0 found 0 closed 0 close faults 0\n\
          \n\
          [engine:x] \x1b[33maborted\x1b[0m closed 0: later\n";
-    shows(&rt, rt.alloc(), &ABORTED, true, wanted)
+    shows(&rt, rt.alloc(), &ABORTED, true, wanted)?;
+    let wanted = "[engine:x] \x1b[31mfailed\x1b[0m closed 0: no memory\n\
+         tests 1 successful 0 aborted 0 failed 1 skipped 0\n\
+         computed 0 found 0 closed 0 close faults 0\n\
+         \n\
+         [engine:x] \x1b[31mfailed\x1b[0m closed 0: no memory\n";
+    shows(&rt, rt.alloc(), &WANT_OF_MEMORY, true, wanted)
 }
 
 /// Tests `write_visible`.
