@@ -42,7 +42,7 @@ def classes_plan(classes, tests):
 def told_once_more(classes, tests):
     """What --failures says of such a plan."""
     above, below = class_tests(classes, tests)
-    lines = [f"{id}: late" for id in above] + [f"{id}: {steps[0].split()[1]}" for id, steps in below if steps]
+    lines = [f"{id}: late (after_all 0, step 0)" for id in above] + [f"{id}: {steps[0].split()[1]} (test, step 0)" for id, steps in below if steps]
     return "".join(f"{line}\n" for line in lines)
 
 
@@ -124,7 +124,7 @@ def main(program, _words):
     cases.run("257 nodes, drawn", ["check", "--large", "--tree"], few, drawing)
     failing = few + 'test = ["fail why"]\n'
     report = nodes_report(flat(257), 1).replace("[c:256] successful closed 0", "[c:256] failed closed 0: why").replace("successful 1 aborted 0 failed 0", "successful 0 aborted 0 failed 1")
-    cases.run("257 nodes, the last fails", ["run", "--large", "--failures"], failing, report, "[a:b]/[c:256]: why\n")
+    cases.run("257 nodes, the last fails", ["run", "--large", "--failures"], failing, report, "[a:b]/[c:256]: why (test, step 0)\n")
     most = tests(65_535)
     for words in both:
         cases.run(f"65,536 nodes, {' '.join(words)}", ["run", *words], most, tests_report(65_535))
