@@ -5,20 +5,21 @@
 _extrun_options() {
     case $1 in
         run) echo --lanes --store --report --tree --color --progress --durations --failures --large --explain --brief --help ;;
-        check) echo --tree --races --lint --all --large --explain --brief --help ;;
+        check) echo --tree --races --report --lint --all --large --explain --brief --help ;;
         id) echo --make --explain --brief --help ;;
         help) ;;
         *) echo --help --version ;;
     esac
 }
 
-# The values of an option, if it takes one.
+# The values of an option of a command, if it takes one.
 _extrun_values() {
-    case $1 in
-        --lanes) seq 1 16 ;;
-        --store) echo plain cells ;;
-        --report) echo text json junit ;;
-        --color) echo auto always never ;;
+    case "$1 $2" in
+        *" --lanes") seq 1 16 ;;
+        *" --store") echo plain cells ;;
+        "check --report") echo text json ;;
+        *" --report") echo text json junit ;;
+        *" --color") echo auto always never ;;
     esac
 }
 
@@ -26,7 +27,7 @@ _extrun() {
     local word=${COMP_WORDS[COMP_CWORD]} previous=${COMP_WORDS[COMP_CWORD - 1]} command= values
     [ "$COMP_CWORD" -gt 1 ] && command=${COMP_WORDS[1]}
     COMPREPLY=()
-    values=$(_extrun_values "$previous")
+    values=$(_extrun_values "$command" "$previous")
     if [ -n "$values" ]; then
         mapfile -t COMPREPLY < <(compgen -W "$values" -- "$word")
     elif [[ $word == -* ]]; then

@@ -1,6 +1,6 @@
 """Runs the program with `--report junit` on each plan of examples/rows and examples/outside and on examples/junit.toml, as a plain run, and reads what it
-writes with Python's own XML parser. Each suite and each case has to be what the same run says in JSON, with the same message, and the numbers of cases those of
-the report's text: a container that failed or aborted itself is one case more. Prints a line for each plan.
+writes with Python's own XML parser. Each suite and each case has to be what the same run says in JSON, with the same message, and the numbers of cases its totals
+there: a container that failed or aborted itself is one case more. The totals in JSON have to be those of the report's text. Prints a line for each plan.
 
 A plan's report has no times and no attempts. One that has them stands in crates/test_runs/src/timed.rt, whose test makes sure that it is written so: it is read here by
 the same parser, and has to have the times and attempts that the engine knew, as TIMED has them, in milliseconds.
@@ -97,29 +97,37 @@ def suites_in(root):
     return suites
 
 
-def totals_of(nodes, text):
-    """The counts of all cases by the totals of the text, and the containers that are cases."""
-    total = {key: int(number) for key, number in re.findall(rb"(\w+) (\d+)", text.splitlines()[-2])}
+def totals_in(text):
+    """The totals of the text, by their names in JSON."""
+    lines = b" ".join(text.splitlines()[-2:]).replace(b"close faults", b"close_faults")
+    return {name.decode(): int(number) for name, number in re.findall(rb"(\w+) (\d+)", lines)}
+
+
+def cases_by(nodes, totals):
+    """The counts of all cases by the totals, and the containers that are cases."""
     own = [node["status"] for node in nodes if not node["test"]]
     failed, aborted = own.count("failed"), own.count("aborted")
     return {
-        "tests": str(total[b"tests"] + failed + aborted),
-        "failures": str(total[b"failed"] + failed),
+        "tests": str(totals["tests"] + failed + aborted),
+        "failures": str(totals["failed"] + failed),
         "errors": "0",
-        "skipped": str(total[b"aborted"] + total[b"skipped"] + aborted),
+        "skipped": str(totals["aborted"] + totals["skipped"] + aborted),
     }
 
 
 def check(program, plan):
     """Compares the forms of the plan's report, and says how many cases there are."""
     root = xml.etree.ElementTree.fromstring(written(program, "junit", plan))
-    nodes = [json.loads(line) for line in written(program, "json", plan).split(b"\n")[:-1]]
+    *nodes, last = [json.loads(line) for line in written(program, "json", plan).split(b"\n")[:-1]]
     suites, wanted = suites_in(root), suites_of(nodes)
     if suites != wanted:
         raise ValueError(f"the suites are {suites} and not {wanted}")
-    totals = totals_of(nodes, written(program, "text", plan))
-    if root.attrib != totals:
-        raise ValueError(f"the totals are {root.attrib} and not {totals}")
+    totals = totals_in(written(program, "text", plan))
+    if last != {"version": 1, "totals": totals}:
+        raise ValueError(f"the last line is {last}, and the totals are {totals}")
+    counts = cases_by(nodes, totals)
+    if root.attrib != counts:
+        raise ValueError(f"the totals are {root.attrib} and not {counts}")
     return sum(len(cases) for _, cases in suites)
 
 

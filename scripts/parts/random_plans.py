@@ -16,23 +16,26 @@ TOP = pathlib.Path(__file__).resolve().parent.parent.parent
 KEYS = ["a", "b"]
 TEXTS = ["x", "y", "bad1", "bad2"]
 WORDS = ["put", "put!", "want", "want", "none", "none", "remove", "compute", "compute", "compute!", "computefail"]
+# Of a plan whose classes start what their tests look up.
+LOOKS = ["want", "want", "want", "none", "compute", "put"]
 
 
-def step_of(chance, depth):
-    """A step that goes up at most so far."""
-    word, key, text = chance.choice(WORDS), chance.choice(KEYS), chance.choice(TEXTS)
+def step_of(chance, depth, words):
+    """A step with one of these words that goes up at most so far."""
+    word, key, text = chance.choice(words), chance.choice(KEYS), chance.choice(TEXTS)
     up = chance.randint(0, depth)
-    words = [word, key] + ([] if word in ("none", "remove") else [text]) + ([f"up {up}"] if up else [])
-    return " ".join(words)
+    parts = [word, key] + ([] if word in ("none", "remove") else [text]) + ([f"up {up}"] if up else [])
+    return " ".join(parts)
 
 
-def steps_of(chance, depth, most):
+def steps_of(chance, depth, most, words):
     """So many steps at most."""
-    return [step_of(chance, depth) for _ in range(chance.randint(0, most))]
+    return [step_of(chance, depth, words) for _ in range(chance.randint(0, most))]
 
 
-def node_of(chance, node_id, depth, is_test):
-    """The lines of a node."""
+def node_of(chance, node_id, depth, is_test, starts=()):
+    """The lines of a node. If there are steps that start something, a class makes them before all its tests, which mostly look it up."""
+    words = LOOKS if starts else WORDS
     lines = ["[[node]]", f'id = "{node_id}"']
     if depth and chance.random() < 0.85:
         lines.append('mode = "concurrent"')
@@ -41,27 +44,30 @@ def node_of(chance, node_id, depth, is_test):
     if chance.random() < 0.2:
         lines.append(f'locks = ["{chance.choice(["READ", "READ_WRITE"])} db"]')
     if chance.random() < 0.25:
-        lines.append(f"before_each = {[steps_of(chance, depth, 1)]}")
+        lines.append(f"before_each = {[steps_of(chance, depth, 1, words)]}")
     if chance.random() < 0.15:
-        lines.append(f"after_each = {[steps_of(chance, depth, 1)]}")
+        lines.append(f"after_each = {[steps_of(chance, depth, 1, words)]}")
     if is_test:
-        lines.append(f"test = {steps_of(chance, depth, 2)}")
+        lines.append(f"test = {steps_of(chance, depth, 2, words)}")
         if chance.random() < 0.2:
             lines.append(f"repeat = {chance.randint(1, 3)}")
+    elif depth and starts and chance.random() < 0.8:
+        lines.append(f"before_all = {[[chance.choice(starts)]]}")
     elif chance.random() < 0.4:
-        lines.append(f"before_all = {[steps_of(chance, depth, 2)]}")
+        lines.append(f"before_all = {[steps_of(chance, depth, 2, words)]}")
     return lines
 
 
 def plan_of(chance):
-    """The text of a plan: a root, classes and tests."""
+    """The text of a plan: a root, classes and tests. In every other one classes start what their tests look up."""
+    starts = chance.choice([(), ("compute a x up 1", "compute a x up 1", "compute! a x", "compute b y")])
     lines = [] if chance.random() < 0.7 else ["keep_faults = true"]
-    lines += node_of(chance, "[engine:x]", 0, False)
+    lines += node_of(chance, "[engine:x]", 0, False, starts)
     for number in range(chance.randint(2, 3)):
         at = f"[engine:x]/[class:{number}]"
-        lines += node_of(chance, at, 1, False)
+        lines += node_of(chance, at, 1, False, starts)
         for test in range(chance.randint(1, 2)):
-            lines += node_of(chance, f"{at}/[test:{test}]", 2, True)
+            lines += node_of(chance, f"{at}/[test:{test}]", 2, True, starts)
     return ("\n".join(lines) + "\n").replace("'", '"').encode()
 
 

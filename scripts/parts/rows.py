@@ -1,6 +1,6 @@
 """Runs the proved program on each plan of examples/rows and examples/outside, as a plain run and on 1, 2, 4, 8 and 16 lanes, and compares what it writes
 with the plan's report, byte by byte, and its exit status with whether a node failed there. A plan some of whose nodes may run beside others is run 20 times
-on each of these numbers of lanes. Prints a line for each plan.
+on each of these numbers of lanes, and `check --races` has to find it free of races, but for factories that fail. Prints a line for each plan.
 
 The 60 outside cases have the reports that follow from what the store of JUnit 5.9.2 answered for the same calls (its `ExtensionValuesStore`, measured on
 2026-11-22). Their plans use trees, namespaces, two labels for one key, all store steps but `computefail`, closes that fail and steps that fail. The files are
@@ -33,12 +33,20 @@ def difference(program, words, plan, report):
     return f"{' '.join(words)}: status {ran.returncode}\n{told}"
 
 
+def races(program, plan):
+    """What is wrong with what `check --races` says of a plan that has one report, or nothing."""
+    if b'"concurrent"' not in plan or b"computefail" in plan:
+        return None
+    ran = subprocess.run([program, "check", "--races"], input=plan, capture_output=True, timeout=120)
+    return None if ran.stdout.startswith(b"no races: one report") else f"check --races says {ran.stdout[:1000].decode(errors='replace')}"
+
+
 def main(program, _words):
     passed = failed = 0
     for file in [*sorted((TOP / "examples/rows").glob("*.toml")), *sorted((TOP / "examples/outside").glob("*.toml"))]:
         plan, report = file.read_bytes(), file.with_suffix(".report").read_bytes()
         runs = words_of(plan)
-        wrong = next(filter(None, (difference(program, words, plan, report) for words in runs)), None)
+        wrong = next(filter(None, (difference(program, words, plan, report) for words in runs)), None) or races(program, plan)
         passed, failed = passed + (wrong is None), failed + (wrong is not None)
         print(f"{file.parent.name}/{file.stem}: " + ("its report" if wrong is None else f"NOT as it has to be: {wrong}") + f" ({len(runs)} runs)")
     return passed, failed

@@ -3,6 +3,7 @@
 What has to come out is written here, by docs/PLANS.md. Prints a line for each case.
 """
 import os
+import pathlib
 import pty
 import re
 import subprocess
@@ -10,6 +11,9 @@ import tempfile
 import termios
 import threading
 import unicodedata
+
+TOP = pathlib.Path(__file__).resolve().parent.parent.parent
+README = TOP / "README.md"
 
 ROOT = '[[node]]\nid = "[engine:x]"\n'
 
@@ -231,9 +235,20 @@ def escapes(program):
             yield f"{' '.join(words)!a} at {sorted(terminals)}", right, repr(found)
 
 
+def readme(program):
+    """What README.md shows of a terminal, but for colours and the digits of the time."""
+    blocks = [it for it in README.read_text(encoding="utf-8").split("```\n") if it.startswith("$ ./extrun run examples/")]
+    shown = [it.split("\n", 1) for it in "".join(blocks).split("$ ./extrun ")[1:]]
+    for line, wanted in shown:
+        plan = line.split()[-1]
+        _, report, errors = ran(program, [*line.split()[:-1], TOP / plan], "", {1, 2}, {"NO_COLOR": "1"})
+        yield f"{line}, as README.md shows it", TIME.sub("", report + errors) == TIME.sub("", wanted), report + errors
+    yield "README.md shows two plans", len(shown) == 2, str(shown)
+
+
 def main(program, _words):
     passed = failed = 0
-    for part in (reports, escapes, explanations, unread, durations):
+    for part in (reports, escapes, explanations, unread, durations, readme):
         for name, right, told in part(program):
             passed, failed = passed + right, failed + (not right)
             print(f"terminal {name}: " + ("as it has to be" if right else f"NOT as it has to be: {told!r}"))

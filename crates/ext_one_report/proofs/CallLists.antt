@@ -48,7 +48,7 @@ module _ (does : Call → ValueState → StepEnd) where
   pub if_made : (e : CallsEnd) (call : Call) → all_successful e.calls ≡ true → make_if_successful does e call ≡ make does e call
   if_made e call all = ap (λ go. if go then make does e call else e) all
 
-  stays : (calls : List Call) (e : CallsEnd) → all_successful e.calls ≡ false → make_befores does calls e ≡ e
+  pub stays : (calls : List Call) (e : CallsEnd) → all_successful e.calls ≡ false → make_befores does calls e ≡ e
   stays [] e ends = refl
   stays (call ∷ calls) e ends = ap (make_befores does calls) (ap (λ go. if go then make does e call else e) ends) ∙ stays calls e ends
 

@@ -1,8 +1,8 @@
 -- The touches of a plan's steps: each step that changes or looks up a place of its key touches it, and each touch is at a context on the path of its node.
 use Rattle.std.proofs.Common.{◌≡◌, ◌<◌, ◌≤◌, ◌⊎◌, ℕ, zero, suc, Bool, true, false, List, [], ◌∷◌, ◌++◌, length, get_or, Contains, All, drop, take, map, Option, Some, None, refl, ap, sym, subst, ◌∙◌, arith, inl, inr, zero-add, append_assoc, append-nil}
-use Rattle.std.specs.Prelude.{◌&&◌, if◌then◌else◌}
+use Rattle.std.specs.Prelude.{◌==◌, ◌&&◌, if◌then◌else◌}
 use Rattle.std.specs.List.{flat_map, range_with_len}
-use Rattle.std.proofs.lemmas.Bool.{and_parts, cases_lt}
+use Rattle.std.proofs.lemmas.Bool.{and_parts, cases_Bool, cases_lt}
 use Rattle.std.proofs.lemmas.List.{get_or-take, length-drop, length-take}
 use Rattle.std.proofs.lemmas.List.Elements.{All-contains, All-contains_itself, All-drop, Contains-append_cases, Contains-append_left, Contains-append_right, Contains-push_cases}
 use Rattle.std.proofs.lemmas.List.FromFn.{get_or-range_with_len, length-range_with_len}
@@ -18,39 +18,76 @@ use Rattle.ext_plan.specs.StepCalls.{start_of}
 use Rattle.ext_plan.specs.StoreKeys.{key_of_step, place_of_key}
 use Rattle.ext_races.specs.Acts.{ActText, act_of}
 use Rattle.ext_races.specs.MadeSteps.{MadeText, calls_after, calls_before, calls_of, made_after, made_by, made_in_turn, made_of_node, path_of, plan_path, steps_made}
-use Rattle.ext_races.specs.Touches.{TouchText, below_act, below_computes, keys_named, reach, touch_of, touches_above, touches_along, touches_made, touches_of, touches_of_act}
+use Rattle.ext_races.specs.Touches.{ComputeText, TouchText, below_act, below_computes, found_above, keys_named, look_at, reach, standing, touch_first, touch_of, touches_above, touches_along, touches_made, touches_of, touches_of_act}
 use Rattle.ext_plan.specs.StepWords.{changes, gives_value, looks_along}
 use Rattle.ext_races.proofs.Lists.{contains-flat_map, contains-flat_map_back, contains-map, contains-map_back, contains_at, contains_cases, contains_first, contains_later, contains_nothing}
 use Rattle.ext_races.proofs.StepTouches.{all_reach, reach_below}
 use Rattle.ext_one_report.proofs.WordCases.{computes_all}
 
--- ---- a touch is on the path of its node
+-- ---- what a touch is of
 
-above_on : (node key : ℕ) (act : ActText) (above : List ℕ) (t : TouchText) (looks : Bool) → Contains (if looks then map (touch_of node key act false) above else []) t → (t.node ≡ node) × Contains above t.context
-above_on node key act above t true h = let from = contains-map_back (touch_of node key act false) above t h in (sym (ap (λ u. u.node) from.2), subst (Contains above) (ap (λ u. u.context) from.2) from.1)
-above_on node key act above t false h = contains_nothing t h
+-- the touch is of this place, by this node
+abbrev pub IsOf : ℕ → ℕ → ℕ → TouchText → Type 0
+IsOf node key context t = (t.node ≡ node) × (t.context ≡ context) × (t.key ≡ key)
 
-along_on : (node key : ℕ) (act : ActText) (path : List ℕ) (t : TouchText) → Contains (touches_along node key act path) t → (t.node ≡ node) × Contains path t.context
-along_on node key act [] t h = contains_nothing t h
-along_on node key act (context ∷ above) t h = elim (contains_cases _ t (touches_above node key act above) h) [
-  | inl here ↦ (sym (ap (λ u. u.node) here), subst (Contains (context ∷ above)) (ap (λ u. u.context) here) (contains_first context above))
-  | inr later ↦ let rest = above_on node key act above t (looks_along act.word) later in (rest.0, contains_later context t.context above rest.1)
+pub look_at_is : (node key : ℕ) (act : ActText) (found : Option ComputeText) (context : ℕ) → ((look_at node key act found context).node ≡ node) × ((look_at node key act found context).context ≡ context)
+    × ((look_at node key act found context).key ≡ key) × ((look_at node key act found context).changes ≡ false)
+look_at_is node key act None context = (refl, refl, refl, refl)
+look_at_is node key act (Some found) context = elim (cases_Bool (context == found.context)) [
+  | inl same ↦ rw same (refl, refl, refl, refl)
+  | inr other ↦ rw other (refl, refl, refl, refl)
 ]
 
-act_on : (declared : List KeyText) (keys : List KeyValue) (node : ℕ) (path : List ℕ) (before : List StepText) (act : Option ActText) (t : TouchText)
-    → Contains (touches_of_act declared keys node path before act) t → (t.node ≡ node) × Contains path t.context
-act_on declared keys node path before None t h = contains_nothing t h
-act_on declared keys node path before (Some act) t h =
+pub looks_of : (node key : ℕ) (act : ActText) (found : Option ComputeText) (context : ℕ) → IsOf node key context (look_at node key act found context)
+looks_of node key act found context = let is = look_at_is node key act found context in (is.0, is.1, is.2)
+
+-- an act touches the context on which it acts as it changes it,
+pub first_changes : (node key : ℕ) (act : ActText) (found : Option ComputeText) (context : ℕ) → changes act.word ≡ true → touch_first node key act found context ≡ touch_of node key act true context
+first_changes node key act found context changing = ap (λ (b : Bool). if b then touch_of node key act true context else look_at node key act found context) changing
+
+-- or looks at it
+pub first_looks : (node key : ℕ) (act : ActText) (found : Option ComputeText) (context : ℕ) → changes act.word ≡ false → touch_first node key act found context ≡ look_at node key act found context
+first_looks node key act found context still = ap (λ (b : Bool). if b then touch_of node key act true context else look_at node key act found context) still
+
+first_of : (node key : ℕ) (act : ActText) (found : Option ComputeText) (context : ℕ) → IsOf node key context (touch_first node key act found context)
+first_of node key act found context = elim (cases_Bool (changes act.word)) [
+  | inl changing ↦ subst (IsOf node key context) (sym (first_changes node key act found context changing)) (refl, refl, refl)
+  | inr still ↦ subst (IsOf node key context) (sym (first_looks node key act found context still)) (looks_of node key act found context)
+]
+
+-- ---- a touch is on the path of its node
+
+above_on : (node key : ℕ) (act : ActText) (found : Option ComputeText) (above : List ℕ) (t : TouchText) (looks : Bool) → Contains (if looks then map (look_at node key act found) above else []) t
+    → (t.node ≡ node) × Contains above t.context
+above_on node key act found above t true h =
+    let from = contains-map_back (look_at node key act found) above t h in
+    let of = looks_of node key act found from.0 in
+    (sym (ap (λ u. u.node) from.2) ∙ of.0, subst (Contains above) (sym of.1 ∙ ap (λ u. u.context) from.2) from.1)
+above_on node key act found above t false h = contains_nothing t h
+
+along_on : (node key : ℕ) (act : ActText) (found : Option ComputeText) (path : List ℕ) (t : TouchText) → Contains (touches_along node key act found path) t → (t.node ≡ node) × Contains path t.context
+along_on node key act found [] t h = contains_nothing t h
+along_on node key act found (context ∷ above) t h = elim (contains_cases _ t (touches_above node key act found above) h) [
+  | inl here ↦
+      let of = first_of node key act found context in
+      (sym (ap (λ u. u.node) here) ∙ of.0, subst (Contains (context ∷ above)) (sym of.1 ∙ ap (λ u. u.context) here) (contains_first context above))
+  | inr later ↦ let rest = above_on node key act found above t (looks_along act.word) later in (rest.0, contains_later context t.context above rest.1)
+]
+
+act_on : (declared : List KeyText) (keys : List KeyValue) (node : ℕ) (path : List ℕ) (before : List StepText) (above : KeyValue → Option ComputeText) (act : Option ActText) (t : TouchText)
+    → Contains (touches_of_act declared keys node path before above act) t → (t.node ≡ node) × Contains path t.context
+act_on declared keys node path before above None t h = contains_nothing t h
+act_on declared keys node path before above (Some act) t h =
     let along = drop act.up (reach declared before path act) in
-    let on = along_on node (place_of_key keys (key_of_step declared act.key)) act along t h in
+    let on = along_on node (place_of_key keys (key_of_step declared act.key)) act (found_above declared before above act) along t h in
     let all : All (Contains path) along = All-drop (Contains path) act.up (reach declared before path act) (all_reach (Contains path) declared before path act (All-contains_itself path)) in
     (on.0, All-contains (Contains path) along t.context all on.1)
 
 pub touch_on_path : (plan : PlanText) (t : TouchText) → Contains (touches_made plan) t → Contains (plan_path plan t.node) t.context
 touch_on_path plan t h =
     let ids = ids_of_nodes plan.nodes in
-    let from = contains-flat_map_back (touches_of ids plan.keys (keys_named plan)) (steps_made plan) t h in
-    let on = act_on plan.keys (keys_named plan) from.0.node (path_of ids from.0.node) from.0.before (act_of from.0.step) t from.2 in
+    let from = contains-flat_map_back (touches_of ids plan.keys (keys_named plan) (standing plan)) (steps_made plan) t h in
+    let on = act_on plan.keys (keys_named plan) from.0.node (path_of ids from.0.node) from.0.before (standing plan from.0.node) (act_of from.0.step) t from.2 in
     subst (λ node. Contains (plan_path plan node) t.context) (sym on.0) on.1
 
 -- ---- the steps of a call are made
@@ -148,26 +185,34 @@ step_is (keyed word key text up) act acts = let same : ◌≡◌ {A = ActText} (
 step_is (fail text) act acts = absurd (cc acts)
 step_is (abort text) act acts = absurd (cc acts)
 
-pub along_first : (node key : ℕ) (act : ActText) (path : List ℕ) → 0 < length path → Contains (touches_along node key act path) (touch_of node key act (changes act.word) (start_of path))
-along_first node key act [] some = absurd (omega (arith, some))
-along_first node key act (context ∷ above) some = contains_first (touch_of node key act (changes act.word) context) (touches_above node key act above)
+pub along_first : (node key : ℕ) (act : ActText) (found : Option ComputeText) (path : List ℕ) → 0 < length path → Contains (touches_along node key act found path) (touch_first node key act found (start_of path))
+along_first node key act found [] some = absurd (omega (arith, some))
+along_first node key act found (context ∷ above) some = contains_first (touch_first node key act found context) (touches_above node key act found above)
 
-above_all : (node key : ℕ) (act : ActText) (above : List ℕ) (context : ℕ) (looks : Bool) → looks ≡ true → Contains above context
-    → Contains (if looks then map (touch_of node key act false) above else []) (touch_of node key act false context)
-above_all node key act above context true is there = contains-map (touch_of node key act false) above context there
-above_all node key act above context false is there = absurd cc
+pub above_all : (node key : ℕ) (act : ActText) (found : Option ComputeText) (above : List ℕ) (context : ℕ) → looks_along act.word ≡ true → Contains above context
+    → Contains (touches_above node key act found above) (look_at node key act found context)
+above_all node key act found above context looks there =
+    subst (λ (b : Bool). Contains (if b then map (look_at node key act found) above else []) (look_at node key act found context)) (sym looks) (contains-map (look_at node key act found) above context there)
 
-along_all : (node key : ℕ) (act : ActText) (path : List ℕ) (context : ℕ) → looks_along act.word ≡ true → Contains path context → (change : Bool) × Contains (touches_along node key act path) (touch_of node key act change context)
-along_all node key act [] context looks there = contains_nothing context there
-along_all node key act (first ∷ above) context looks there = elim (contains_cases first context above there) [
-  | inl same ↦ (
-    changes act.word,
-    subst (λ c. Contains (touches_along node key act (first ∷ above)) (touch_of node key act (changes act.word) c)) same (contains_first (touch_of node key act (changes act.word) first) (touches_above node key act above)),
-  )
-  | inr later ↦ (
-    false,
-    contains_later (touch_of node key act (changes act.word) first) (touch_of node key act false context) (touches_above node key act above) (above_all node key act above context (looks_along act.word) looks later),
-  )
+-- An act of a node touches a place
+record IsAlong (node key : ℕ) (act : ActText) (found : Option ComputeText) (path : List ℕ) (context : ℕ) : Type 0 where
+  pub touch : TouchText
+  pub there : Contains (touches_along node key act found path) touch
+  pub of : IsOf node key context touch
+
+along_all : (node key : ℕ) (act : ActText) (found : Option ComputeText) (path : List ℕ) (context : ℕ) → looks_along act.word ≡ true → Contains path context → IsAlong node key act found path context
+along_all node key act found [] context looks there = contains_nothing context there
+along_all node key act found (first ∷ above) context looks there = elim (contains_cases first context above there) [
+  | inl same ↦ record {
+    touch = touch_first node key act found first;
+    there = contains_first (touch_first node key act found first) (touches_above node key act found above);
+    of = subst (λ c. IsOf node key c (touch_first node key act found first)) same (first_of node key act found first);
+  }
+  | inr later ↦ record {
+    touch = look_at node key act found context;
+    there = contains_later (touch_first node key act found first) (look_at node key act found context) (touches_above node key act found above) (above_all node key act found above context looks later);
+    of = looks_of node key act found context;
+  }
 ]
 
 -- A touch that the plan makes, by the node, at this context and this number of a key; it may change the place, where that is told
@@ -187,35 +232,45 @@ module _ (plan : PlanText) (node : ℕ) where
     abbrev reached : List ℕ
     reached = drop act.up (reach plan.keys is.front (plan_path plan node) act)
 
-    touch_made : (t : TouchText) → Contains (touches_along node (number_in act) act reached) t → Contains (touches_made plan) t
-    touch_made t there = contains-flat_map (touches_of (ids_of_nodes plan.nodes) plan.keys (keys_named plan)) (steps_made plan) (made_by node is.front (step_of act)) t is.made there
+    abbrev found_here : Option ComputeText
+    found_here = found_above plan.keys is.front (standing plan node) act
+
+    touch_made : (t : TouchText) → Contains (touches_along node (number_in act) act found_here reached) t → Contains (touches_made plan) t
+    touch_made t there =
+        contains-flat_map (touches_of (ids_of_nodes plan.nodes) plan.keys (keys_named plan) (standing plan)) (steps_made plan) (made_by node is.front (step_of act)) t is.made there
 
     reach_is : changes act.word ≡ true → reached ≡ drop act.up (plan_path plan node)
     reach_is changing = ap (λ (b : Bool). drop act.up (if b then plan_path plan node else below_computes plan.keys (key_of_step plan.keys act.key) (plan_path plan node) is.front)) changing
 
-    pub touches_start : changes act.word ≡ true → act.up < length (plan_path plan node) → IsTouched plan node (start_of (drop act.up (plan_path plan node))) (number_in act) true
-    touches_start changing low =
+    -- a changing act touches the place on which it acts, and changes it
+    pub start_made : changes act.word ≡ true → act.up < length (plan_path plan node) → Contains (touches_made plan) (touch_of node (number_in act) act true (start_of (drop act.up (plan_path plan node))))
+    start_made changing low =
         let path = drop act.up (plan_path plan node) in
         let some : 0 < length path = (let long = length-drop act.up (plan_path plan node) in omega (arith, long, low)) in
-        record {
-          touch = touch_of node (number_in act) act (changes act.word) (start_of path);
-          made = touch_made (touch_of node (number_in act) act (changes act.word) (start_of path))
-              (subst (λ p. Contains (touches_along node (number_in act) act p) (touch_of node (number_in act) act (changes act.word) (start_of path))) (sym (reach_is changing)) (along_first node (number_in act) act path some));
-          node_is = refl;
-          context_is = refl;
-          key_is = refl;
-          changes = λ told. changing;
-        }
+        subst (Contains (touches_made plan)) (first_changes node (number_in act) act found_here (start_of path) changing)
+        (touch_made (touch_first node (number_in act) act found_here (start_of path))
+        (subst (λ p. Contains (touches_along node (number_in act) act found_here p) (touch_first node (number_in act) act found_here (start_of path))) (sym (reach_is changing))
+        (along_first node (number_in act) act found_here path some)))
+
+    pub touches_start : changes act.word ≡ true → act.up < length (plan_path plan node) → IsTouched plan node (start_of (drop act.up (plan_path plan node))) (number_in act) true
+    touches_start changing low = record {
+      touch = touch_of node (number_in act) act true (start_of (drop act.up (plan_path plan node)));
+      made = start_made changing low;
+      node_is = refl;
+      context_is = refl;
+      key_is = refl;
+      changes = λ told. refl;
+    }
 
     pub touches_reached : (context : ℕ) → looks_along act.word ≡ true → Contains reached context → IsTouched plan node context (number_in act) false
     touches_reached context looks there =
-        let one = along_all node (number_in act) act reached context looks there in
+        let one = along_all node (number_in act) act found_here reached context looks there in
         record {
-          touch = touch_of node (number_in act) act one.0 context;
-          made = touch_made (touch_of node (number_in act) act one.0 context) one.1;
-          node_is = refl;
-          context_is = refl;
-          key_is = refl;
+          touch = one.touch;
+          made = touch_made one.touch one.there;
+          node_is = one.of.0;
+          context_is = one.of.1;
+          key_is = one.of.2;
           changes = λ told. absurd cc;
         }
 

@@ -1,22 +1,19 @@
 -- The steps of a plan name the keys of the plan, so that its nodes give numbers to these alone.
-use Rattle.std.proofs.Common.{◌≡◌, ◌<◌, ℕ, zero, suc, inl, inr, true, List, [], ◌∷◌, ◌++◌, length, Option, Some, None, All, IfSome, Contains, refl, ap, sym, subst, ◌∙◌}
-use Rattle.std.proofs.lemmas.Map.Views.{list_any-from_Contains}
-use Rattle.std.proofs.lemmas.List.Elements.{All-cons, All-contains, All-nil, Contains-append_left}
-use Rattle.ext_history.proofs.Lists.{bools}
+use Rattle.std.proofs.Common.{◌≡◌, ◌<◌, ℕ, zero, suc, true, List, [], length, All, IfSome, Contains, refl, sym, subst}
+use Rattle.std.proofs.lemmas.List.Elements.{All-contains}
 use Rattle.ext_model.specs.declared.event.Act.TheVariants.{Seal}
 use Rattle.ext_model.specs.Sizes.{most_numbers}
 use Rattle.ext_tree.specs.Keys.{KeyValue}
-use Rattle.ext_tree.specs.Traits.{key_eq_equiv}
 use Rattle.ext_tree.specs.Trees.{IsPathOf}
 use Rattle.ext_lifecycle.specs.declared.call.Call.{Call}
 use Rattle.ext_plan.specs.Plans.{KeyText, PlanText, StepText, keyed, fail, abort}
 use Rattle.ext_plan.specs.PlanCalls.{steps_of_call}
 use Rattle.ext_plan.specs.ReadPlans.{NodesAreTree, ids_of_nodes}
-use Rattle.ext_plan.specs.StoreKeys.{is_there, key_of_step, with_key}
-use Rattle.ext_plan.proofs.KeyLists.{is_contained, there_with, with_new, with_old}
+use Rattle.ext_plan.specs.StoreKeys.{is_there, key_of_step}
+use Rattle.ext_plan.proofs.KeyLists.{is_contained}
 use Rattle.ext_races.specs.Acts.{act_of}
-use Rattle.ext_races.specs.MadeSteps.{MadeText, calls_of, made_by, steps_made}
-use Rattle.ext_races.specs.Touches.{key_of_act, key_of_made, keys_named, keys_of_steps, with_key_of}
+use Rattle.ext_races.specs.MadeSteps.{calls_of, made_by, steps_made}
+use Rattle.ext_races.specs.Touches.{key_of_act, key_of_made, keys_named}
 use Rattle.ext_races.proofs.Lists.{all_contained}
 use Rattle.ext_plain.specs.ValueStates.{ValueState}
 use Rattle.ext_plain.specs.ContextEnds.{seal_keys}
@@ -26,32 +23,7 @@ use Rattle.ext_plain.proofs.Values.{act-values}
 use Rattle.ext_one_report.proofs.Rooms.{GaveFew, few_are_given}
 use Rattle.ext_one_report.proofs.FrameNodes.{KeepNodes, nodes_keep, within_nodes}
 use Rattle.ext_one_report.proofs.CoveredTouches.{is_made}
-
--- ---- the keys of the steps are there
-
-there_before : (keys : List KeyValue) (first key : KeyValue) → is_there keys key ≡ true → is_there (with_key keys first) key ≡ true
-there_before keys first key there = elim (bools (is_there keys first)) [
-  | inl old ↦ ap (λ ks. is_there ks key) (with_old keys first old) ∙ there
-  | inr new ↦ ap (λ ks. is_there ks key) (with_new keys first new) ∙ list_any-from_Contains key_eq_equiv key (keys ++ first ∷ []) (Contains-append_left keys (first ∷ []) key (is_contained keys key there))
-]
-
-there_before_of : (keys : List KeyValue) (first : Option KeyValue) (key : KeyValue) → is_there keys key ≡ true → is_there (with_key_of keys first) key ≡ true
-there_before_of keys None key there = there
-there_before_of keys (Some first) key there = there_before keys first key there
-
-there_kept : (declared : List KeyText) (keys : List KeyValue) (steps : List MadeText) (key : KeyValue) → is_there keys key ≡ true → is_there (keys_of_steps declared keys steps) key ≡ true
-there_kept declared keys [] key there = there
-there_kept declared keys (step ∷ more) key there = there_kept declared (with_key_of keys (key_of_made declared step)) more key (there_before_of keys (key_of_made declared step) key there)
-
-there_first : (declared : List KeyText) (keys : List KeyValue) (more : List MadeText) (key : Option KeyValue) → IfSome key (λ k. is_there (keys_of_steps declared (with_key_of keys key) more) k ≡ true)
-there_first declared keys more None = tt
-there_first declared keys more (Some key) = there_kept declared (with_key keys key) more key (there_with keys key)
-
-there_all : (declared : List KeyText) (keys : List KeyValue) (steps : List MadeText) → All (λ step. IfSome (key_of_made declared step) (λ key. is_there (keys_of_steps declared keys steps) key ≡ true)) steps
-there_all declared keys [] = All-nil (λ step. IfSome (key_of_made declared step) (λ key. is_there keys key ≡ true))
-there_all declared keys (step ∷ more) =
-    All-cons (λ s. IfSome (key_of_made declared s) (λ key. is_there (keys_of_steps declared keys (step ∷ more)) key ≡ true)) step more
-    (there_first declared keys more (key_of_made declared step)) (there_all declared (with_key_of keys (key_of_made declared step)) more)
+use Rattle.ext_one_report.proofs.KeysNamed.{there_all}
 
 -- a step of a key that is there names it
 names_it : (names : List KeyValue) (keys : List KeyText) (step : StepText) → IfSome (key_of_act keys (act_of step)) (λ key. is_there names key ≡ true) → NamesOneOf names keys step

@@ -21,6 +21,7 @@ pub mod ClosePlain
 pub mod CloseResults
 pub mod CloseSame
 pub mod Closes
+pub mod ComputedAbove
 pub mod Computes
 pub mod Containers
 pub mod CountNodes
@@ -37,6 +38,12 @@ pub mod Dealt
 pub mod Events
 pub mod FailClaimed
 pub mod FailComputes
+pub mod FillEvents
+pub mod Fills
+pub mod FillsCounts
+pub mod FillsLanes
+pub mod FillsLaws
+pub mod FoundAbove
 pub mod FrameKeys
 pub mod FrameNodes
 pub mod FrameSlots
@@ -44,7 +51,12 @@ pub mod FrameSteps
 pub mod FullRuns
 pub mod Going
 pub mod Kept
+pub mod KeptAbove
+pub mod KeptComputes
+pub mod KeptSteps
+pub mod KeysNamed
 pub mod LanesAlone
+pub mod LanesApart
 pub mod Levels
 pub mod Made
 pub mod Matching
@@ -71,6 +83,7 @@ pub mod Open
 pub mod OpenCallLists
 pub mod OpenCalls
 pub mod OpenEnds
+pub mod OpenFills
 pub mod OpenFits
 pub mod OpenGoing
 pub mod OpenLane
@@ -107,8 +120,10 @@ pub mod SharedNodesBeside
 pub mod SharedNodesBody
 pub mod SharedNodesCalls
 pub mod SharedNodesCells
+pub mod SharedNodesCounts
 pub mod SharedNodesDealt
 pub mod SharedNodesEnds
+pub mod SharedNodesFills
 pub mod SharedNodesGone
 pub mod SharedNodesPasses
 pub mod SharedNodesPlaces

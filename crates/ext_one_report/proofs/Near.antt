@@ -1,9 +1,11 @@
 -- Each run that lacks nothing, of a plan whose nodes may compute the same beside one another, tells near what the plain run does; and exactly that where they keep apart.
-use Rattle.std.proofs.Common.{◌≡◌, inl, inr, ◌⊎◌, ℕ, ◌<◌, true, List, [], ◌∷◌, length, get_or, map, Some, None, refl, ap, sym, subst, ◌∙◌, arith, zero-add}
-use Rattle.std.specs.Prelude.{is_some, option_map, slice_get}
+use Rattle.std.proofs.Common.{◌≡◌, inl, inr, ◌⊎◌, ℕ, ◌<◌, true, List, [], ◌∷◌, length, drop, get_or, map, Some, None, refl, ap, sym, subst, ◌∙◌, arith, zero-add}
+use Rattle.std.specs.Prelude.{Contains, is_some, option_map, slice_get}
+use Rattle.std.specs.List.{sum_by}
 use Rattle.std.proofs.lemmas.List.{length-map}
 use Rattle.std.proofs.lemmas.Option.{slice_get-get_or, slice_get-map, slice_get_within}
-use Rattle.ext_history.proofs.Once.{contains-from_map}
+use Rattle.ext_history.proofs.Lists.{contains_here, contains_later, contains_none}
+use Rattle.ext_history.proofs.Once.{Once, contains-from_map}
 use Rattle.ext_model.specs.declared.look.Fault.{Fault}
 use Rattle.ext_lifecycle.specs.FaultTexts.{NodeOutcome, fault_text}
 use Rattle.ext_lifecycle.specs.Results.{ResultOf, skipped_result, with_fault_told}
@@ -24,14 +26,19 @@ use Rattle.ext_one_report.proofs.CoveredPlans.{plans_are_covered}
 use Rattle.ext_one_report.specs.Shares.{Open, SharesNothing, shares_in, AreToldNear}
 use Rattle.ext_one_report.proofs.Shared.{AreShared}
 use Rattle.ext_one_report.specs.FullRuns.{LacksNothing}
+use Rattle.ext_one_report.proofs.Fills.{computed_at, computed_of, computed_told}
+use Rattle.ext_one_report.proofs.FillsCounts.{computed_is, none_filled_apart, of_first, told_first, told_is_total}
 use Rattle.ext_one_report.proofs.FullRuns.{setting_in}
 use Rattle.ext_one_report.specs.OneReport.{AreNearReports, NearReport, OneReport}
+use Rattle.ext_races.specs.MadeSteps.{plan_path}
 use Rattle.ext_races.specs.OneReports.{HasNearReport}
 use Rattle.ext_one_report.proofs.SharedNodesWords.{AllToldNear, BeginsNear, EndsNear, IsSharedBasis}
 use Rattle.ext_one_report.proofs.Bases.{at_places, changed, holds_once, its, numbers_left, only, opens_level}
+use Rattle.ext_one_report.proofs.ComputedAbove.{IsClosedAbove}
 use Rattle.ext_one_report.proofs.LanesAlone.{view_moves}
+use Rattle.ext_one_report.proofs.NodeTrees.{its_path}
 use Rattle.ext_one_report.proofs.Results.{length_results, length_skipped, same_by_places, skipped_at, stands_or_not}
-use Rattle.ext_one_report.proofs.Whole.{is_view, lanes_in, one_each, run_in_view}
+use Rattle.ext_one_report.proofs.Whole.{each_once, is_view, lanes_apart, lanes_in, one_each, run_in_view}
 use Rattle.ext_one_report.proofs.SharedApart.{apart_shares_nothing, apart_shares_values}
 use Rattle.ext_one_report.proofs.SharedNodesEnds.{nodes_end_near}
 use Rattle.ext_one_report.proofs.SharedPlans.{plans_are_shared}
@@ -42,7 +49,7 @@ none_open context key = None
 
 module _ (nodes : List NodeText) (suite : SuiteView) (ran : List Ran) (results : List (ResultOf Fault)) (after : List NodeOutcome)
     (tests : (node : ℕ) → suite.is_test node ≡ is_some (test_in (slice_get nodes node))) (one : IsOneEach suite (λ node. ⊥) (length nodes) ran results) (shares : ℕ → Open)
-    (told : AllToldNear shares ran (skipped_from 0 nodes) after) where
+    (told : AllToldNear shares ran (skipped_from 0 nodes) after) (once : Once (nodes_of ran)) (as_many : computed_of ran ≡ computed_told ran after) where
   itself : (shared : Open) (a b : NodeOutcome) → a ≡ b → AreToldNear shared a b
   itself shared a b same = subst (λ x. AreToldNear shared a x) same (record { same = refl; counts = refl; exact = λ nothing. refl })
 
@@ -63,9 +70,51 @@ module _ (nodes : List NodeText) (suite : SuiteView) (ran : List Ran) (results :
       sym (told.others k none ∙ skipped_at nodes 0 k within ∙ ap (λ n. Some (skipped_result n (is_some (test_in (slice_get nodes k))))) (zero-add k)) ∙ is' in
       itself (shares k) here there (cc (sym mine ∙ theirs))
 
+  -- ---- how many values all nodes computed
+
+  abbrev here : List NodeOutcome
+  here = map (with_fault_told fault_text) results
+
+  long : length here ≡ length nodes
+  long = length-map results (with_fault_told fault_text) ∙ length_results nodes suite ran results one ∙ length_skipped 0 nodes
+
+  long_after : length after ≡ length nodes
+  long_after = told.count ∙ length_skipped 0 nodes
+
+  ran_within : (k : ℕ) → HasRun ran k → k < length nodes
+  ran_within k has =
+      let r = contains-from_map (λ (x : Ran). x.result.node) ran k has in
+      let t = told.each r.0 r.1 in
+      let inside = slice_get_within after r.0.result.node t.0 t.1 in
+      let count = long_after in
+      omega (arith, inside, count, r.2)
+
+  here_at : (k : ℕ) (result : ResultOf Fault) → slice_get results k ≡ Some result → computed_at here k ≡ result.computed
+  here_at k result is = computed_is here k (with_fault_told fault_text result) (slice_get-map (with_fault_told fault_text) results k ∙ ap (λ o. option_map (with_fault_told fault_text) o) is)
+
+  here_told : (some : List Ran) → ((r : Ran) → Contains some r → Contains ran r) → computed_told some here ≡ computed_of some
+  here_told [] all = refl
+  here_told (r ∷ some) all =
+      let first = here_at r.result.node r.result (one.of_run r (all r (contains_here r some))) in
+      let rest = here_told some (λ x there. all x (contains_later r some x there)) in
+      let left = told_first r some here in
+      let right = of_first r some in
+      omega (arith, first, rest, left, right)
+
+  pub totals : sum_by (λ outcome. outcome.computed) (map (with_fault_told fault_text) results) ≡ sum_by (λ outcome. outcome.computed) after
+  totals =
+      told_is_total here ran once (λ k has. let inside = ran_within k has in let count = long in omega (arith, inside, count))
+      (λ k less none. let count = long in here_at k (skipped_result k (suite.is_test k)) (one.of_skipped k (omega (arith, less, count)) none))
+      ∙ (here_told ran (λ r there. there) ∙ (as_many ∙ sym (told_is_total after ran once (λ k has. let inside = ran_within k has in let count = long_after in omega (arith, inside, count))
+      (λ k less none. let count = long_after in
+      let skipped : slice_get after k ≡ Some (skipped_result k (is_some (test_in (slice_get nodes k)))) =
+      told.others k none ∙ skipped_at nodes 0 k (omega (arith, less, count)) ∙ ap (λ n. Some (skipped_result n (is_some (test_in (slice_get nodes k))))) (zero-add k) in
+      computed_is after k (skipped_result k (is_some (test_in (slice_get nodes k)))) skipped))))
+
   pub near_reports : AreNearReports shares (map (with_fault_told fault_text) results) after
   near_reports = record {
     count = length-map results (with_fault_told fault_text) ∙ length_results nodes suite ran results one ∙ sym told.count;
+    computed = totals;
     near = λ k here there is is'.
         let inside = slice_get_within (map (with_fault_told fault_text) results) k here is in
         let long = length-map results (with_fault_told fault_text) in
@@ -103,6 +152,7 @@ module _ (plan : PlanText) (lanes : ℕ) (results : List (ResultOf Fault)) (read
       record {
         within = all.parts;
         lanes = lanes_in plan lanes results run full;
+        apart = lanes_apart plan lanes results run full;
         open_is = λ context key v is. absurd (cc is);
         own = record { own = λ context number place key event at named seen there on. elim (theirs.each place seen) [ inl made ↦ made | inr none ↦ absurd none ] };
         computed = record { computed = λ context number place key v event is named seen there on. absurd (cc is) };
@@ -113,8 +163,18 @@ module _ (plan : PlanText) (lanes : ℕ) (results : List (ResultOf Fault)) (read
           above = λ context key v path is path_is. absurd (cc is);
           numbered = record { beyond = λ context key number is past. absurd (cc is); drawn = refl };
         };
+        closed = none_above;
         results = length_skipped 0 plan.nodes;
       }
+    where
+      -- no node is above the root
+      none_above : IsClosedAbove plan (drop 1 (plan_path plan 0)) none_open (run_opening [] plan).state
+      none_above =
+          let nothing : IsClosedAbove plan [] none_open (run_opening [] plan).state = record {
+            none = λ context key computed. refl;
+            stands = λ context key computed. let there = computed.among in absurd (contains_none computed.node there);
+          } in
+          subst (λ l. IsClosedAbove plan l none_open (run_opening [] plan).state) (ap (λ l. drop 1 l) (its_path plan read.runnable.tree 0 (0 ∷ []) (refl, refl))) nothing
 
   ends : EndsNear plan mine run.locks run.shared.history (touched_in plan) (changed_in plan) cells_changed shares 0 none_open run.first run.ran run.after (run_opening [] plan) (node_run plan (length plan.nodes) (0 ∷ []) (run_opening [] plan))
   ends =
@@ -123,6 +183,7 @@ module _ (plan : PlanText) (lanes : ℕ) (results : List (ResultOf Fault)) (read
 
   pub told_near : AreNearReports shares (map (with_fault_told fault_text) results) (plain_run plan)
   told_near = near_reports plan.nodes (suite_of plan) run.ran results (plain_run plan) (λ node. refl) (one_each plan lanes results run full read) shares ends.told
+      (each_once plan lanes results run full read) (none_filled_apart _ none_open _ _ _ _ (λ context key. refl) ends.fills)
 
 -- reports that are near are the same where no node shares a value
 pub same_reports : (shares : ℕ → Open) (here there : List NodeOutcome) → ((node : ℕ) → SharesNothing (shares node)) → AreNearReports shares here there → here ≡ there

@@ -1,7 +1,7 @@
 -- A closeable value that a step of a call leaves is one that the touches of the plan tell, so that each call of a node keeps what stands where the plan may leave it.
-use Rattle.std.proofs.Common.{◌≡◌, ◌<◌, ℕ, Bool, true, List, [], ◌∷◌, length, drop, Contains, All, refl, ap, sym, subst, ◌∙◌, arith}
-use Rattle.std.specs.Prelude.{◌&&◌, codes, if◌then◌else◌}
-use Rattle.std.proofs.lemmas.List.{length-drop, length-map}
+use Rattle.std.proofs.Common.{◌≡◌, ◌<◌, ℕ, true, List, [], length, drop, Contains, All, refl, ap, sym, subst, ◌∙◌, arith}
+use Rattle.std.specs.Prelude.{◌&&◌, codes}
+use Rattle.std.proofs.lemmas.List.{length-map}
 use Rattle.std.proofs.lemmas.List.Elements.{All-contains}
 use Rattle.ext_tree.specs.Trees.{IsPathOf}
 use Rattle.ext_lifecycle.specs.declared.call.Call.{Call}
@@ -15,16 +15,16 @@ use Rattle.ext_plan.specs.Values.{begins_with}
 use Rattle.ext_plan.specs.declared.word.Word.{Word}
 use Rattle.ext_plan.specs.declared.word.Word.TheVariants as words
 use Rattle.ext_races.specs.Acts.{ActText}
-use Rattle.ext_races.specs.MadeSteps.{MadeText, calls_of, made_by, plan_path, steps_made}
-use Rattle.ext_races.specs.Touches.{TouchText, below_computes, keys_named, text_if, touch_of, touches_above, touches_along, touches_made, touches_of}
+use Rattle.ext_races.specs.MadeSteps.{calls_of, plan_path}
+use Rattle.ext_races.specs.Touches.{keys_named, text_if, touch_of, touches_made}
 use Rattle.ext_plan.specs.StepWords.{changes, has_text, leaves_closeable}
-use Rattle.ext_races.proofs.Lists.{all_contained, contains_first, contains-flat_map}
+use Rattle.ext_races.proofs.Lists.{all_contained}
 use Rattle.ext_plain.specs.ValueStates.{ValueState}
 use Rattle.ext_plain.specs.NodeCalls.{call_run}
 use Rattle.ext_one_report.proofs.OfPlan.{IsOfPlan, MayBeLeft}
 use Rattle.ext_one_report.proofs.OfPlanSteps.{IsReady, StepLeaves, steps_ready}
 use Rattle.ext_one_report.proofs.OfPlanHeights.{call_stays, is_plan_path, path_inside}
-use Rattle.ext_one_report.proofs.CoveredTouches.{is_made}
+use Rattle.ext_one_report.proofs.CoveredTouches.{is_made, start_made}
 
 -- ---- what they touch
 
@@ -33,51 +33,36 @@ closeable_all words.PutCloseable leaves = (refl, refl)
 closeable_all words.ComputeCloseable leaves = (refl, refl)
 closeable_all word leaves = absurd cc
 
--- an act that leaves a closeable value does so in the first context of its path
-along_left : (plan : PlanText) (node key : ℕ) (act : ActText) (path : List ℕ) → 0 < length path → ((t : TouchText) → Contains (touches_along node key act path) t → Contains (touches_made plan) t)
-    → changes act.word ≡ true → leaves_closeable act.word ≡ true → has_text act.word ≡ true → begins_with (codes "bad") act.text ≡ true → MayBeLeft plan (start_of path) act.text
-along_left plan node key act [] some each acts leaves tells bad = absurd (omega (arith, some))
-along_left plan node key act (context ∷ above) some each acts leaves tells bad =
-    let touch = touch_of node key act (changes act.word) context in
-    let told : touch.text ≡ act.text = λ i. text_if (acts i && tells i) act.text in
+-- an act that leaves a closeable value does so in the context on which it acts
+left_there : (plan : PlanText) (node key : ℕ) (act : ActText) (context : ℕ) → Contains (touches_made plan) (touch_of node key act true context)
+    → leaves_closeable act.word ≡ true → has_text act.word ≡ true → begins_with (codes "bad") act.text ≡ true → MayBeLeft plan context act.text
+left_there plan node key act context made leaves tells bad =
+    let touch = touch_of node key act true context in
+    let told : touch.text ≡ act.text = λ i. text_if (tells i) act.text in
     record {
       touch = touch;
-      made = each touch (contains_first touch (touches_above node key act above));
-      fails = λ i. acts i && leaves i && (ap (begins_with (codes "bad")) told ∙ bad) i;
+      made = made;
+      fails = λ i. leaves i && (ap (begins_with (codes "bad")) told ∙ bad) i;
       context_is = refl;
       text_is = told;
     }
-
-longer : (up : ℕ) (path : List ℕ) → up < length path → 0 < length (drop up path)
-longer up path below = let left = length-drop up path in omega (arith, left, below)
 
 module _ (plan : PlanText) (node : ℕ) (path : List ℕ) (read : IsReadPlan plan) (is : IsPathOf (ids_of_nodes plan.nodes) node path) where
   within : node < length plan.nodes
   within = let inside = path_inside (ids_of_nodes plan.nodes) node path read.runnable.tree is in let long : length (ids_of_nodes plan.nodes) ≡ length plan.nodes = length-map plan.nodes (λ n. n.id) in omega (arith, inside, long)
 
-  -- the touches of a step that is made are those of the plan
-  there : (made : MadeText) → Contains (steps_made plan) made → (t : TouchText) → Contains (touches_of (ids_of_nodes plan.nodes) plan.keys (keys_named plan) made) t → Contains (touches_made plan) t
-  there made of_plan t touches = contains-flat_map (touches_of (ids_of_nodes plan.nodes) plan.keys (keys_named plan)) (steps_made plan) made t of_plan touches
-
   own_path : (up : ℕ) (text : List ℕ) → MayBeLeft plan (start_of (drop up (plan_path plan node))) text → MayBeLeft plan (start_of (drop up path)) text
   own_path up text = subst (λ p. MayBeLeft plan (start_of (drop up p)) text) (sym (is_plan_path plan node path read is))
-
-  below : (up : ℕ) → up < length path → 0 < length (drop up (plan_path plan node))
-  below up less = subst (λ p. 0 < length (drop up p)) (is_plan_path plan node path read is) (longer up path less)
 
   step_leaves : (call : Call) (step : StepText) → Contains (calls_of plan node) call → Contains (steps_of_call plan call) step → height step < length path → StepLeaves plan path step
   step_leaves call (keyed word key text up) of_node of_call less = λ leaves closes bad.
       let step = keyed word key text up in
       let act : ActText = record { word = word; key = key; text = text; up = up } in
-      let k = key_of_step plan.keys key in
-      let number = place_of_key (keys_named plan) k in
-      let walk = plan_path plan node in
-      let one = is_made plan node call step within of_node of_call in
+      let number = place_of_key (keys_named plan) (key_of_step plan.keys key) in
       let all = closeable_all word leaves in
-      let along = ap (λ (b : Bool). drop up (if b then walk else below_computes plan.keys k walk one.front)) all.0 in
-      let touches : (t : TouchText) → Contains (touches_along node number act (drop up walk)) t → Contains (touches_made plan) t =
-      λ t held. there (made_by node one.front step) one.made t (subst (λ p. Contains (touches_along node number act p) t) (sym along) held) in
-      own_path up text (along_left plan node number act (drop up walk) (below up less) touches all.0 leaves all.1 bad)
+      let low : up < length (plan_path plan node) = subst (λ p. up < length p) (is_plan_path plan node path read is) less in
+      let made = start_made plan node act (is_made plan node call step within of_node of_call) all.0 low in
+      own_path up text (left_there plan node number act (start_of (drop up (plan_path plan node))) made leaves all.1 bad)
   step_leaves call (fail text) of_node of_call less = tt
   step_leaves call (abort text) of_node of_call less = tt
 

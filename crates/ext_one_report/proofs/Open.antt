@@ -1,6 +1,7 @@
 -- Open places: nodes that may run beside one another compute the same value there, and nothing has stood there before them. Which of them runs its factory is open.
 -- Javadoc `ExtensionContext.Store`, `getOrComputeIfAbsent`. That such nodes do not race is an own rule of [ext_races Clashes].
 use Rattle.ext_one_report.specs.Shares.{Open}
+use Rattle.std.proofs.Common.{◌⊎◌, inl, inr, refl}
 use Rattle.std.specs.Prelude.{ℕ, ◌≡◌, Bool, true, false, if◌then◌else◌, ◌||◌, ◌&&◌, ◌==◌, List, ◌∷◌, ◌++◌, All, Contains, Option, Some, None, drop, nat_eq}
 use Rattle.ext_history.specs.Histories.{seen_by}
 use Rattle.ext_model.specs.declared.event.Act.{Act}
@@ -23,6 +24,10 @@ use Rattle.ext_plain.specs.ValueStates.{ValueState}
 use Rattle.ext_one_report.proofs.MatchingWords.{HasNumberIn, IsNumbered, Places, RunView, TextMeaning, cell_of, plain_meaning, plain_slot}
 
 -- ---- open places
+
+pub some_or_none : {A : Type 0} (o : Option A) → (o ≡ None) ⊎ ((x : A) × (o ≡ Some x))
+some_or_none None = inl refl
+some_or_none (Some x) = inr (x, refl)
 
 abbrev pub is_open : Open → Places
 is_open open_at context key = is_value (open_at context key)

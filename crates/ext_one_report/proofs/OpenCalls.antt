@@ -11,7 +11,7 @@ use Rattle.ext_tree.specs.Trees.{IsPathOf}
 use Rattle.ext_lifecycle.specs.declared.call.Call.{Call}
 use Rattle.ext_lifecycle.specs.declared.outcome.Outcome.{Outcome}
 use Rattle.ext_lifecycle.specs.Callbacks.{test_call}
-use Rattle.ext_lifecycle.specs.Endings.{with_fault}
+use Rattle.ext_lifecycle.specs.Endings.{all_successful, with_fault}
 use Rattle.ext_lifecycle.specs.FaultTexts.{fault_text}
 use Rattle.ext_lifecycle.specs.Lifecycle.{MakesAll, MakesBefores, computed_in, endings_of, found_in}
 use Rattle.ext_plan.specs.Plans.{KeyText, PlanText, StepKeyText, StepText}
@@ -28,6 +28,7 @@ use Rattle.ext_one_report.proofs.CallListsWords.{BeforesHaveRoom, CallsFind, Cal
 use Rattle.ext_one_report.proofs.CallsWords.{StepWithin}
 use Rattle.ext_one_report.proofs.MatchingWords.{HasNumberIn, IsNumbered, Matches, Places, RunView, cell_of, plain_slot}
 use Rattle.ext_one_report.proofs.TestCallsWords.{MakesTest, TestFinds, TestHasRoom, afters_round, befores_round, plain_test}
+use Rattle.ext_one_report.proofs.Fills.{Fills, IsFilledBy}
 use Rattle.ext_one_report.proofs.Open.{AreNear, ComputesOpen, also, place_of_step, still_open}
 use Rattle.ext_one_report.specs.Shares.{Open}
 use Rattle.ext_one_report.proofs.OpenSteps.{AreBesideOpen, StandsInBoth}
@@ -99,16 +100,22 @@ AllCallsEndNear =
     (before : PlanLane) (outcomes : List Outcome) (after : PlanLane) (end : CallsEnd)
     → IsPathOf run.store.tree node path → CallsNear done end → AreBesideOpen run path places open_at before after end.state → All (CallFitsOpen run plan path places open_at) calls → CallsFind plan calls outcomes
     → CallsHaveRoom plan path calls end.state → MakesAll (Makes plan run.store node) calls before outcomes after
-    → CallsNear (done ++ outcomes) (make_all (call_run plan path) calls end) × LeavesNear run places open_at before end.state after (make_all (call_run plan path) calls end).state
+    → CallsNear (done ++ outcomes) (make_all (call_run plan path) calls end)
+    × (left : LeavesNear run places open_at before end.state after (make_all (call_run plan path) calls end).state)
+    × (plain : ℕ) × ((make_all (call_run plan path) calls end).computed ≡ end.computed + plain)
+    × Fills (IsFilledBy run before after) open_at (still_open left.settled open_at) end.state (computed_in outcomes) plain
 
--- and calls that are made up to the first that is not successful
+-- and calls that are made up to the first that is not successful; where all are successful all whose values they compute are settled
 abbrev pub BeforesEndNear : Type 0
 BeforesEndNear =
     (run : RunView) (plan : PlanText) (node : ℕ) (path : List ℕ) (places : Places) (open_at : Open) (calls : List Call)
     (before : PlanLane) (outcomes : List Outcome) (after : PlanLane) (s : ValueState)
     → IsPathOf run.store.tree node path → AreBesideOpen run path places open_at before after s → BeforesFit run plan path places open_at calls → CallsFind plan calls outcomes
     → BeforesHaveRoom plan path calls s → MakesBefores (Makes plan run.store node) calls before outcomes after
-    → CallsNear outcomes (make_befores (call_run plan path) calls (no_calls s)) × LeavesNear run places open_at before s after (make_befores (call_run plan path) calls (no_calls s)).state
+    → CallsNear outcomes (make_befores (call_run plan path) calls (no_calls s))
+    × (left : LeavesNear run places open_at before s after (make_befores (call_run plan path) calls (no_calls s)).state)
+    × (all_successful (make_befores (call_run plan path) calls (no_calls s)).calls ≡ true → NoneOpen plan.keys path (still_open left.settled open_at) (flat_map (steps_of_call plan) calls))
+    × Fills (IsFilledBy run before after) open_at (still_open left.settled open_at) s (computed_in outcomes) (make_befores (call_run plan path) calls (no_calls s)).computed
 
 -- all calls of a test
 abbrev pub TestEndsNear : Type 0
@@ -118,4 +125,5 @@ TestEndsNear =
     → BeforesFit run plan path places open_at (befores_round plan node path) → FitsBehind run plan path places open_at (befores_round plan node path) (test_call node)
     → All (CallFitsOpen run plan path places open_at) (afters_round plan node path) → TestHasRoom plan node path s
     → (made : MakesTest plan node path run.store before outcomes after) → TestFinds plan node path run.store before outcomes after made
-    → CallsNear outcomes (plain_test plan node path s) × LeavesNear run places open_at before s after (plain_test plan node path s).state
+    → CallsNear outcomes (plain_test plan node path s) × (left : LeavesNear run places open_at before s after (plain_test plan node path s).state)
+    × Fills (IsFilledBy run before after) open_at (still_open left.settled open_at) s (computed_in outcomes) (plain_test plan node path s).computed

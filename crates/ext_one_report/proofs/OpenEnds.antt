@@ -36,21 +36,25 @@ use Rattle.ext_one_report.proofs.StepsWords.{EndAlike}
 use Rattle.ext_one_report.proofs.Calls.{steps_alike, steps_go}
 use Rattle.ext_one_report.proofs.PlainFrames.{LeavesElse, no_context}
 use Rattle.ext_one_report.proofs.FrameSteps.{steps_leave}
-use Rattle.ext_one_report.proofs.Open.{AreNear, ComputesOpen, MayStand, StandsOrNot, also, at_place, is_open, place_of_step}
+use Rattle.ext_one_report.proofs.Fills.{Fills, IsFilledBy}
+use Rattle.ext_one_report.proofs.FillsLaws.{fills_none}
+use Rattle.ext_one_report.proofs.Open.{AreNear, ComputesOpen, MayStand, StandsOrNot, also, at_place, is_open, place_of_step, still_open}
 use Rattle.ext_one_report.specs.Shares.{Open}
 use Rattle.ext_one_report.proofs.OpenSteps.{AreBesideOpen, StepEndsNear}
 use Rattle.ext_one_report.proofs.OpenCalls.{LeavesAbove, LeavesNear}
+use Rattle.ext_one_report.proofs.OpenFills.{fills_on}
 use Rattle.ext_one_report.proofs.OpenFits.{IsOpenStep, is_at_place, at_itself, open_step}
 use Rattle.ext_one_report.proofs.OpenSingles.{IsChanged, changed_place, changes_within, elsewhere, is_changed, may_change, one_of, only_one, single_is, single_run}
 use Rattle.ext_one_report.proofs.Standing.{computing_keeps_near}
 use Rattle.ext_one_report.proofs.OpenStep.{opens_end_near}
 use Rattle.ext_one_report.proofs.WordCases.{finds_none}
 
--- how steps end: both say the same, and together have computed and found as many values
+-- How steps end: both say the same, and together have computed and found as many values; each run computed those at open places that it filled
 pub record Near (run : RunView) (places : Places) (open_at : Open) (a : PlanLane) (s : ValueState) (o : Outcome) (b : PlanLane) (end : StepEnd) : Type 0 where
   pub says : verdict_text o.verdict ≡ end.verdict
   pub counts : o.computed + o.found ≡ end.computed + end.found
   pub left : LeavesNear run places open_at a s b end.state
+  pub fills : Fills (IsFilledBy run a b) open_at (still_open left.settled open_at) s o.computed end.computed
 
 -- ---- where nothing is settled
 
@@ -61,11 +65,16 @@ or_none : (a : Bool) → a ≡ a || false
 or_none true = refl
 or_none false = refl
 
+-- the lane makes no event at an open place
+abbrev pub TouchesNone : RunView → Open → PlanLane → PlanLane → Type 0
+TouchesNone run open_at a b =
+    (context : ℕ) (key : KeyValue) (number : ℕ) (v : ValueText) → open_at context key ≡ Some v → HasNumberIn run key number → (more : History) → seen_by b.cells.view ≡ seen_by a.cells.view ++ more
+    → (e : Event ℕ) → Contains more e → is_on nat_eq (cell_of run number context) e.act ≡ true → e.lane ≢ a.cells.view.number
+
 pub left_open : (run : RunView) (places : Places) (open_at : Open) (a : PlanLane) (s : ValueState) (b : PlanLane) (t : ValueState)
     → Matches run places (seen_by b.cells.view) t → IsNumbered places t → AreNear run open_at (seen_by b.cells.view) t
     → ((context : ℕ) (key : KeyValue) (v : ValueText) → open_at context key ≡ Some v → plain_slot t context key ≡ plain_slot s context key)
-    → ((context : ℕ) (key : KeyValue) (number : ℕ) (v : ValueText) → open_at context key ≡ Some v → HasNumberIn run key number
-    → (more : History) → seen_by b.cells.view ≡ seen_by a.cells.view ++ more → (e : Event ℕ) → Contains more e → is_on nat_eq (cell_of run number context) e.act ≡ true → e.lane ≢ a.cells.view.number)
+    → TouchesNone run open_at a b
     → LeavesNear run places open_at a s b t
 left_open run places open_at a s b t matches numbered near unchanged untouched =
     let same : places ≡ also none_settled places = λ i c k. or_none (places c k) i in
@@ -80,6 +89,19 @@ left_open run places open_at a s b t matches numbered near unchanged untouched =
       unchanged = λ c k v off is. unchanged c k v is;
       untouched = λ c k n v off is has more now e there on. untouched c k n v is has more now e there on;
     }
+
+pub open_settled : (run : RunView) (places : Places) (open_at : Open) (a : PlanLane) (s : ValueState) (b : PlanLane) (t : ValueState)
+    (matches : Matches run places (seen_by b.cells.view) t) (numbered : IsNumbered places t) (near : AreNear run open_at (seen_by b.cells.view) t)
+    (unchanged : (context : ℕ) (key : KeyValue) (v : ValueText) → open_at context key ≡ Some v → plain_slot t context key ≡ plain_slot s context key)
+    (untouched : TouchesNone run open_at a b)
+    → (left_open run places open_at a s b t matches numbered near unchanged untouched).settled ≡ none_settled
+unfolding left_open
+open_settled run places open_at a s b t matches numbered near unchanged untouched = refl
+
+-- the lane fills no place that it does not touch
+pub fills_untouched : (run : RunView) (open_at : Open) (a b : PlanLane) (s : ValueState) (n : ℕ) → TouchesNone run open_at a b → Fills (IsFilledBy run a b) open_at open_at s n n
+fills_untouched run open_at a b s n untouched = fills_none (IsFilledBy run a b) open_at s n (λ spot v is filled.
+    untouched spot.0 spot.1 filled.number v is filled.has filled.more filled.is filled.event filled.there (fills_on (cell_of run filled.number spot.0) filled.value filled.event.act filled.act) filled.own)
 
 opened : (open_at : Open) (context : ℕ) (key : KeyValue) (v : ValueText) → open_at context key ≡ Some v → is_open open_at context key ≡ true
 opened open_at context key v is = ap (λ o. is_open (λ c k. o) context key) is
@@ -174,12 +196,23 @@ module _ (run : RunView) (keys : List KeyText) (path : List ℕ) (places : Place
     };
   }
 
+  untouched : TouchesNone run open_at a b
+  untouched c k n v is has more now e there on = elsewhere run keys path step a o b both.view both.lane all c k n (not_open c k v is) has more now e there on
+
+  left_within : LeavesNear run places open_at a s b next.state
+  left_within = left_open run places open_at a s b next.state ends_alike.matches ends_alike.numbered near_still same_slot untouched
+
+  within_settled : left_within.settled ≡ none_settled
+  unfolding left_within
+  within_settled = open_settled run places open_at a s b next.state ends_alike.matches ends_alike.numbered near_still same_slot untouched
+
   pub within_near : Near run places open_at a s o b next
   within_near = record {
     says = ends_alike.says;
     counts = omega (arith, ends_alike.computed, ends_alike.found);
-    left = left_open run places open_at a s b next.state ends_alike.matches ends_alike.numbered near_still same_slot
-        (λ c k n v is has more now e there on. elsewhere run keys path step a o b both.view both.lane all c k n (not_open c k v is) has more now e there on);
+    left = left_within;
+    fills = subst (λ (p : Places). Fills (IsFilledBy run a b) open_at (still_open p open_at) s o.computed next.computed) (sym within_settled)
+        (subst (λ n. Fills (IsFilledBy run a b) open_at open_at s o.computed n) ends_alike.computed (fills_untouched run open_at a b s o.computed untouched));
   }
 
 -- ---- a step that computes the value of an open place
@@ -227,7 +260,7 @@ module _ (run : RunView) (keys : List KeyText) (path : List ℕ) (places : Place
   it : IsOpenStep keys path open_at step
   it = open_step keys path open_at step computes
 
-  ended : StepEndsNear run places open_at here s o b (step_run keys path step s)
+  ended : StepEndsNear run places open_at here a s o b (step_run keys path step s)
   ended = opens_end_near run keys path places open_at step a o b s computes below both finds room ran
 
   same_place : (c : ℕ) (k : KeyValue) → here c k ≡ true → (c ≡ start_of (drop it.up path)) × (k ≡ key_of_step keys it.key)
@@ -260,6 +293,7 @@ module _ (run : RunView) (keys : List KeyText) (path : List ℕ) (places : Place
       untouched = λ c k n v off is has more now e there on. elsewhere run keys path step a o b both.view both.lane (single_run run.store keys path step a o b ran frame placed) c k n
           (λ changed. true≢false (sym (own_place c k changed) ∙ off)) has more now e there on;
     };
+    fills = ended.fills;
   }
 
   pub computes_settled : computes_near.left.settled ≡ here

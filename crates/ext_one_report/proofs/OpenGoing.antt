@@ -1,5 +1,5 @@
 -- A lane and a plain run beside one another go on: from a moment to a later one, at which more places are settled.
-use Rattle.std.proofs.Common.{◌≡◌, ℕ, inl, inr, true, false, List, [], ◌++◌, Contains, Option, None, Some, refl, ap, sym, subst, ◌∙◌, nat_eq, append_assoc}
+use Rattle.std.proofs.Common.{◌≡◌, ℕ, ◌+◌, inl, inr, true, false, true≢false, List, [], ◌++◌, Contains, Option, None, Some, refl, ap, sym, subst, ◌∙◌, nat_eq, append_assoc}
 use Rattle.std.specs.Prelude.{◌||◌, ◌≢◌}
 use Rattle.std.proofs.lemmas.List.Elements.{Contains-append_cases, Contains-append_right}
 use mathlib.Core.List.{IsPrefix, append_cancel_left}
@@ -25,10 +25,13 @@ use Rattle.ext_one_report.proofs.StandingsWords.{AreMatched, fault_stands, seal_
 use Rattle.ext_one_report.proofs.StepsWords.{IsAlone}
 use Rattle.ext_one_report.proofs.NodesAlone.{alone_first, alone_later, contains_left}
 use Rattle.ext_one_report.proofs.Calls.{lane_before}
+use Rattle.ext_one_report.proofs.Fills.{Fills, IsFilledBy, IsSettled, Spot}
+use Rattle.ext_one_report.proofs.FillsLaws.{fills_then}
 use Rattle.ext_one_report.proofs.Open.{AreNear, OnlyComputed, Stands, also, still_open}
 use Rattle.ext_one_report.specs.Shares.{Open}
 use Rattle.ext_one_report.proofs.OpenSteps.{AreBesideOpen, StandsInBoth}
 use Rattle.ext_one_report.proofs.OpenCalls.{LeavesNear}
+use Rattle.ext_one_report.proofs.OpenFills.{filled_first, filled_in_one, filled_second, fills_on}
 use Rattle.ext_one_report.proofs.OpenFits.{also_twice, beside_settled, opens, or_cases, or_left, or_neither, or_right, still_twice, was_open}
 use Rattle.ext_one_report.proofs.Standing.{standing_stays}
 
@@ -213,3 +216,29 @@ module _ (run : RunView) (path : List ℕ) (places : Places) (open_at : Open) (a
     pub then_settled : left_then.settled ≡ also second first
     unfolding left_then
     then_settled = refl
+
+    -- where a value stands nothing is filled any more
+    settled_unfilled : (spot : Spot) → IsSettled open_at (still_open first open_at) spot → IsFilledBy run m b spot → ⊥
+    settled_unfilled spot gone filled = elim (bools (first spot.0 spot.1)) [
+      | inl on ↦
+          let cell : ℕ = cell_of run filled.number spot.0 in
+          let off = none_on filled.more cell (settled_quiet one spot.0 spot.1 filled.number on filled.has filled.more filled.is) filled.event filled.there in
+          true≢false (sym (fills_on cell filled.value filled.event.act filled.act) ∙ off)
+      | inr off ↦ let none : Some gone.value ≡ None = sym (opens (first spot.0 spot.1) (open_at spot.0 spot.1) gone.value off gone.was_open) ∙ gone.closed in absurd (cc none)
+    ]
+
+    -- what both have filled
+    pub both_fill : (lanes plain more others : ℕ) → Fills (IsFilledBy run a m) open_at (still_open first open_at) s lanes plain
+        → Fills (IsFilledBy run m b) (still_open first open_at) (still_open second (still_open first open_at)) t more others
+        → Fills (IsFilledBy run a b) open_at (still_open left_then.settled open_at) s (lanes + more) (plain + others)
+    both_fill lanes plain more others fills then =
+        subst (λ (p : Places). Fills (IsFilledBy run a b) open_at (still_open p open_at) s (lanes + more) (plain + others)) (sym then_settled)
+        (subst (λ (o : Open). Fills (IsFilledBy run a b) open_at o s (lanes + more) (plain + others)) (still_twice open_at first second)
+        (fills_then (IsFilledBy run a m) (IsFilledBy run m b) (IsFilledBy run a b) open_at (still_open first open_at) (still_open second (still_open first open_at)) s t lanes plain more others
+        (λ c k v is. (was_open (first c k) (open_at c k) v is).1)
+        (λ c k v is. (was_open (second c k) (still_open first open_at c k) v is).1)
+        (λ c k v is. let was = was_open (first c k) (open_at c k) v is in one.unchanged c k v was.0 was.1)
+        (λ spot v is filled. filled_in_one run a m b goes further spot filled)
+        (filled_first run a m b goes further)
+        (filled_second run a m b goes further)
+        settled_unfilled fills then))

@@ -1,5 +1,6 @@
 -- A compute on a lane at an open place: where nothing stands above it, the value stands there afterwards, computed by the lane or found.
 use Rattle.std.proofs.Common.{◌≡◌, ℕ, ◌+◌, inl, inr, List, [], ◌∷◌, ◌++◌, Contains, take, drop, refl, ap, sym, subst, ◌∙◌, eq-eqb, append_assoc, Option, None, Some}
+use Rattle.std.proofs.lemmas.List.Elements.{Contains-append_right}
 use Rattle.std.specs.List.{slice_index_or}
 use Rattle.std.specs.Prelude.{All, Ok, if◌then◌else◌, ◌==◌}
 use mathlib.Core.List.{IsPrefix}
@@ -51,6 +52,7 @@ use Rattle.ext_one_report.proofs.Standings.{matched_empty}
 use Rattle.ext_one_report.proofs.StepLooks.{has_room, said}
 use Rattle.ext_one_report.proofs.Open.{AreOpenBeside, MayStand, OnlyComputed, Stands}
 use Rattle.ext_one_report.specs.Shares.{Open}
+use Rattle.ext_one_report.proofs.OpenFills.{ComputesOrNot, FillsNothing, nothing_quiet, nothing_then, vain_nothing}
 use Rattle.ext_one_report.proofs.OpenPlain.{look_first}
 use Rattle.ext_one_report.proofs.OwnEvents.{ActsOn, acts_called, acts_given_up, acts_quiet, acts_then, matches_at, near_at, stands_on, vain_acts}
 
@@ -103,11 +105,13 @@ pub record LaneEnds (run : RunView) (context number : ℕ) (v : ValueText) (a : 
   pub says : verdict_text o.verdict ≡ successful
   pub once : o.computed + o.found ≡ 1
   pub acts : ActsOn (cell_of run number context) a.cells.view b.cells.view
+  pub fills : ComputesOrNot (cell_of run number context) a.cells.view b.cells.view o
   pub stands : Stands run.meaning v (slots_in (cell_of run number) (seen_by b.cells.view) context)
 
--- A point between two moments of a lane that acts on the cell alone: what a look-up shows of the place itself
+-- A point between two moments of a lane that acts on the cell alone, and fills it not: what a look-up shows of the place itself
 record Meeting (cell : ℕ) (cell_of_it : ℕ → ℕ) (context : ℕ) (a b : LaneView) (what : Look) : Type 0 where
   acts : ActsOn cell a b
+  nothing : FillsNothing a b
   at : History
   since : IsPrefix (seen_by a) at
   until : IsPrefix at (seen_by b)
@@ -149,10 +153,11 @@ module _ (run : RunView) (places : Places) (open_at : Open) (view : IsRunView ru
     unfolding claiming.Meets
     meeting what some (inl holds) =
         let acts = acts_then (cell_of run number context) a.cells.view mid b.cells.view vain (acts_quiet (cell_of run number context) limits mid b.cells.view holds.calls) in
+        let nothing = nothing_then a.cells.view mid b.cells.view (vain_nothing run.store context number attempts a.cells.view mid in_vain) (nothing_quiet limits mid b.cells.view holds.calls) in
         let p : History = holds.point.0 in
         let at = quiet_point holds.calls p holds.point.1 in
         let since : IsPrefix (seen_by a.cells.view) p = prefix_trans (seen_by a.cells.view) (seen_by mid) p vain.goes at.since in
-        record { acts = acts; at = p; since = since; until = at.until; shows = sym (looks_first acts p since at.until) ∙ holds.point.2 }
+        record { acts = acts; nothing = nothing; at = p; since = since; until = at.until; shows = sym (looks_first acts p since at.until) ∙ holds.point.2 }
     meeting what some (inr given_up) =
         let acts = acts_then (cell_of run number context) a.cells.view mid b.cells.view vain (acts_given_up run.store context number limits mid b.cells.view given_up.0) in
         let looked = given_up.1.looked in
@@ -172,6 +177,10 @@ module _ (run : RunView) (places : Places) (open_at : Open) (view : IsRunView ru
         let goes = seen_goes_on calls in
         let mine : Contains (claim ∷ keep ∷ fill ∷ []) fill = contains_later claim (keep ∷ fill ∷ []) fill (contains_later keep (fill ∷ []) fill (contains_here fill [])) in
         let among : Contains goes.0 fill = contains_from_filter (λ (e : Event ℕ). e.lane == mid.number) goes.0 fill (subst (λ l. Contains l fill) (sym (events_past calls)) mine) in
+        let seen : seen_by b.cells.view ≡ seen_by a.cells.view ++ (vain.goes.0 ++ goes.0) =
+        sym goes.1 ∙ (ap (λ l. l ++ goes.0) (sym vain.goes.1) ∙ append_assoc (seen_by a.cells.view) vain.goes.0 goes.0) in
+        let there : Contains (vain.goes.0 ++ goes.0) (by a.cells.view.number (Fill cell_is n)) =
+        subst (λ lane. Contains (vain.goes.0 ++ goes.0) (by lane (Fill cell_is n))) vain.number (Contains-append_right vain.goes.0 goes.0 fill among) in
         let cut : EventPoint goes.0 fill = event_point goes.0 fill among in
         let before : History = seen_by mid ++ cut.before in
         let p : History = before ++ fill ∷ [] in
@@ -182,6 +191,7 @@ module _ (run : RunView) (places : Places) (open_at : Open) (view : IsRunView ru
           says = said successful o.verdict finds.memory ends.says;
           once = ap (λ k. k + o.found) ends.computed_are ∙ ap (λ k. 1 + k) ends.found_are;
           acts = acts;
+          fills = inl (ends.computed_are, record { more = vain.goes.0 ++ goes.0; is = seen; value = n; there = there });
           stands = stands_then acts p since (cut.later, all) (record { number = n; there = fills_cell before mid.number cell_is n; means = known });
         }
 
@@ -193,6 +203,7 @@ module _ (run : RunView) (places : Places) (open_at : Open) (view : IsRunView ru
           says = said successful o.verdict finds.memory ends.says;
           once = ap (λ k. k + o.found) ends.computed_are ∙ ap (λ k. 0 + k) ends.found_are;
           acts = m.acts;
+          fills = inr (ends.computed_are, m.nothing);
           stands = stands_then m.acts m.at m.since m.until (stands_by run.meaning v context at n (slots_in (cell_of run number) m.at context) (near_there m.acts m.at m.since m.until) m.shows);
         }
 

@@ -1,5 +1,5 @@
 -- The steps of a call, some of which compute values at open places, end near those of a plain run.
-use Rattle.std.proofs.Common.{◌≡◌, ℕ, ◌<◌, inl, inr, true, false, List, [], ◌∷◌, ◌++◌, Some, drop, length, refl, ap, sym, subst, ◌∙◌, append-nil, true≢false, arith}
+use Rattle.std.proofs.Common.{◌≡◌, ℕ, ◌+◌, ◌<◌, inl, inr, true, false, List, [], ◌∷◌, ◌++◌, Some, drop, length, refl, ap, sym, subst, ◌∙◌, append-nil, true≢false, arith}
 use Rattle.std.specs.Prelude.{All, Contains}
 use mathlib.Core.List.{append_cancel_left}
 use Rattle.ext_history.specs.Histories.{seen_by}
@@ -29,13 +29,14 @@ use Rattle.ext_one_report.proofs.CallsWords.{StepHasRoom, StepWithin, StepsHaveR
 use Rattle.ext_one_report.proofs.MatchingWords.{Places, RunView}
 use Rattle.ext_one_report.proofs.Calls.{all_first, all_later, finds_by, plain_goes, plain_stops, step_memory, steps_faults, steps_go, steps_lane, success_finds, told_so}
 use Rattle.ext_one_report.specs.Shares.{Open}
+use Rattle.ext_one_report.proofs.Fills.{Fills, IsFilledBy}
 use Rattle.ext_one_report.proofs.Open.{AreOpenBeside, ComputesOpen, also, place_of_step, still_open}
 use Rattle.ext_one_report.proofs.OpenSteps.{AreBesideOpen}
 use Rattle.ext_one_report.proofs.OpenCalls.{LeavesNear, NoneOpen, StepsFit}
 use Rattle.ext_one_report.proofs.OpenFits.{at_itself, fits_later, open_step, still_twice, was_open}
-use Rattle.ext_one_report.proofs.OpenGoing.{beside_first, beside_later, left_then, then_settled}
+use Rattle.ext_one_report.proofs.OpenGoing.{beside_first, beside_later, both_fill, left_then, then_settled}
 use Rattle.ext_one_report.proofs.OpenSingles.{changes_within, single_is, single_run}
-use Rattle.ext_one_report.proofs.OpenEnds.{Near, computes_near, computes_settled, left_open, within_near}
+use Rattle.ext_one_report.proofs.OpenEnds.{Near, TouchesNone, computes_near, computes_settled, fills_untouched, left_open, open_settled, within_near}
 
 -- ---- where nothing happened
 
@@ -44,10 +45,27 @@ no_event h more e is there =
     let none : more ≡ [] = append_cancel_left h more [] (sym is ∙ sym (append-nil h)) in
     contains_none e (subst (λ l. Contains l e) none there)
 
-pub left_itself : (run : RunView) (path : List ℕ) (places : Places) (open_at : Open) (a b c : PlanLane) (s : ValueState) → b ≡ a → AreBesideOpen run path places open_at a c s → LeavesNear run places open_at a s b s
-left_itself run path places open_at a b c s same both =
-    subst (λ x. LeavesNear run places open_at a s x s) (sym same)
-    (left_open run places open_at a s a s both.matches both.numbered both.near (λ c k v is. refl) (λ c k n v is has more now e there on own. no_event (seen_by a.cells.view) more e now there))
+-- where nothing happened all is as it was, and nothing was filled
+pub record LeftItself (run : RunView) (places : Places) (open_at : Open) (a b : PlanLane) (s : ValueState) : Type 0 where
+  pub left : LeavesNear run places open_at a s b s
+  pub fills : (n : ℕ) → Fills (IsFilledBy run a b) open_at (still_open left.settled open_at) s n n
+
+module _ (run : RunView) (path : List ℕ) (places : Places) (open_at : Open) (a c : PlanLane) (s : ValueState) (both : AreBesideOpen run path places open_at a c s) where
+  untouched : TouchesNone run open_at a a
+  untouched x k n v is has more now e there on own = no_event (seen_by a.cells.view) more e now there
+
+  itself : LeavesNear run places open_at a s a s
+  itself = left_open run places open_at a s a s both.matches both.numbered both.near (λ x k v is. refl) untouched
+
+  itself_settled : itself.settled ≡ (λ x k. false)
+  unfolding itself
+  itself_settled = open_settled run places open_at a s a s both.matches both.numbered both.near (λ x k v is. refl) untouched
+
+  pub left_itself : (b : PlanLane) → b ≡ a → LeftItself run places open_at a b s
+  left_itself b same = subst (λ x. LeftItself run places open_at a x s) (sym same) (record {
+    left = itself;
+    fills = λ n. subst (λ (p : Places). Fills (IsFilledBy run a a) open_at (still_open p open_at) s n n) (sym itself_settled) (fills_untouched run open_at a a s n untouched);
+  })
 
 -- ---- what no step computes any more
 
@@ -132,11 +150,13 @@ module _ (run : RunView) (keys : List KeyText) (path : List ℕ) where
       → All (StepFinds keys o) steps → StepsHaveRoom keys path steps s → StepsRun run.store keys path steps a o b → StepsNear steps places open_at a s o b (steps_run keys path steps s)
   unfolding StepsRun
   steps_near [] places open_at a o b s both heights fits finds room ran =
+      let itself = left_itself run path places open_at a b s both b ran.0 in
       subst (λ (end : StepEnd). StepsNear [] places open_at a s o b end) (sym (steps_run-nil keys path s)) (record {
         near = record {
           says = ran.1.says;
           counts = omega (arith, ran.1.computed_are, ran.1.found_are);
-          left = left_itself run path places open_at a b b s ran.0 both;
+          left = itself.left;
+          fills = subst (λ n. Fills (IsFilledBy run a b) open_at (still_open itself.left.settled open_at) s n 0) (sym ran.1.computed_are) (itself.fills 0);
         };
         settles = λ on. record { none = λ step there computes. contains_none step there };
       })
@@ -162,12 +182,15 @@ module _ (run : RunView) (keys : List KeyText) (path : List ℕ) where
             (λ n d within. finds_by keys _ o rest.0 rest.2.verdict_is (all_later (StepFinds keys o) step more finds n d within)) (room.1 passed) rest.1 in
             let left : LeavesNear run places open_at a s b (steps_run keys path more next.state).state =
             left_then run path places open_at a m b s next.state both goes further (steps_run keys path more next.state).state one.near.left others.near.left in
+            let fills = both_fill run path places open_at a m b s next.state both goes further (steps_run keys path more next.state).state one.near.left others.near.left
+            first.computed next.computed rest.0.computed (steps_run keys path more next.state).computed one.near.fills others.near.fills in
             let settled = then_settled run path places open_at a m b s next.state both goes further (steps_run keys path more next.state).state one.near.left others.near.left in
             subst (λ (end : StepEnd). StepsNear (step ∷ more) places open_at a s o b end) (sym (plain_goes keys path step more s both.memory passed)) (record {
               near = record {
                 says = ap verdict_text rest.2.verdict_is ∙ others.near.says;
                 counts = omega (arith, rest.2.computed_are, rest.2.found_are, one.near.counts, others.near.counts);
                 left = left;
+                fills = subst (λ n. Fills (IsFilledBy run a b) open_at (still_open left.settled open_at) s n (next.computed + (steps_run keys path more next.state).computed)) (sym rest.2.computed_are) fills;
               };
               settles = λ good.
                   let rest_good : is_successful (ending_of rest.0.verdict) ≡ true = ap (λ v. is_successful (ending_of v)) (sym rest.2.verdict_is) ∙ good in

@@ -1,7 +1,7 @@
 -- A step of a plain run that computes the value of an open place: where nothing stands above it, the value stands there afterwards.
-use Rattle.std.proofs.Common.{◌≡◌, ℕ, ◌+◌, ◌<◌, inl, inr, true, false, cond, List, [], ◌∷◌, drop, length, refl, ap, sym, subst, ◌∙◌, arith, Option, None, Some, is_some, find}
+use Rattle.std.proofs.Common.{◌≡◌, ℕ, ◌+◌, ◌<◌, ◌⊎◌, inl, inr, true, false, cond, List, [], ◌∷◌, drop, length, refl, ap, sym, subst, ◌∙◌, arith, Option, None, Some, is_some, find}
 use Rattle.std.specs.List.{slice_index_or}
-use Rattle.std.specs.Prelude.{All, Contains, nat_lt}
+use Rattle.std.specs.Prelude.{All, Contains, ◌≢◌, nat_lt}
 use Rattle.std.proofs.lemmas.Bool.Decides.{nat_tests}
 use Rattle.ext_history.proofs.Lists.{bools, contains_cons, contains_none}
 use Rattle.ext_model.specs.declared.slot.Slot.{Slot}
@@ -94,12 +94,16 @@ named_there key s room =
 
 -- ---- the compute
 
--- how such a step of a plain run ends
-pub record PlainEnds (context : ℕ) (key : KeyValue) (v : ValueText) (end : StepEnd) : Type 0 where
+-- How such a step of a plain run ends: it computes the value where nothing stood there before
+pub record PlainEnds (context : ℕ) (key : KeyValue) (v : ValueText) (before : Option Slot) (end : StepEnd) : Type 0 where
   pub says : end.verdict ≡ successful
   pub once : end.computed + end.found ≡ 1
+  pub fills : ((end.computed ≡ 1) × (before ≡ None)) ⊎ ((end.computed ≡ 0) × (before ≢ None))
   pub stands : Stands (plain_meaning end.state.values) v (plain_slot end.state context key)
   pub drawn : end.state.store.drawn ≡ length end.state.values
+
+some_not_none : (x : Slot) → Some x ≢ None
+some_not_none x = λ is. cc is
 
 -- of no places each state is numbered that has a value for each number
 nowhere : (t : ValueState) → t.store.drawn ≡ length t.values → IsNumbered (λ context key. false) t
@@ -114,7 +118,7 @@ module _ (name label : List ℕ) (context : ℕ) (above : List ℕ) (key : KeyVa
   finds x is = look_first (under t.store (place_of_key t.keys key)) context above (λ i d less. sym (plain_there t _ key there) ∙ none i d less) x (sym (plain_there t context key there) ∙ is)
 
   -- nothing stood there, and the value is computed
-  computes : plain_slot t context key ≡ None → PlainEnds context key v its_end
+  computes : plain_slot t context key ≡ None → PlainEnds context key v None its_end
   computes is =
       let empty : t.store.slots (context, place_of_key t.keys key) ≡ None = sym (plain_there t context key there) ∙ is in
       let numbered : IsNumbered (λ c k. false) t = nowhere t drawn in
@@ -123,20 +127,21 @@ module _ (name label : List ℕ) (context : ℕ) (above : List ℕ) (key : KeyVa
       ap (compute_looked name label (context, place_of_key t.keys key) v t) (finds None is)
       ∙ (claims_first t context key there empty name label (factory_gave name label (context, place_of_key t.keys key) v) ∙ factory_gives t context key there empty v left (λ c k. false) numbered name label) in
       let numbered_then = filled_numbered t context key there empty v left (λ c k. false) numbered in
-      subst (PlainEnds context key v) (sym end_is) (record {
+      subst (PlainEnds context key v None) (sym end_is) (record {
         says = refl;
         once = refl;
+        fills = inl (refl, refl);
         stands = record { number = _; there = filled_slot t context key there empty v left (λ c k. false) numbered; means = filled_value t context key there empty v left (λ c k. false) numbered };
         drawn = numbered_then.drawn;
       })
 
   -- the value stood there, and is found
-  found : (number : ℕ) → plain_slot t context key ≡ Some (slot.Entry number) → (plain_meaning t.values).values number ≡ Some v → PlainEnds context key v its_end
+  found : (number : ℕ) → plain_slot t context key ≡ Some (slot.Entry number) → (plain_meaning t.values).values number ≡ Some v → PlainEnds context key v (Some (slot.Entry number)) its_end
   found number is means =
       let end_is : its_end ≡ record { state = t; verdict = successful; computed = 0; found = 1 } = ap (compute_looked name label (context, place_of_key t.keys key) v t) (finds (Some (slot.Entry number)) is) in
-      subst (PlainEnds context key v) (sym end_is) (record { says = refl; once = refl; stands = record { number = number; there = is; means = means }; drawn = drawn })
+      subst (PlainEnds context key v (Some (slot.Entry number))) (sym end_is) (record { says = refl; once = refl; fills = inr (refl, some_not_none (slot.Entry number)); stands = record { number = number; there = is; means = means }; drawn = drawn })
 
-  either : (x : Option Slot) → plain_slot t context key ≡ x → StandsOrNot (plain_meaning t.values) v x → PlainEnds context key v its_end
+  either : (x : Option Slot) → plain_slot t context key ≡ x → StandsOrNot (plain_meaning t.values) v x → PlainEnds context key v x its_end
   either None is or_not = computes is
   either (Some (slot.Entry number)) is or_not = found number is or_not
   either (Some (slot.Fault number)) is or_not = absurd or_not
@@ -146,7 +151,7 @@ module _ (name label : List ℕ) (context : ℕ) (above : List ℕ) (key : KeyVa
 -- a step that computes the value where nothing stands above, and at the place itself the value or nothing
 pub plain_ends : (keys : List KeyText) (name : List ℕ) (key : StepKeyText) (context : ℕ) (above : List ℕ) (v : ValueText) (s : ValueState) → HasRoom (key_of_step keys key) s → s.store.drawn ≡ length s.values
     → IsOpen context s → All (λ c. IsOpen c s) above → All (λ c. plain_slot s c (key_of_step keys key) ≡ None) above → StandsOrNot (plain_meaning s.values) v (plain_slot s context (key_of_step keys key))
-    → PlainEnds context (key_of_step keys key) v (numbered_by enough name (label_of keys key) (key_of_step keys key) (compute_numbered enough name (label_of keys key) (context ∷ above) v) s)
+    → PlainEnds context (key_of_step keys key) v (plain_slot s context (key_of_step keys key)) (numbered_by enough name (label_of keys key) (key_of_step keys key) (compute_numbered enough name (label_of keys key) (context ∷ above) v) s)
 plain_ends keys name key context above v s room drawn clear clear_above none near =
     let k : KeyValue = key_of_step keys key in
     let it : IsNamedThere k s = named_there k s room.keys in
@@ -155,5 +160,5 @@ plain_ends keys name key context above v s room drawn clear clear_above none nea
     let drawn_then : t.store.drawn ≡ length t.values = ap (λ (st : State Place). st.drawn) it.store ∙ (drawn ∙ ap length (sym it.values)) in
     let none_then : All (λ c. plain_slot t c k ≡ None) above = λ i d less. it.leaves.slots (slice_index_or above i d) k refl refl (clear_above i d less) ∙ none i d less in
     let near_then : StandsOrNot (plain_meaning t.values) v (plain_slot s context k) = subst (λ vs. StandsOrNot (plain_meaning vs) v (plain_slot s context k)) (sym it.values) near in
-    subst (PlainEnds context k v) (sym (it.goes name (label_of keys key) (compute_numbered enough name (label_of keys key) (context ∷ above) v)))
+    subst (PlainEnds context k v (plain_slot s context k)) (sym (it.goes name (label_of keys key) (compute_numbered enough name (label_of keys key) (context ∷ above) v)))
     (either name (label_of keys key) context above k v t it.there left drawn_then none_then (plain_slot s context k) (it.leaves.slots context k refl refl clear) near_then)

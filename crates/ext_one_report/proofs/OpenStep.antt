@@ -34,10 +34,13 @@ use Rattle.ext_one_report.proofs.Matching.{knows_itself}
 use Rattle.ext_one_report.proofs.Standings.{matched_by_more}
 use Rattle.ext_one_report.proofs.StepLooks.{key_found}
 use Rattle.ext_one_report.proofs.PlainFrames.{IsOpen, LeavesElse, no_context}
+use Rattle.ext_one_report.proofs.Fills.{IsFilledBy}
+use Rattle.ext_one_report.proofs.FillsLaws.{fills_one}
 use Rattle.ext_one_report.proofs.Open.{AreNear, Stands, StandsOrNot, also, at_place, is_open, still_open}
 use Rattle.ext_one_report.specs.Shares.{Open}
 use Rattle.ext_one_report.proofs.OpenSteps.{AreBesideOpen, OpenComputesEndNear, StandsInBoth, StepEndsNear}
 use Rattle.ext_one_report.proofs.OpenFits.{at_itself}
+use Rattle.ext_one_report.proofs.OpenFills.{filled_or_not, only_its_place}
 use Rattle.ext_one_report.proofs.OpenLane.{LaneEnds, lane_ends}
 use Rattle.ext_one_report.proofs.OpenPlain.{PlainEnds, plain_ends, step_leaves}
 use Rattle.ext_one_report.proofs.OwnEvents.{matches_at, near_at}
@@ -121,7 +124,7 @@ module _ (run : RunView) (path : List ℕ) (places : Places) (open_at : Open) (a
   clear_open c k v is = λ number past. both.near.numbered.beyond c k number (value_is_open open_at c k v is) past
 
   module _ (context : ℕ) (key : KeyValue) (number : ℕ) (v : ValueText) (is_there : open_at context key ≡ Some v) (has : HasNumberIn run key number) (o : Outcome) (end : StepEnd)
-      (ours : LaneEnds run context number v a o b) (theirs : PlainEnds context key v end) (leaves : LeavesElse (at_place context key) no_context s end.state) where
+      (ours : LaneEnds run context number v a o b) (theirs : PlainEnds context key v (plain_slot s context key) end) (leaves : LeavesElse (at_place context key) no_context s end.state) where
     knows : KnowsMore (plain_meaning s.values) (plain_meaning end.state.values)
     knows = knows_more (at_place context key) no_context s end.state leaves
 
@@ -207,7 +210,7 @@ module _ (run : RunView) (path : List ℕ) (places : Places) (open_at : Open) (a
       };
     }
 
-    pub ends_near : StepEndsNear run places open_at (at_place context key) s o b end
+    pub ends_near : StepEndsNear run places open_at (at_place context key) a s o b end
     ends_near = record {
       says = ours.says;
       plain_says = theirs.says;
@@ -218,6 +221,8 @@ module _ (run : RunView) (path : List ℕ) (places : Places) (open_at : Open) (a
       near = near_then;
       stands = stands_at;
       others = same_open;
+      fills = fills_one (IsFilledBy run a b) open_at s context key v o.computed end.computed is_there (filled_or_not run both.view context key number has a b o ours.fills) theirs.fills
+          (λ spot w is filled. only_its_place run both.view context key number has a b ours.acts spot filled);
     }
 
 -- ---- the step
@@ -228,7 +233,7 @@ module _ (run : RunView) (keys : List KeyText) (path : List ℕ) (places : Place
   open_along : (below : List ℕ) → IsPathOf run.store.tree (start_of below) below → open_at (start_of below) (key_of_step keys key) ≡ Some v
       → StepComputes run.store (record { name = name; label = label_of keys key; path = below; key = key_of_step keys key }) v a o b
       → LeavesElse (at_place (start_of below) (key_of_step keys key)) no_context s (numbered_by enough name (label_of keys key) (key_of_step keys key) (compute_numbered enough name (label_of keys key) below v) s).state
-      → StepEndsNear run places open_at (at_place (start_of below) (key_of_step keys key)) s o b (numbered_by enough name (label_of keys key) (key_of_step keys key) (compute_numbered enough name (label_of keys key) below v) s)
+      → StepEndsNear run places open_at (at_place (start_of below) (key_of_step keys key)) a s o b (numbered_by enough name (label_of keys key) (key_of_step keys key) (compute_numbered enough name (label_of keys key) below v) s)
   open_along [] is_path is made leaves = absurd is_path
   open_along (context ∷ above) is_path is (inr (why, refused_key, (same, ends))) leaves = absurd (key_found name (label_of keys key) o a b (key_of_step keys key) why finds refused_key ends)
   open_along (context ∷ above) is_path is (inl (number, has, made)) leaves =
@@ -239,7 +244,7 @@ module _ (run : RunView) (keys : List KeyText) (path : List ℕ) (places : Place
       let ours : LaneEnds run context number v a o b =
       lane_ends run places open_at both.view both.tree both.beside name (label_of keys key) context above k number is_path has_in v is s none a b o both.lane finds both.alone both.computed both.legal both.matches
       (both.near.lanes context k number v is has_in) made in
-      let theirs : PlainEnds context k v (numbered_by enough name (label_of keys key) (key_of_step keys key) (compute_numbered enough name (label_of keys key) (context ∷ above) v) s) =
+      let theirs : PlainEnds context k v (plain_slot s context k) (numbered_by enough name (label_of keys key) (key_of_step keys key) (compute_numbered enough name (label_of keys key) (context ∷ above) v) s) =
       plain_ends keys name key context above v s room both.numbered.drawn (clear_open run path places open_at a b s both context k v is)
       (λ i d less. clear_within run path places open_at a b s both (slice_index_or above i d) k (within i d less)) none (both.near.plain context k v is) in
       ends_near run path places open_at a b s both context k number v is has_in o _ ours theirs leaves

@@ -23,6 +23,7 @@ use Rattle.ext_one_report.specs.FullRuns.{StepFinds}
 use Rattle.ext_one_report.proofs.CallsWords.{StepHasRoom}
 use Rattle.ext_one_report.proofs.MatchingWords.{HasNumberIn, IsNumbered, IsRunView, Matches, Places, RunView, cell_of, plain_meaning, plain_slot}
 use Rattle.ext_one_report.proofs.StepsWords.{IsAlone, IsLaneIn}
+use Rattle.ext_one_report.proofs.Fills.{Fills, IsFilledBy}
 use Rattle.ext_one_report.proofs.Open.{AreNear, AreOpenBeside, Computes, ComputesOpen, MayStand, OnlyComputed, Stands, also, place_of_step, still_open}
 use Rattle.ext_one_report.specs.Shares.{Open}
 
@@ -51,7 +52,7 @@ pub record StandsInBoth (run : RunView) (v : ValueText) (context : ℕ) (key : K
   pub plain : Stands (plain_meaning s.values) v (plain_slot s context key)
 
 -- Both are successful, and either has computed one value or found one; the value stands at the place in both, which is then one of those where the same stands
-pub record StepEndsNear (run : RunView) (places : Places) (open_at : Open) (at : Places) (s : ValueState) (outcome : Outcome) (after : PlanLane) (end : StepEnd) : Type 0 where
+pub record StepEndsNear (run : RunView) (places : Places) (open_at : Open) (at : Places) (before : PlanLane) (s : ValueState) (outcome : Outcome) (after : PlanLane) (end : StepEnd) : Type 0 where
   pub says : verdict_text outcome.verdict ≡ successful
   pub plain_says : end.verdict ≡ successful
   pub once : outcome.computed + outcome.found ≡ 1
@@ -62,13 +63,15 @@ pub record StepEndsNear (run : RunView) (places : Places) (open_at : Open) (at :
   pub stands : (context : ℕ) (key : KeyValue) (v : ValueText) → at context key ≡ true → open_at context key ≡ Some v → StandsInBoth run v context key (seen_by after.cells.view) end.state
   -- in the plain run all other open places are as they were
   pub others : (context : ℕ) (key : KeyValue) (v : ValueText) → at context key ≡ false → open_at context key ≡ Some v → plain_slot end.state context key ≡ plain_slot s context key
+  -- each run computed the value where it filled the place
+  pub fills : Fills (IsFilledBy run before after) open_at (still_open at open_at) s outcome.computed end.computed
 
 -- such a step ends so, on a lane that finds all that it asks for, where the plain run has room
 abbrev pub OpenComputesEndNear : Type 0
 OpenComputesEndNear =
     (run : RunView) (keys : List KeyText) (path : List ℕ) (places : Places) (open_at : Open) (step : StepText) (before : PlanLane) (outcome : Outcome) (after : PlanLane) (s : ValueState)
     → ComputesOpen keys path open_at step → height step < length path → AreBesideOpen run path places open_at before after s → StepFinds keys outcome step → StepHasRoom keys step s
-    → StepRun run.store keys path step before outcome after → StepEndsNear run places open_at (place_of_step keys path step) s outcome after (step_run keys path step s)
+    → StepRun run.store keys path step before outcome after → StepEndsNear run places open_at (place_of_step keys path step) before s outcome after (step_run keys path step s)
 
 -- ---- what happens at an open place later
 

@@ -13,15 +13,14 @@ use Rattle.ext_plan.specs.ReadPlans.{ids_of_nodes}
 use Rattle.ext_plan.specs.StepCalls.{start_of}
 use Rattle.ext_plan.specs.StoreKeys.{key_of_step}
 use Rattle.ext_plan.specs.Values.{ValueText}
-use Rattle.ext_races.specs.MadeSteps.{calls_after, calls_before, calls_of}
+use Rattle.ext_races.specs.MadeSteps.{calls_after, calls_before, calls_of, plan_path}
 use Rattle.ext_one_report.proofs.PlanCells.{changed_by}
 use Rattle.ext_one_report.proofs.MatchingWords.{Places, RunView}
 use Rattle.ext_one_report.specs.Within.{is_within}
+use Rattle.ext_one_report.proofs.ComputedAbove.{IsComputedIn, NoneOpenAbove}
 use Rattle.ext_one_report.proofs.Open.{ComputesOpen}
 use Rattle.ext_one_report.specs.Shares.{Open}
 use Rattle.ext_one_report.proofs.OpenCalls.{CallFitsOpen, NoneOpen}
-
--- ---- plans
 
 -- ---- what nodes share
 
@@ -46,18 +45,22 @@ module _ (plan : PlanText) (run : RunView) (touched changes : ℕ → Places) (s
     pub computes : (node : ℕ) (path : List ℕ) (call : Call) (step : StepText) (key : StepKeyText) (up : ℕ) (v : ValueText) → IsPathOf (ids_of_nodes plan.nodes) node path → Contains (calls_of plan node) call
         → Contains (steps_of_call plan call) step → changed_by step ≡ Some (key, up) → shares node (start_of (drop up path)) (key_of_step plan.keys key) ≡ Some v
         → ComputesOpen plan.keys path (shares node) step
-    -- and each step that looks at one of them comes behind one that computes it, in its own call or in one before the body. So calls fit whichever of these places are open: those up to the body
-    -- where none is whose value the callbacks before them compute,
+    -- and each step that looks at one of them comes behind one that computes it, in its own call, in one before the body, or in one before all children of a node above. So calls fit whichever of
+    -- these places are open, but those of nodes above: calls up to the body where none is whose value the callbacks before them compute,
     pub befores : (node : ℕ) (path : List ℕ) (before : List Call) (call : Call) (more : List Call) (open_at : Open) → IsPathOf (ids_of_nodes plan.nodes) node path
         → calls_before plan node ++ test_call node ∷ [] ≡ before ++ call ∷ more
-        → ((context : ℕ) (key : KeyValue) (v : ValueText) → open_at context key ≡ Some v → shares node context key ≡ Some v) → NoneOpen plan.keys path open_at (flat_map (steps_of_call plan) before)
+        → ((context : ℕ) (key : KeyValue) (v : ValueText) → open_at context key ≡ Some v → shares node context key ≡ Some v) → NoneOpenAbove plan (drop 1 path) open_at
+        → NoneOpen plan.keys path open_at (flat_map (steps_of_call plan) before)
         → CallFitsOpen run plan path (unshared (touched node) open_at) open_at call
     -- and those after it
     pub afters : (node : ℕ) (path : List ℕ) (call : Call) (open_at : Open) → IsPathOf (ids_of_nodes plan.nodes) node path → Contains (calls_after plan node) call
-        → ((context : ℕ) (key : KeyValue) (v : ValueText) → open_at context key ≡ Some v → shares node context key ≡ Some v) → CallFitsOpen run plan path (unshared (touched node) open_at) open_at call
-    -- a child shares what its parent does, where it touches it
-    pub below : (parent child context : ℕ) (key : KeyValue) (v : ValueText) → IsParentOf (ids_of_nodes plan.nodes) parent child → shares parent context key ≡ Some v → touched child context key ≡ true
+        → ((context : ℕ) (key : KeyValue) (v : ValueText) → open_at context key ≡ Some v → shares node context key ≡ Some v) → NoneOpenAbove plan (drop 1 path) open_at
+        → CallFitsOpen run plan path (unshared (touched node) open_at) open_at call
+    -- a child shares what its parent does, where it changes it, or where it touches it and nothing is computed there before it
+    pub below_changed : (parent child context : ℕ) (key : KeyValue) (v : ValueText) → IsParentOf (ids_of_nodes plan.nodes) parent child → shares parent context key ≡ Some v → changes child context key ≡ true
         → shares child context key ≡ Some v
+    pub below : (parent child context : ℕ) (key : KeyValue) (v : ValueText) → IsParentOf (ids_of_nodes plan.nodes) parent child → shares parent context key ≡ Some v → touched child context key ≡ true
+        → ¬ IsComputedIn plan (plan_path plan parent) context key → shares child context key ≡ Some v
     -- children that run beside one another share each place that one of them changes and another touches
     pub beside : (parent child other context : ℕ) (key : KeyValue) → IsParentOf (ids_of_nodes plan.nodes) parent child → IsParentOf (ids_of_nodes plan.nodes) parent other → child ≢ other
         → concurrent_of plan child ≡ true → concurrent_of plan other ≡ true → changes child context key ≡ true → touched other context key ≡ true

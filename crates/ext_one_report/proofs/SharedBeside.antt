@@ -1,6 +1,5 @@
 -- Nodes that may run beside one another: each is at or below one of two different concurrent children of a container.
-use Rattle.std.proofs.Common.{◌≡◌, ◌≢◌, ◌<◌, ◌⊎◌, ℕ, true, false, List, [], ◌∷◌, length, Contains, ap, sym, subst, ◌∙◌, inl, inr}
-use Rattle.std.proofs.lemmas.Bool.{true≢false}
+use Rattle.std.proofs.Common.{◌≡◌, ◌≢◌, ◌<◌, ◌⊎◌, ℕ, true, List, [], ◌∷◌, length, Contains, drop, refl, sym, subst, ◌∙◌, inl, inr}
 use Rattle.ext_tree.specs.Trees.{Id, IsParentOf, IsPathOf, IsWalk, id_at}
 use Rattle.ext_tree.proofs.TreeFacts.{one_parent}
 use Rattle.ext_tree.proofs.Walks.{one_path, one_walk}
@@ -63,6 +62,77 @@ module _ (plan : PlanText) (read : IsReadPlan plan) where
       let on' = within_found plan next context two in
       let path' = path_of_context plan read next context (has_context ids read.runnable.tree next (plan_path plan next) path) on' in
       within_told plan node context (path_through context next node (plan_path plan context) (plan_path plan next) path' on' path on)
+
+  -- ---- what is above on a path
+
+  whole : (k : ℕ) (walk : List ℕ) → IsWalk ids k walk → k ∷ walk ≡ plan_path plan k
+  whole k walk walks = one_path ids read.runnable.tree k (k ∷ walk) (plan_path plan k) (refl, walks) (path_there ids read.runnable.tree k (has_context ids read.runnable.tree k (k ∷ walk) (refl, walks)))
+
+  walk_from : (parent child : ℕ) (path : List ℕ) → IsPathOf ids parent path → IsParentOf ids parent child → IsWalk ids child path
+  walk_from parent child [] is up = absurd is
+  walk_from parent child (first ∷ walk) (same, walks) up = (subst (λ n. IsParentOf ids n child) (sym same) up, subst (λ n. IsWalk ids n walk) (sym same) walks)
+
+  -- above a child is the path of its parent
+  pub child_path : (parent child : ℕ) → IsParentOf ids parent child → child ∷ plan_path plan parent ≡ plan_path plan child
+  child_path parent child up = whole child (plan_path plan parent) (walk_from parent child (plan_path plan parent) (path_there ids read.runnable.tree parent up.parent_within) up)
+
+  above_first : (k x a : ℕ) (walk : List ℕ) → IsWalk ids k walk → k ≡ x → Contains (drop 1 (plan_path plan x)) a → Contains walk a
+  above_first k x a walk walks same there = subst (λ p. Contains (drop 1 p) a) (sym (whole k walk walks)) (subst (λ n. Contains (drop 1 (plan_path plan n)) a) (sym same) there)
+
+  -- what is above a context of a path is above the path's first
+  above_walk : (k x a : ℕ) (walk : List ℕ) → IsWalk ids k walk → Contains (k ∷ walk) x → Contains (drop 1 (plan_path plan x)) a → Contains walk a
+  above_walk k x a [] walks here there = elim (contains_cases k x [] here) [
+    | inl same ↦ above_first k x a [] walks same there
+    | inr none ↦ contains_nothing x none
+  ]
+  above_walk k x a (p ∷ rest) (is, walks) here there = elim (contains_cases k x (p ∷ rest) here) [
+    | inl same ↦ above_first k x a (p ∷ rest) (is, walks) same there
+    | inr later ↦ contains_later p a rest (above_walk p x a rest walks later there)
+  ]
+
+  above_path : (k x a : ℕ) (path : List ℕ) → IsPathOf ids k path → Contains path x → Contains (drop 1 (plan_path plan x)) a → Contains (drop 1 path) a
+  above_path k x a [] is here there = absurd is
+  above_path k x a (first ∷ walk) (same, walks) here there = above_walk k x a walk walks (subst (λ n. Contains (n ∷ walk) x) same here) there
+
+  -- of two contexts of a path the first is above the second, or at it, or the second is above the first
+  order_first : (k x y : ℕ) (walk : List ℕ) → IsWalk ids k walk → Contains (k ∷ walk) x → Contains (k ∷ walk) y → (Contains walk x → Contains walk y → Contains (plan_path plan y) x ⊎ Contains (drop 1 (plan_path plan x)) y)
+      → Contains (plan_path plan y) x ⊎ Contains (drop 1 (plan_path plan x)) y
+  order_first k x y walk walks one two rest = elim (contains_cases k y walk two) [
+    | inl same ↦ inl (subst (λ n. Contains (plan_path plan n) x) same (subst (λ p. Contains p x) (whole k walk walks) one))
+    | inr later ↦ elim (contains_cases k x walk one) [
+      | inl same ↦ inr (subst (λ n. Contains (drop 1 (plan_path plan n)) y) same (subst (λ p. Contains (drop 1 p) y) (whole k walk walks) later))
+      | inr also ↦ rest also later
+    ]
+  ]
+
+  walk_order : (k x y : ℕ) (walk : List ℕ) → IsWalk ids k walk → Contains (k ∷ walk) x → Contains (k ∷ walk) y → Contains (plan_path plan y) x ⊎ Contains (drop 1 (plan_path plan x)) y
+  walk_order k x y [] walks one two = order_first k x y [] walks one two (λ none. contains_nothing x none)
+  walk_order k x y (p ∷ rest) (is, walks) one two = order_first k x y (p ∷ rest) (is, walks) one two (walk_order p x y rest walks)
+
+  path_order : (k x y : ℕ) (path : List ℕ) → IsPathOf ids k path → Contains path x → Contains path y → Contains (plan_path plan y) x ⊎ Contains (drop 1 (plan_path plan x)) y
+  path_order k x y [] is one two = absurd is
+  path_order k x y (first ∷ walk) (same, walks) one two = walk_order k x y walk walks (subst (λ n. Contains (n ∷ walk) x) same one) (subst (λ n. Contains (n ∷ walk) y) same two)
+
+  -- what is above a node at or below another is at or below that, or above it
+  pub above_cases : (other k a : ℕ) → k < length ids → is_within plan other k ≡ true → Contains (drop 1 (plan_path plan k)) a → (is_within plan other a ≡ true) ⊎ Contains (drop 1 (plan_path plan other)) a
+  above_cases other k a less within there =
+      let path = path_there ids read.runnable.tree k less in
+      elim (path_order k other a (plan_path plan k) path (within_found plan other k within) (from_rest (plan_path plan k) a there)) [
+        | inl on ↦ inl (within_told plan other a on)
+        | inr above ↦ inr above
+      ]
+    where
+      from_rest : (path : List ℕ) (x : ℕ) → Contains (drop 1 path) x → Contains path x
+      from_rest [] x there = contains_nothing x there
+      from_rest (first ∷ rest) x there = contains_later first x rest there
+
+  -- what is above one child of a container is above all nodes at or below another
+  pub above_both : (container child other node a : ℕ) → IsParentOf ids container child → IsParentOf ids container other → node < length ids → is_within plan child node ≡ true → Contains (drop 1 (plan_path plan other)) a
+      → Contains (drop 1 (plan_path plan node)) a
+  above_both container child other node a up up' less within there =
+      let at_container : Contains (plan_path plan container) a = subst (λ p. Contains (drop 1 p) a) (sym (child_path container other up')) there in
+      above_path node child a (plan_path plan node) (path_there ids read.runnable.tree node less) (within_found plan child node within)
+      (subst (λ p. Contains (drop 1 p) a) (child_path container child up) at_container)
 
   -- ---- the children of the container
 
@@ -147,7 +217,7 @@ module _ (plan : PlanText) (read : IsReadPlan plan) where
       are.differ (one_child ids read.runnable.tree are.container are.child are.other (id_at ids second) are.child_is are.other_is (within_up plan read are.child second are.child_is.child_within child)
       (within_up plan read are.other second are.other_is.child_within are.other_below))
 
-  -- ---- a node that runs beside no other child of its parent
+  -- ---- beside a node, and beside its parent
 
   path_cases : (k parent x : ℕ) (path : List ℕ) → IsPathOf ids k path → IsParentOf ids parent k → Contains path x → (x ≡ k) ⊎ Contains (plan_path plan parent) x
   path_cases k parent x [] is up there = absurd is
@@ -160,12 +230,29 @@ module _ (plan : PlanText) (read : IsReadPlan plan) where
         (one_path ids read.runnable.tree parent (p ∷ rest) (plan_path plan parent) (p_is, subst (λ n. IsWalk ids n rest) p_is walks) (path_there ids read.runnable.tree parent up.parent_within)) later)
   ]
 
-  -- what may run beside it may run beside its parent
-  pub parent_beside : (parent child second : ℕ) → IsParentOf ids parent child → concurrent_of plan child ≡ false → AreBelow plan child second → AreBelow plan parent second
-  parent_beside parent child second up alone are =
+  -- what may run beside a node may run beside its parent, or is at or below another concurrent child of that
+  pub record IsBelowOther (parent child second : ℕ) : Type 0 where
+    pub other : ℕ
+    pub other_is : IsParentOf ids parent other
+    pub below : is_within plan other second ≡ true
+    pub differ : child ≢ other
+    pub concurrent : concurrent_of plan child ≡ true
+    pub other_concurrent : concurrent_of plan other ≡ true
+
+  pub beside_cases : (parent child second : ℕ) → IsParentOf ids parent child → AreBelow plan child second → AreBelow plan parent second ⊎ IsBelowOther parent child second
+  beside_cases parent child second up are =
       elim (path_cases child parent are.child (plan_path plan child) (path_there ids read.runnable.tree child up.child_within) up (within_found plan are.child child are.below)) [
-        | inl same ↦ absurd (true≢false (sym are.concurrent ∙ ap (concurrent_of plan) same ∙ alone))
-        | inr above ↦ record {
+        | inl same ↦
+            let container : are.container ≡ parent = one_parent ids read.runnable.tree are.container parent child (subst (IsParentOf ids are.container) same are.child_is) up in
+            inr (record {
+              other = are.other;
+              other_is = subst (λ n. IsParentOf ids n are.other) container are.other_is;
+              below = are.other_below;
+              differ = λ is. are.differ (same ∙ is);
+              concurrent = subst (λ n. concurrent_of plan n ≡ true) same are.concurrent;
+              other_concurrent = are.other_concurrent;
+            })
+        | inr above ↦ inl (record {
           container = are.container;
           child = are.child;
           other = are.other;
@@ -176,5 +263,5 @@ module _ (plan : PlanText) (read : IsReadPlan plan) where
           differ = are.differ;
           concurrent = are.concurrent;
           other_concurrent = are.other_concurrent;
-        }
+        })
       ]

@@ -14,9 +14,9 @@ use Rattle.ext_plan.specs.Values.{ValueText}
 use Rattle.ext_plan.specs.declared.word.Word.{Word}
 use Rattle.ext_races.specs.Acts.{ActText, act_of}
 use Rattle.ext_races.specs.MadeSteps.{calls_of, plan_path}
-use Rattle.ext_races.specs.Touches.{TouchText, below_computes, keys_named, touch_of, touches_above, touches_along, touches_made}
+use Rattle.ext_races.specs.Touches.{TouchText, below_computes, found_above, keys_named, look_at, standing, touch_of, touches_along, touches_made}
 use Rattle.ext_plan.specs.StepWords.{changes, gives_value, looks_along}
-use Rattle.ext_races.proofs.Lists.{all_contained, contains_cases, contains_first, contains_nothing}
+use Rattle.ext_races.proofs.Lists.{all_contained, contains_cases, contains_first}
 use Rattle.ext_races.proofs.StepTouches.{reach_below}
 use Rattle.ext_one_report.proofs.CallsWords.{StepWithin}
 use Rattle.ext_one_report.proofs.MatchingWords.{Places, RunView}
@@ -25,16 +25,20 @@ use Rattle.ext_one_report.proofs.Covered.{touched_in}
 use Rattle.ext_one_report.proofs.CoveredCalls.{call_stays}
 use Rattle.ext_one_report.proofs.CoveredPlans.{IsTouchedBelow, an_act, from_drop, touched_by, within_by, within_itself}
 use Rattle.ext_one_report.proofs.CoveredTouches.{contains_drop, kept_or_computed, step_is, step_of}
-use Rattle.ext_one_report.proofs.Open.{ComputesOpen, also, at_place, place_of_step, still_open}
+use Rattle.ext_one_report.proofs.ComputedAbove.{IsComputedIn, NoneOpenAbove}
+use Rattle.ext_one_report.proofs.FoundAbove.{how_it_acts, key_there, one_key}
+use Rattle.ext_one_report.proofs.Open.{ComputesOpen, also, at_place, place_of_step, some_or_none, still_open}
 use Rattle.ext_one_report.specs.Shares.{Open, shares_in}
 use Rattle.ext_races.specs.OneReports.{SharesValues}
 use Rattle.ext_one_report.proofs.OpenCalls.{CallFitsOpen, LeavesAbove, NoneOpen, StepsFit}
 use Rattle.ext_one_report.proofs.OpenFits.{at_itself}
 use Rattle.ext_one_report.proofs.Shared.{unshared}
-use Rattle.ext_one_report.proofs.SharedNodes.{some_or_none, still_is_unshared, touched_there, unshared_is}
+use Rattle.ext_one_report.specs.Within.{is_within}
+use Rattle.ext_one_report.proofs.SharedFound.{all_give, shares_found}
+use Rattle.ext_one_report.proofs.SharedNodes.{touched_there, unshared_is}
 use Rattle.ext_one_report.proofs.SharedNodesPlaces as open_places
 use Rattle.ext_one_report.proofs.SharedSteps.{acts_there, computes_there, from_start, goes_up, leaves_above, path_is, within}
-use Rattle.ext_one_report.proofs.SharedTouches.{IsMadeBehind, changes_there, looked_above, touches_there}
+use Rattle.ext_one_report.proofs.SharedTouches.{IsMadeBehind, changes_there, look_at_is, look_there, looked_above}
 use Rattle.ext_one_report.proofs.WordCases.{computes_all, still_looks}
 
 -- ---- places
@@ -43,26 +47,17 @@ open_before : {A : Type 0} (b : Bool) (o : Option A) (v : A) → (if b then None
 open_before true o v e = absurd (cc e)
 open_before false o v e = e
 
-looked_along : (node key : ℕ) (act : ActText) (path : List ℕ) (c : ℕ) → changes act.word ≡ false → looks_along act.word ≡ true → Contains path c → Contains (touches_along node key act path) (touch_of node key act false c)
-looked_along node key act [] c still looks there = contains_nothing c there
-looked_along node key act (context ∷ above) c still looks there = elim (contains_cases context c above there) [
-  | inl same ↦
-      subst (λ (t : TouchText). Contains (touches_along node key act (context ∷ above)) t) (ap (λ (b : Bool). touch_of node key act b context) still ∙ ap (touch_of node key act false) same)
-      (contains_first (touch_of node key act (changes act.word) context) (touches_above node key act above))
-  | inr later ↦ looked_above node key act context above c looks later
-]
-
 still_changes : (word : Word) → changes word ≡ false → gives_value word ≡ true → ⊥
 still_changes word still gives = true≢false (sym (computes_all word gives).0 ∙ still)
 
 one_act : (act other : ActText) → Some act ≡ Some other → act ≡ other
 one_act act other e = cc e
 
--- A call of a node whose steps come behind those of other calls, where some of the places that the node shares are open, but none whose value those before compute
+-- A call of a node whose steps come behind those of other calls, where some of the places that the node shares are open, but none whose value those before compute, or callbacks before all children of a node above
 module _ (plan : PlanText) (read : IsReadPlan plan) (shares : SharesValues plan) (run : RunView) (tree : run.store.tree ≡ ids_of_nodes plan.nodes)
     (node : ℕ) (call : Call) (less : node < length (ids_of_nodes plan.nodes)) (among : Contains (calls_of plan node) call) (earlier : List StepText) (is_behind : IsMadeBehind plan node call earlier)
     (opened : Open) (open_is : (context : ℕ) (key : KeyValue) (v : ValueText) → opened context key ≡ Some v → shares_in plan node context key ≡ Some v)
-    (none_before : NoneOpen plan.keys (plan_path plan node) opened earlier) where
+    (none_above : NoneOpenAbove plan (drop 1 (plan_path plan node)) opened) (none_before : NoneOpen plan.keys (plan_path plan node) opened earlier) where
   abbrev path : List ℕ
   path = plan_path plan node
 
@@ -78,20 +73,47 @@ module _ (plan : PlanText) (read : IsReadPlan plan) (shares : SharesValues plan)
   abbrev key_of : ActText → KeyValue
   key_of act = key_of_step plan.keys act.key
 
-  -- ---- what a step touches and does not change is not shared
+  -- ---- what a step touches and does not change is not open
 
-  looked_alone : (context : ℕ) (act : ActText) → Contains (touches_made plan) (touch_of node (place_of_key (keys_named plan) (key_of act)) act false context) → alone context (key_of act) ≡ true
-  looked_alone context act made =
-      let key = key_of act in
-      let one : IsTouchedBelow plan node context key false = record {
-        touch = touch_of node (place_of_key (keys_named plan) key) act false context;
-        made = made;
-        below = within_itself plan read node (within plan read shares node call less among);
-        context_is = refl;
-        key_is = refl;
-        changes = λ told. absurd cc;
-      } in
-      unshared_is plan node context key (touched_by plan node context key one) (still_is_unshared plan read shares node context key false one refl)
+  -- the touch only looks at this place
+  record IsLook (context : ℕ) (key : KeyValue) (t : TouchText) : Type 0 where
+    made : Contains (touches_made plan) t
+    node_is : t.node ≡ node
+    context_is : t.context ≡ context
+    key_is : t.key ≡ place_of_key (keys_named plan) key
+    still : t.changes ≡ false
+
+  -- these places have all at which the node only looks
+  abbrev HasLooks : Places → Type 0
+  HasLooks places = (context : ℕ) (key : KeyValue) (t : TouchText) → IsLook context key t → places context key ≡ true
+
+  abbrev look_below : (context : ℕ) (key : KeyValue) (t : TouchText) → IsLook context key t → IsTouchedBelow plan node context key false
+  look_below context key t look = record {
+    touch = t;
+    made = look.made;
+    below = subst (λ n. is_within plan node n ≡ true) (sym look.node_is) (within_itself plan read node (within plan read shares node call less among));
+    context_is = look.context_is;
+    key_is = look.key_is;
+    changes = λ told. absurd (true≢false (sym told));
+  }
+
+  -- at an open place it would give the value that others give, and so find what is computed above; but such a place is not open
+  never_looked : (context : ℕ) (key : KeyValue) (v : ValueText) → opened context key ≡ Some v → (t : TouchText) → IsLook context key t → ⊥
+  never_looked context key v is t look =
+      let none : ¬ IsComputedIn plan (drop 1 (plan_path plan node)) context key = λ computed. open_places.not_both (opened context key) v (none_above context key computed) is in
+      let found = shares_found plan read node context key v (open_is context key v is) in
+      let gives = all_give plan read shares node context key v found none false (look_below context key t look) in
+      elim (how_it_acts plan read t look.made) [
+        | inl own ↦ true≢false (sym own.0 ∙ look.still)
+        | inr still ↦ elim still [
+          | inl looks ↦ true≢false (sym gives.acts ∙ ap gives_value looks.1)
+          | inr finds ↦
+              let from = finds.2 in
+              let named : from.key ≡ key = one_key (keys_named plan) from.key key from.named (key_there plan t look.made key look.key_is) (from.number ∙ look.key_is) in
+              none (subst (IsComputedIn plan (drop 1 (plan_path plan node)) context) named (subst (λ x. IsComputedIn plan (drop 1 (plan_path plan node)) x from.key) look.context_is
+              (subst (λ n. IsComputedIn plan (drop 1 (plan_path plan n)) t.context from.key) look.node_is from.computed)))
+        ]
+      ]
 
   -- the place that a step of the node changes is touched,
   acts_touched : (one : Call) → Contains (calls_of plan node) one → (act : ActText) → Contains (steps_of_call plan one) (step_of act) → changes act.word ≡ true → touched_in plan node (start act) (key_of act) ≡ true
@@ -113,7 +135,7 @@ module _ (plan : PlanText) (read : IsReadPlan plan) (shares : SharesValues plan)
 
   -- where its place is settled, such a step that looks up does so among the places
   changing_looks : (one : Call) → Contains (calls_of plan node) one → (act : ActText) → Contains (steps_of_call plan one) (step_of act) → changes act.word ≡ true → looks_along act.word ≡ true → (settled : Places)
-      → ((context : ℕ) (key : KeyValue) → alone context key ≡ true → settled context key ≡ true) → settled (start act) (key_of act) ≡ true → LooksWithin plan.keys (plan_path plan node) settled act.key act.up
+      → HasLooks settled → settled (start act) (key_of act) ≡ true → LooksWithin plan.keys (plan_path plan node) settled act.key act.up
   changing_looks one own act there changing looks settled has here =
       let key = key_of act in
       let number = place_of_key (keys_named plan) key in
@@ -122,8 +144,14 @@ module _ (plan : PlanText) (read : IsReadPlan plan) (shares : SharesValues plan)
         | inl same ↦ subst (λ x. settled x key ≡ true) same here
         | inr later ↦
             let touch = touch_of node number act false c in
-            let along = subst (λ p. Contains (touches_along node number act p) touch) (sym rest.1) (looked_above node number act (start act) rest.0 c looks later) in
-            has c key (looked_alone c act (changes_there plan node one (within plan read shares node call less among) own act there changing touch along))
+            let along = subst (λ p. Contains (touches_along node number act None p) touch) (sym rest.1) (looked_above node number act None (start act) rest.0 c looks later) in
+            has c key touch (record {
+              made = changes_there plan node one (within plan read shares node call less among) own act there changing touch along;
+              node_is = refl;
+              context_is = refl;
+              key_is = refl;
+              still = refl;
+            })
       ])
 
   -- ---- what is so behind some steps of the call
@@ -132,8 +160,18 @@ module _ (plan : PlanText) (read : IsReadPlan plan) (shares : SharesValues plan)
   record AreBehind (front : List StepText) (places : Places) (open_at : Open) : Type 0 where
     unshared_in : (context : ℕ) (key : KeyValue) → alone context key ≡ true → places context key ≡ true
     shared_in : (context : ℕ) (key : KeyValue) (v : ValueText) → shared context key ≡ Some v → (places context key ≡ true) ⊎ (open_at context key ≡ Some v)
-    open_in : (context : ℕ) (key : KeyValue) (v : ValueText) → open_at context key ≡ Some v → shared context key ≡ Some v
+    open_in : (context : ℕ) (key : KeyValue) (v : ValueText) → open_at context key ≡ Some v → opened context key ≡ Some v
     looked : (act : ActText) → Contains front (step_of act) → gives_value act.word ≡ true → LooksWithin plan.keys (plan_path plan node) places act.key act.up
+
+  -- so these places have all at which the node only looks
+  looks_in : (front : List StepText) (places : Places) (open_at : Open) → AreBehind front places open_at → HasLooks places
+  looks_in front places open_at behind context key t look = elim (some_or_none (shared context key)) [
+    | inl none ↦ behind.unshared_in context key (unshared_is plan node context key (touched_by plan node context key (look_below context key t look)) none)
+    | inr some ↦ elim (behind.shared_in context key some.0 some.1) [
+      | inl here ↦ here
+      | inr open_there ↦ absurd (never_looked context key some.0 (behind.open_in context key some.0 open_there) t look)
+    ]
+  ]
 
   -- what a compute looks at is among these places
   abbrev Settles : Places → StepText → Type 0
@@ -146,25 +184,28 @@ module _ (plan : PlanText) (read : IsReadPlan plan) (shares : SharesValues plan)
       ⊎ (ComputesOpen plan.keys (plan_path plan node) open_at step × Settles (also (place_of_step plan.keys (plan_path plan node) step) places) step)
 
   leaves : (step : StepText) → Contains (steps_of_call plan call) step → (front : List StepText) (places : Places) (open_at : Open) → AreBehind front places open_at → LeavesAbove run plan.keys (plan_path plan node) open_at step
-  leaves step there front places open_at behind = leaves_above plan read shares node call less among run tree step there open_at behind.open_in
+  leaves step there front places open_at behind =
+      leaves_above plan read shares node call less among run tree step there open_at (λ context key v is. open_is context key v (behind.open_in context key v is))
 
   module _ (front : List StepText) (act : ActText) (more : List StepText) (whole : steps_of_call plan call ≡ front ++ step_of act ∷ more) (places : Places) (open_at : Open) (behind : AreBehind (earlier ++ front) places open_at)
       (there : Contains (steps_of_call plan call) (step_of act)) where
-    settles : changes act.word ≡ true → (settled : Places) → ((context : ℕ) (key : KeyValue) → alone context key ≡ true → settled context key ≡ true)
-        → settled (start act) (key_of act) ≡ true → Settles settled (step_of act)
+    settles : changes act.word ≡ true → (settled : Places) → HasLooks settled → settled (start act) (key_of act) ≡ true → Settles settled (step_of act)
     settles changing settled has here = λ other is gives.
         let same = one_act act other (ap act_of is) in
         subst (λ (a : ActText). LooksWithin plan.keys path settled a.key a.up) same
         (changing_looks call among act there changing (computes_all act.word (ap (λ (a : ActText). gives_value a.word) same ∙ gives)).1 settled has here)
+
+    looks_here : HasLooks places
+    looks_here = looks_in (earlier ++ front) places open_at behind
 
     -- it is at a place where the same stands, or computes the value of an open one
     changing_fits : changes act.word ≡ true → Fits (step_of act) places open_at
     changing_fits changing =
         let key = key_of act in
         let stands : places (start act) key ≡ true → Fits (step_of act) places open_at = λ here. inl (
-          within_by plan.keys path places act.key act.up (looks_along act.word) (λ looks. changing_looks call among act there changing looks places behind.unshared_in here) (λ acts. here),
+          within_by plan.keys path places act.key act.up (looks_along act.word) (λ looks. changing_looks call among act there changing looks places looks_here here) (λ acts. here),
           leaves (step_of act) there (earlier ++ front) places open_at behind,
-          settles changing places behind.unshared_in here,
+          settles changing places looks_here here,
         ) in
         elim (some_or_none (shared (start act) key)) [
           | inl none ↦ stands (behind.unshared_in (start act) key (acts_alone act there changing none))
@@ -174,7 +215,7 @@ module _ (plan : PlanText) (read : IsReadPlan plan) (shares : SharesValues plan)
                 let at : Places = at_place (start act) key in
                 inr (
                   computes_there plan read shares node call less among (step_of act) there open_at act.key act.up some.0 (ap (λ (b : Bool). if b then Some (act.key, act.up) else None) changing) some.1 open_is,
-                  settles changing (also at places) (λ context k is. or_left (places context k) (at context k) (behind.unshared_in context k is)) (or_right (places (start act) key) (at (start act) key) (at_itself (start act) key)),
+                  settles changing (also at places) (λ context k t look. or_left (places context k) (at context k) (looks_here context k t look)) (or_right (places (start act) key) (at (start act) key) (at_itself (start act) key)),
                 )
           ]
         ]
@@ -189,11 +230,18 @@ module _ (plan : PlanText) (read : IsReadPlan plan) (shares : SharesValues plan)
         elim (kept_or_computed plan.keys key (earlier ++ front) path at inside) [
           | inl kept ↦
               let below = below_computes plan.keys key path (earlier ++ front) in
-              let touch = touch_of node number act false c in
+              let found = found_above plan.keys (earlier ++ front) (standing plan node) act in
+              let touch = look_at node number act found c in
+              let is = look_at_is node number act found c in
               let held = subst (Contains (drop act.up below)) kept.1 (contains_drop act.up at below low kept.0) in
-              let along = subst (λ p. Contains (touches_along node number act (drop act.up p)) touch) (reach_below plan.keys (earlier ++ front) path act still) (looked_along node number act (drop act.up below) c still looks held) in
-              behind.unshared_in c key
-              (looked_alone c act (touches_there plan node call earlier is_behind front act more whole touch along))
+              let along = subst (λ p. Contains (drop act.up p) c) (reach_below plan.keys (earlier ++ front) path act still) held in
+              looks_here c key touch (record {
+                made = look_there plan node call earlier is_behind front act more whole still c along;
+                node_is = is.0;
+                context_is = is.1;
+                key_is = is.2;
+                still = is.3;
+              })
           | inr computed ↦
               let one = computed.2 in
               let all = behind.looked one.one (subst (Contains (earlier ++ front)) (step_is computed.0 one.one one.is) computed.1) one.gives in
@@ -292,6 +340,12 @@ module _ (plan : PlanText) (read : IsReadPlan plan) (shares : SharesValues plan)
         | inr some ↦ open_places.not_both (shared context key) some.0 parts.1 (open_is context key some.0 some.1)
       ])
 
+  other_looks : HasLooks others
+  other_looks context key t look = elim (some_or_none (opened context key)) [
+    | inl none ↦ is_other context key (touched_by plan node context key (look_below context key t look)) none
+    | inr some ↦ absurd (never_looked context key some.0 some.1 t look)
+  ]
+
   -- the place of a compute before the call is not open
   none_there : (one : Call) → Contains (calls_of plan node) one → (act : ActText) → Contains (steps_of_call plan one) (step_of act) → changes act.word ≡ true → Contains earlier (step_of act)
       → opened (start act) (key_of act) ≡ None
@@ -309,11 +363,11 @@ module _ (plan : PlanText) (read : IsReadPlan plan) (shares : SharesValues plan)
       | inl none ↦ inl (is_other context key (touched_there plan read shares node context key v is) none)
       | inr some ↦ inr (some.1 ∙ ap (λ w. Some w) (open_places.one_value (shared context key) some.0 v (open_is context key some.0 some.1) is))
     ];
-    open_in = open_is;
+    open_in = λ context key v is. is;
     looked = λ act held gives.
         let of = is_behind.of (step_of act) held in
         let all = computes_all act.word gives in
-        changing_looks of.0 of.1 act of.2 all.0 all.1 others alone_other
+        changing_looks of.0 of.1 act of.2 all.0 all.1 others other_looks
         (is_other (start act) (key_of act) (acts_touched of.0 of.1 act of.2 all.0) (none_there of.0 of.1 act of.2 all.0 held));
   }
 

@@ -62,11 +62,11 @@ module _ (plan : PlanText) (run : RunView) (locks : LocksView) (h : History) (to
   in_plan : (node : ℕ) (path : List ℕ) → IsPathOf run.store.tree node path → IsPathOf (ids_of_nodes plan.nodes) node path
   in_plan node path is = subst (λ (l : List Id). IsPathOf l node path) basis.tree is
 
-  -- the event at this place is at a place that the node touches, and computes the value where the node shares it
+  -- the event at this place is at a place that the node changes, and computes the value where the node shares it
   abbrev On : ℕ → ℕ → Type 0
   On node place =
       (context number : ℕ) (key : KeyValue) (event : Event ℕ) → HasNumberIn run key number → slice_get h place ≡ Some event → place_of event.act ≡ Some (cell_of run number context)
-      → (touched node context key ≡ true) × ((v : ValueText) → shares node context key ≡ Some v → IsComputing run h g place number context v event.act)
+      → (changes node context key ≡ true) × ((v : ValueText) → shares node context key ≡ Some v → IsComputing run h g place number context v event.act)
 
   call_on : (node : ℕ) (call : Call) → IsCallOf t node call → (held : Option HeldView) (a : PlanLane) (outcome : Outcome) (b : PlanLane) → t.call_gives node call held a outcome b → HasSeenWithin h b
       → (place : ℕ) → IsMadeBy h place a b → On node place
@@ -74,9 +74,9 @@ module _ (plan : PlanText) (run : RunView) (locks : LocksView) (h : History) (to
       let makes = gives.0.fully.made in
       let among = call_among plan run.store locks run.numbering node call basis.read basis.tree (record { path = mine.path; path_is = mine.path_is; among = mine.among }) in
       let path_is = in_plan node makes.path makes.path_is in
-      let does = steps_do run basis.view run_tree h g (touched node) (shares node) plan.keys makes.path (steps_of_call plan call) a outcome b makes.steps
+      let does = steps_do run basis.view run_tree h g (changes node) (shares node) plan.keys makes.path (steps_of_call plan call) a outcome b makes.steps
       (λ step each. record {
-        touches = λ step_key up changes_it. basis.covered.touches node _ _ (basis.covered.steps node makes.path call step step_key up path_is among each changes_it);
+        changes_there = λ step_key up changes_it. basis.covered.steps node makes.path call step step_key up path_is among each changes_it;
         computes = λ step_key up v changes_it shared. basis.shared.computes node makes.path call step step_key up v path_is among each changes_it shared;
       })
       gives.0.after_in gives.1 within in
@@ -95,7 +95,7 @@ module _ (plan : PlanText) (run : RunView) (locks : LocksView) (h : History) (to
       let below = has_context (ids_of_nodes plan.nodes) plan_tree node path (in_plan node path path_is) in
       let size = length-map plan.nodes (λ n. n.id) in
       let itself : is_within plan node node ≡ true = below_told plan basis.read node node (at_or_below (ids_of_nodes plan.nodes) node node (under_itself (ids_of_nodes plan.nodes) node path (in_plan node path path_is))) in (
-        subst (λ c. touched node c key ≡ true) parts.0 (basis.covered.touches node node key (basis.covered.own node key (omega (arith, below, size)))),
+        subst (λ c. changes node c key ≡ true) parts.0 (basis.covered.own node key (omega (arith, below, size))),
         (λ v shared.
             let out : is_within plan node node ≡ false = subst (λ c. is_within plan node c ≡ false) (sym parts.0) (basis.shared.outside node context key v shared) in
             let never : true ≡ false = sym itself ∙ out in
@@ -105,8 +105,8 @@ module _ (plan : PlanText) (run : RunView) (locks : LocksView) (h : History) (to
   up_on : (node child place : ℕ) → IsParentOf (ids_of_nodes plan.nodes) node child → On child place → On node place
   up_on node child place parent on context number key event has there is =
       let r = on context number key event has there is in (
-        basis.covered.touched_above node child context key parent r.0,
-        (λ v shared. r.1 v (basis.shared.below node child context key v parent shared r.0)),
+        basis.covered.changed_above node child context key parent r.0,
+        (λ v shared. r.1 v (basis.shared.below_changed node child context key v parent shared r.0)),
       )
 
   run_on : (depth node : ℕ) (before : Lanes StoredValue) (ran : List Ran) (after : Lanes StoredValue) → ChildRun (setting_in plan run locks) depth node before ran after → All (HasSeen g) before.first → All (HasSeenWithin h) after.first

@@ -298,21 +298,21 @@ module _ (run : RunView) (h g : History) (tree : IsTree run.store.tree) (number 
 
 -- ---- steps
 
--- `touched` has the places that the node touches, and `shared` those that it shares
-module _ (run : RunView) (view : IsRunView run) (tree : IsTree run.store.tree) (h g : History) (touched : Places) (shared : Open) where
-  -- an act at this place on a cell is at one of the places that are touched, and where the place is shared it computes its value
+-- `changed` has the places that the node may change, and `shared` those that it shares
+module _ (run : RunView) (view : IsRunView run) (tree : IsTree run.store.tree) (h g : History) (changed : Places) (shared : Open) where
+  -- an act at this place on a cell is at one of the places that may be changed, and where the place is shared it computes its value
   abbrev pub IsAsShared : ℕ → ℕ → Act ℕ → Type 0
   IsAsShared place cell act =
       (context number : ℕ) (key : KeyValue) → HasNumberIn run key number → cell ≡ cell_of run number context
-      → (touched context key ≡ true) × ((v : ValueText) → shared context key ≡ Some v → IsComputing run h g place number context v act)
+      → (changed context key ≡ true) × ((v : ValueText) → shared context key ≡ Some v → IsComputing run h g place number context v act)
 
   abbrev DoesAsShared : PlanLane → PlanLane → Type 0
   DoesAsShared a b = Does IsAsShared a.cells.view b.cells.view
 
   module _ (keys : List KeyText) (path : List ℕ) where
-    -- what a step changes is touched, and where it is shared the step computes its value
+    -- what a step changes is one of these places, and where it is shared the step computes its value
     pub record IsFit (step : StepText) : Type 0 where
-      pub touches : (key : StepKeyText) (up : ℕ) → changed_by step ≡ Some (key, up) → touched (start_of (drop up path)) (key_of_step keys key) ≡ true
+      pub changes_there : (key : StepKeyText) (up : ℕ) → changed_by step ≡ Some (key, up) → changed (start_of (drop up path)) (key_of_step keys key) ≡ true
       pub computes : (key : StepKeyText) (up : ℕ) (v : ValueText) → changed_by step ≡ Some (key, up) → shared (start_of (drop up path)) (key_of_step keys key) ≡ Some v → ComputesOpen keys path shared step
 
     module _ (step : StepText) (fit : IsFit step) (key : StepKeyText) (up : ℕ) (changes : changed_by step ≡ Some (key, up)) (number : ℕ) (has : HasNumberIn run (key_of_step keys key) number) where
@@ -325,8 +325,8 @@ module _ (run : RunView) (view : IsRunView run) (tree : IsTree run.store.tree) (
           let parts = cell_apart run.store start context number n (number_within run k number view has) (number_within run other n view has_other) same in
           let both : Some k ≡ Some other = sym has.there ∙ (ap (λ m. key_at run.numbering m) parts.1 ∙ has_other.there) in
           let key_is : k ≡ other = cc both in
-          let P : ℕ → ℕ → KeyValue → Type 0 = λ c m x. (touched c x ≡ true) × ((v : ValueText) → shared c x ≡ Some v → IsComputing run h g place m c v act) in
-          subst (λ c. P c n other) parts.0 (subst (λ m. P start m other) parts.1 (subst (λ x. P start number x) key_is (fit.touches key up changes, computing)))
+          let P : ℕ → ℕ → KeyValue → Type 0 = λ c m x. (changed c x ≡ true) × ((v : ValueText) → shared c x ≡ Some v → IsComputing run h g place m c v act) in
+          subst (λ c. P c n other) parts.0 (subst (λ m. P start m other) parts.1 (subst (λ x. P start number x) key_is (fit.changes_there key up changes, computing)))
 
       -- a step that computes no value of a place
       does_one : (ComputesOpen keys path shared step → ⊥) → (a b : PlanLane) → Only (cell_of run number (start_of (drop up path)) ∷ []) a.cells.view b.cells.view → DoesAsShared a b

@@ -1,10 +1,10 @@
--- The places that a node shares: a node at or below it changes them, and one beside it touches them. All of these compute one value there.
+-- The places that a node shares: a node at or below it touches them, and so does one beside it, and one of both changes them. All of these compute one value there, or find it.
 use Rattle.std.proofs.Common.{◌≡◌, ◌<◌, ℕ, Bool, true, false, List, [], ◌∷◌, length, Contains, Option, Some, None, refl, ap, sym, subst, ◌∙◌, arith, inl, inr, eq-eqb}
-use Rattle.std.specs.Prelude.{◌==◌, ◌&&◌, find, if◌then◌else◌, option_map}
+use Rattle.std.specs.Prelude.{◌==◌, ◌&&◌, ◌||◌, ◌⊎◌, find, if◌then◌else◌, option_map, drop}
 use Rattle.std.specs.Cmp.Lexicographic.{bytes_decides}
 use Rattle.std.specs.List.{list_any}
 use Rattle.std.specs.Str.{bytes_eq}
-use Rattle.std.proofs.lemmas.Bool.{and_from, and_parts, cases_Bool, eqb-true}
+use Rattle.std.proofs.lemmas.Bool.{and_from, and_parts, cases_Bool, eqb-true, true≢false, or_cases, or_left, or_right}
 use Rattle.std.proofs.lemmas.List.{length-map}
 use Rattle.std.proofs.lemmas.List.Folds.{Any-from_list_any, list_any-from_Any}
 use Rattle.ext_tree.specs.Keys.{KeyValue}
@@ -22,12 +22,14 @@ use Rattle.ext_races.proofs.Equalities.{word_is}
 use Rattle.ext_races.proofs.Lists.{contains_first, contains_later}
 use Rattle.ext_races.proofs.Sides.{nodes_found, nodes_told}
 use Rattle.ext_races.proofs.TouchNodes.{touch_within}
-use Rattle.ext_one_report.specs.Shares.{is_at, may_change_at, is_beside_at, shares_in, value_given}
+use Rattle.ext_one_report.specs.Shares.{is_at, is_beside_at, is_shared_at, shares_in, value_given}
 use Rattle.ext_races.specs.OneReports.{SharesValues}
 use Rattle.ext_one_report.specs.Within.{is_within}
+use Rattle.ext_one_report.proofs.ComputedAbove.{IsComputedIn}
 use Rattle.ext_one_report.proofs.CoveredPaths.{path_holds, path_there}
 use Rattle.ext_one_report.proofs.CoveredPlans.{IsTouchedBelow, within_found}
-use Rattle.ext_one_report.proofs.SharedBeside.{AreBelow, also_below, are_below, are_beside, turned}
+use Rattle.ext_one_report.proofs.FoundAbove.{IsFoundAbove, how_it_acts, key_there, one_key}
+use Rattle.ext_one_report.proofs.SharedBeside.{AreBelow, above_both, above_cases, also_below, are_below, are_beside, turned}
 
 -- ---- the first that passes
 
@@ -52,13 +54,16 @@ mapped : {A B : Type 0} (f : A → B) (o : Option A) (v : B) → option_map f o 
 mapped f None v e = absurd (cc e)
 mapped f (Some x) v e = (x, refl, cc e)
 
-some_if : {A : Type 0} (b : Bool) (o : Option A) (x : A) → (if b then o else None) ≡ Some x → (b ≡ true) × (o ≡ Some x)
-some_if true o x e = (refl, e)
-some_if false o x e = absurd (cc e)
-
 -- ---- what a node shares
 
--- a touch at this place, by a node that may run beside this one
+-- a touch at this place
+pub record IsTouchedAt (plan : PlanText) (context : ℕ) (key : KeyValue) : Type 0 where
+  pub touch : TouchText
+  pub made : Contains (touches_made plan) touch
+  pub context_is : touch.context ≡ context
+  pub key_is : touch.key ≡ place_of_key (keys_named plan) key
+
+-- such a touch by a node that may run beside this one
 pub record IsTouchedBeside (plan : PlanText) (node context : ℕ) (key : KeyValue) : Type 0 where
   pub touch : TouchText
   pub made : Contains (touches_made plan) touch
@@ -66,11 +71,22 @@ pub record IsTouchedBeside (plan : PlanText) (node context : ℕ) (key : KeyValu
   pub context_is : touch.context ≡ context
   pub key_is : touch.key ≡ place_of_key (keys_named plan) key
 
+abbrev pub below_at : (plan : PlanText) (node context : ℕ) (key : KeyValue) (told : Bool) → IsTouchedBelow plan node context key told → IsTouchedAt plan context key
+below_at plan node context key told is = record { touch = is.touch; made = is.made; context_is = is.context_is; key_is = is.key_is }
+
+abbrev pub beside_at : (plan : PlanText) (node context : ℕ) (key : KeyValue) → IsTouchedBeside plan node context key → IsTouchedAt plan context key
+beside_at plan node context key is = record { touch = is.touch; made = is.made; context_is = is.context_is; key_is = is.key_is }
+
+-- one of both may change the place
+abbrev pub EitherChanges : TouchText → TouchText → Type 0
+EitherChanges t u = (t.changes ≡ true) ⊎ (u.changes ≡ true)
+
 -- a node at or below this one gives the value there, and a node beside it touches the place
 pub record IsShared (plan : PlanText) (node context : ℕ) (key : KeyValue) (v : ValueText) : Type 0 where
-  pub first : IsTouchedBelow plan node context key true
+  pub first : IsTouchedBelow plan node context key false
   pub gives : value_given first.touch ≡ v
   pub second : IsTouchedBeside plan node context key
+  pub one : EitherChanges first.touch second.touch
 
 pub same_count : (plan : PlanText) → length (ids_of_nodes plan.nodes) ≡ length plan.nodes
 same_count plan = length-map plan.nodes (λ n. n.id)
@@ -90,10 +106,9 @@ module _ (plan : PlanText) (read : IsReadPlan plan) where
     abbrev number : ℕ
     number = place_of_key (keys_named plan) key
 
-    changing_found : (t : TouchText) → Contains (touches_made plan) t → may_change_at plan node context key t ≡ true → IsTouchedBelow plan node context key true
-    changing_found t made is =
-        let parts = and_parts t.changes (is_at plan node context key t) is in
-        let all = and_parts (is_within plan node t.node && (t.context == context)) (t.key == number) parts.1 in
+    below_found : (t : TouchText) → Contains (touches_made plan) t → is_at plan node context key t ≡ true → IsTouchedBelow plan node context key false
+    below_found t made is =
+        let all = and_parts (is_within plan node t.node && (t.context == context)) (t.key == number) is in
         let place = and_parts (is_within plan node t.node) (t.context == context) all.0 in
         record {
           touch = t;
@@ -101,15 +116,14 @@ module _ (plan : PlanText) (read : IsReadPlan plan) where
           below = place.0;
           context_is = eqb-true t.context context place.1;
           key_is = eqb-true t.key number all.1;
-          changes = λ told. parts.0;
+          changes = λ told. absurd cc;
         }
 
-    changing_told : (is : IsTouchedBelow plan node context key true) → may_change_at plan node context key is.touch ≡ true
-    changing_told is =
+    below_told : (told : Bool) → (is : IsTouchedBelow plan node context key told) → is_at plan node context key is.touch ≡ true
+    below_told told is =
         let t = is.touch in
-        and_from t.changes (is_at plan node context key t) (is.changes refl)
-        (and_from (is_within plan node t.node && (t.context == context)) (t.key == number) (and_from (is_within plan node t.node) (t.context == context) is.below (eq-eqb t.context context is.context_is))
-        (eq-eqb t.key number is.key_is))
+        and_from (is_within plan node t.node && (t.context == context)) (t.key == number) (and_from (is_within plan node t.node) (t.context == context) is.below (eq-eqb t.context context is.context_is))
+        (eq-eqb t.key number is.key_is)
 
     beside_found : (t : TouchText) → Contains (touches_made plan) t → node < length (ids_of_nodes plan.nodes) → is_beside_at plan node context key t ≡ true → IsTouchedBeside plan node context key
     beside_found t made less is =
@@ -135,77 +149,193 @@ module _ (plan : PlanText) (read : IsReadPlan plan) where
     told_any : (p : TouchText → Bool) (t : TouchText) → Contains (touches_made plan) t → p t ≡ true → list_any p (touches_made plan) ≡ true
     told_any p t made is = list_any-from_Any p (touches_made plan) (made.0, t, made.1, made.2, is)
 
+    either_told : (t u : TouchText) → EitherChanges t u → (t.changes || u.changes) ≡ true
+    either_told t u (inl first) = or_left t.changes u.changes first
+    either_told t u (inr second) = or_right t.changes u.changes second
+
+    shared_told : (told : Bool) → (one : IsTouchedBelow plan node context key told) → (two : IsTouchedBeside plan node context key) → EitherChanges one.touch two.touch → is_shared_at plan node context key one.touch ≡ true
+    shared_told told one two either =
+        let less = above_near node one.touch one.made one.below in
+        let changing : TouchText → Bool = λ u. is_beside_at plan node context key u && (one.touch.changes || u.changes) in
+        and_from (is_at plan node context key one.touch) (list_any changing (touches_made plan)) (below_told told one)
+        (told_any changing two.touch two.made (and_from (is_beside_at plan node context key two.touch) (one.touch.changes || two.touch.changes) (beside_told two less) (either_told one.touch two.touch either)))
+
     pub shares_found : (v : ValueText) → shares_in plan node context key ≡ Some v → IsShared plan node context key v
-    unfolding shares_in changing_found
+    unfolding shares_in below_found beside_found
     shares_found v e =
-        let parts = some_if (list_any (is_beside_at plan node context key) (touches_made plan)) (option_map value_given (find (may_change_at plan node context key) (touches_made plan))) v e in
-        let one = mapped value_given (find (may_change_at plan node context key) (touches_made plan)) v parts.1 in
-        let there = find_is (may_change_at plan node context key) (touches_made plan) one.0 one.1 in
-        let first = changing_found one.0 there.0 there.1 in
-        let some = Any-from_list_any (is_beside_at plan node context key) (touches_made plan) parts.0 in
+        let one = mapped value_given (find (is_shared_at plan node context key) (touches_made plan)) v e in
+        let there = find_is (is_shared_at plan node context key) (touches_made plan) one.0 one.1 in
+        let changing : TouchText → Bool = λ u. is_beside_at plan node context key u && (one.0.changes || u.changes) in
+        let parts = and_parts (is_at plan node context key one.0) (list_any changing (touches_made plan)) there.1 in
+        let first = below_found one.0 there.0 parts.0 in
+        let some = Any-from_list_any changing (touches_made plan) parts.1 in
+        let both = and_parts (is_beside_at plan node context key some.1) (one.0.changes || some.1.changes) some.4 in
         record {
           first = first;
           gives = one.2;
-          second = beside_found some.1 (some.0, some.2, some.3) (above_near node one.0 there.0 first.below) some.4;
+          second = beside_found some.1 (some.0, some.2, some.3) (above_near node one.0 there.0 first.below) both.0;
+          one = or_cases one.0.changes some.1.changes both.1;
         }
 
-    shares_some : IsTouchedBelow plan node context key true → IsTouchedBeside plan node context key → (v : ValueText) × (shares_in plan node context key ≡ Some v)
+    shares_some : (told : Bool) → (one : IsTouchedBelow plan node context key told) → (two : IsTouchedBeside plan node context key) → EitherChanges one.touch two.touch → (v : ValueText) × (shares_in plan node context key ≡ Some v)
     unfolding shares_in
-    shares_some one two =
-        let less = above_near node one.touch one.made one.below in
-        let any = told_any (is_beside_at plan node context key) two.touch two.made (beside_told two less) in
-        let first = find_some (may_change_at plan node context key) (touches_made plan) (told_any (may_change_at plan node context key) one.touch one.made (changing_told one)) in
-        (value_given first.0, ap (λ (b : Bool). if b then option_map value_given (find (may_change_at plan node context key) (touches_made plan)) else None) any ∙ ap (option_map value_given) first.1)
+    shares_some told one two either =
+        let first = find_some (is_shared_at plan node context key) (touches_made plan) (told_any (is_shared_at plan node context key) one.touch one.made (shared_told told one two either)) in
+        (value_given first.0, ap (option_map value_given) first.1)
 
 -- ---- touches that agree
 
-agreed : (t u : TouchText) → agree t u ≡ true → (u.changes ≡ true) × (t.word ≡ u.word) × (value_given t ≡ value_given u)
+agreed : (t u : TouchText) → agree t u ≡ true → (t.acts ≡ u.acts) × (value_given t ≡ value_given u)
 agreed t u is =
-    let all = and_parts (u.changes && computes t.word && word_eq t.word u.word) (bytes_eq t.text u.text) is in
-    let more = and_parts (u.changes && computes t.word) (word_eq t.word u.word) all.0 in
-    let first = and_parts u.changes (computes t.word) more.0 in
-    let word = word_is t.word u.word more.1 in
+    let all = and_parts (computes t.acts && word_eq t.acts u.acts) (bytes_eq t.text u.text) is in
+    let more = and_parts (computes t.acts) (word_eq t.acts u.acts) all.0 in
+    let acts = word_is t.acts u.acts more.1 in
     let text = (bytes_decides t.text u.text).0 all.1 in
-    (first.0, word, λ i. record { text = text i; closeable = word_eq (word i) words.ComputeCloseable })
+    (acts, λ i. record { text = text i; closeable = word_eq (acts i) words.ComputeCloseable })
 
--- both compute this value
+-- it computes this value, or finds it
 pub record Gives (t : TouchText) (v : ValueText) : Type 0 where
-  pub changes : t.changes ≡ true
-  pub word : gives_value t.word ≡ true
+  pub acts : gives_value t.acts ≡ true
   pub value : value_given t ≡ v
 
+-- both give one value
+pub record GiveOne (t u : TouchText) : Type 0 where
+  pub first : gives_value t.acts ≡ true
+  pub second : gives_value u.acts ≡ true
+  pub value : value_given t ≡ value_given u
+
+-- what may change its place counts as its own word
+own_word : (plan : PlanText) → IsReadPlan plan → (t : TouchText) → Contains (touches_made plan) t → t.changes ≡ true → t.acts ≡ t.word
+own_word plan read t made changing = elim (how_it_acts plan read t made) [
+  | inl own ↦ own.1
+  | inr still ↦ elim still [
+    | inl looks ↦ absurd (true≢false (sym changing ∙ looks.0))
+    | inr finds ↦ absurd (true≢false (sym changing ∙ finds.0))
+  ]
+]
+
 module _ (plan : PlanText) (read : IsReadPlan plan) (shares : SharesValues plan) where
-  -- of two nodes beside one another that touch one place, which one of them changes, both compute the same value there
-  pub both_give : (node context : ℕ) (key : KeyValue) (told : Bool) → (one : IsTouchedBelow plan node context key told) → (two : IsTouchedBeside plan node context key) → one.touch.changes ≡ true
-      → Gives one.touch (value_given one.touch) × Gives two.touch (value_given one.touch)
-  both_give node context key told one two changing =
-      let beside = are_beside plan read one.touch.node two.touch.node (also_below plan read node two.touch.node one.touch.node two.beside one.below) in
-      let alike = shares.alike one.touch two.touch one.made two.made beside changing (one.context_is ∙ sym two.context_is) (one.key_is ∙ sym two.key_is) in
-      let same = agreed one.touch two.touch alike.0 in (
-        record { changes = changing; word = alike.1; value = refl },
-        record { changes = same.0; word = ap gives_value (sym same.1) ∙ alike.1; value = sym same.2 },
-      )
+  -- ---- two nodes beside one another
 
-  pub both_given : (node context : ℕ) (key : KeyValue) (told : Bool) → (one : IsTouchedBelow plan node context key told) → (two : IsTouchedBeside plan node context key) → two.touch.changes ≡ true
-      → Gives one.touch (value_given two.touch)
-  both_given node context key told one two changing =
-      let beside = are_beside plan read two.touch.node one.touch.node
-      (turned plan read one.touch.node two.touch.node (also_below plan read node two.touch.node one.touch.node two.beside one.below)) in
-      let alike = shares.alike two.touch one.touch two.made one.made beside changing (two.context_is ∙ sym one.context_is) (two.key_is ∙ sym one.key_is) in
-      let same = agreed two.touch one.touch alike.0 in
-      record { changes = same.0; word = ap gives_value (sym same.1) ∙ alike.1; value = sym same.2 }
+  give_alike : (context : ℕ) (key : KeyValue) (x y : IsTouchedAt plan context key) → AreBelow plan x.touch.node y.touch.node → x.touch.changes ≡ true → GiveOne x.touch y.touch
+  give_alike context key x y beside changing =
+      let alike = shares.alike x.touch y.touch x.made y.made (are_beside plan read x.touch.node y.touch.node beside) changing (x.context_is ∙ sym y.context_is) (x.key_is ∙ sym y.key_is) in
+      let same = agreed x.touch y.touch alike.0 in
+      let gives = ap gives_value (own_word plan read x.touch x.made changing) ∙ alike.1 in
+      record { first = gives; second = ap gives_value (sym same.0) ∙ gives; value = same.1 }
 
-  -- where a node shares a value, all at or below it, and all beside it, compute it
+  -- where one of both changes the place that both touch
+  pub give_one : (context : ℕ) (key : KeyValue) (x y : IsTouchedAt plan context key) → AreBelow plan x.touch.node y.touch.node → EitherChanges x.touch y.touch → GiveOne x.touch y.touch
+  give_one context key x y beside (inl first) = give_alike context key x y beside first
+  give_one context key x y beside (inr second) =
+      let both = give_alike context key y x (turned plan read x.touch.node y.touch.node beside) second in
+      record { first = both.second; second = both.first; value = sym both.value }
+
+  -- a node at or below this one, and one beside it
+  pub both_give : (node context : ℕ) (key : KeyValue) (told : Bool) → (one : IsTouchedBelow plan node context key told) → (two : IsTouchedBeside plan node context key) → EitherChanges one.touch two.touch
+      → GiveOne one.touch two.touch
+  both_give node context key told one two either =
+      give_one context key (below_at plan node context key told one) (beside_at plan node context key two) (also_below plan read node two.touch.node one.touch.node two.beside one.below) either
+
+  -- ---- what a node shares
+
   module _ (node context : ℕ) (key : KeyValue) (v : ValueText) (is : IsShared plan node context key v) where
+    abbrev pair : Type 0
+    pair = GiveOne is.first.touch is.second.touch
+
+    both : pair
+    both = both_give node context key false is.first is.second is.one
+
+    pub first_gives : Gives is.first.touch v
+    first_gives = record { acts = both.first; value = is.gives }
+
     pub second_gives : Gives is.second.touch v
-    second_gives = subst (Gives is.second.touch) is.gives (both_give node context key true is.first is.second (is.first.changes refl)).1
+    second_gives = record { acts = both.second; value = sym both.value ∙ is.gives }
 
-    pub all_give : (told : Bool) → (one : IsTouchedBelow plan node context key told) → Gives one.touch v
-    all_give told one = subst (Gives one.touch) second_gives.value (both_given node context key told one is.second second_gives.changes)
+    -- each node at or below it that changes the place gives the value,
+    pub changing_gives : (told : Bool) → (one : IsTouchedBelow plan node context key told) → one.touch.changes ≡ true → Gives one.touch v
+    changing_gives told one changing =
+        let give = both_give node context key told one is.second (inl changing) in
+        record { acts = give.first; value = give.value ∙ second_gives.value }
 
-  -- it shares the value where a node at or below it changes the place, and a node beside it touches it
-  pub shares_told : (node context : ℕ) (key : KeyValue) → (one : IsTouchedBelow plan node context key true) → IsTouchedBeside plan node context key → shares_in plan node context key ≡ Some (value_given one.touch)
-  shares_told node context key one two =
-      let some = shares_some plan read node context key one two in
+    -- ---- which is not computed above it
+
+    -- a node beside it that finds the value there finds what one beside it computes
+    computed_beside : IsFoundAbove plan is.second.touch → ¬ IsComputedIn plan (drop 1 (plan_path plan node)) context key → IsTouchedBeside plan node context key
+    computed_beside from none =
+        let u = is.second in
+        let beside = u.beside in
+        let found = from.computed in
+        record {
+          touch = from.touch;
+          made = from.made;
+          beside = subst (AreBelow plan node) (sym from.node_is) (elim (above_cases plan read beside.other u.touch.node found.node (near plan read u.touch u.made) beside.other_below found.among) [
+            | inl below ↦ record {
+              container = beside.container;
+              child = beside.child;
+              other = beside.other;
+              child_is = beside.child_is;
+              other_is = beside.other_is;
+              below = beside.below;
+              other_below = below;
+              differ = beside.differ;
+              concurrent = beside.concurrent;
+              other_concurrent = beside.other_concurrent;
+            }
+            | inr above ↦
+                let less = above_near plan read node is.first.touch is.first.made is.first.below in
+                let there = above_both plan read beside.container beside.child beside.other node found.node beside.child_is beside.other_is less beside.below above in
+                let here : IsComputedIn plan (drop 1 (plan_path plan node)) u.touch.context from.key = record { node = found.node; among = there; step = found.step; held = found.held; computes = found.computes; kept = found.kept } in
+                let same : from.key ≡ key = one_key (keys_named plan) from.key key from.named (key_there plan u.touch u.made key u.key_is) (from.number ∙ u.key_is) in
+                absurd (none (subst (IsComputedIn plan (drop 1 (plan_path plan node)) context) same (subst (λ x. IsComputedIn plan (drop 1 (plan_path plan node)) x from.key) u.context_is here)))
+          ]);
+          context_is = from.context_is ∙ u.context_is;
+          key_is = from.key_is ∙ u.key_is;
+        }
+
+    -- so a node beside it changes the place, and gives the value
+    pub record IsChangedBeside : Type 0 where
+      pub two : IsTouchedBeside plan node context key
+      pub changes : two.touch.changes ≡ true
+      pub value : value_given two.touch ≡ v
+
+    pub changed_beside : ¬ IsComputedIn plan (drop 1 (plan_path plan node)) context key → IsChangedBeside
+    unfolding computed_beside
+    changed_beside none = elim (how_it_acts plan read is.second.touch is.second.made) [
+      | inl own ↦ record { two = is.second; changes = own.0; value = second_gives.value }
+      | inr still ↦ elim still [
+        | inl looks ↦ absurd (want_gives_none (sym (ap gives_value looks.1) ∙ second_gives.acts))
+        | inr finds ↦
+            let from = finds.2 in record {
+              two = computed_beside from none;
+              changes = from.changes;
+              value = (λ i. record { text = from.text i; closeable = word_eq (from.acts i) words.ComputeCloseable }) ∙ second_gives.value;
+            }
+      ]
+    ]
+      where
+        want_gives_none : false ≡ true → ⊥
+        want_gives_none is = absurd (cc is)
+
+    -- and all at or below it give the value
+    pub all_give : ¬ IsComputedIn plan (drop 1 (plan_path plan node)) context key → (told : Bool) → (one : IsTouchedBelow plan node context key told) → Gives one.touch v
+    all_give none told one =
+        let other = changed_beside none in
+        let give = both_give node context key told one other.two (inr other.changes) in
+        record { acts = give.first; value = give.value ∙ other.value }
+
+  -- ---- which value it is
+
+  -- it shares the value where a node at or below it touches the place, and a node beside it, and one of both changes it
+  pub shares_told : (node context : ℕ) (key : KeyValue) (told : Bool) → (one : IsTouchedBelow plan node context key told) → (two : IsTouchedBeside plan node context key) → EitherChanges one.touch two.touch
+      → shares_in plan node context key ≡ Some (value_given one.touch)
+  shares_told node context key told one two either =
+      let some = shares_some plan read node context key told one two either in
       let is = shares_found plan read node context key some.0 some.1 in
-      some.1 ∙ ap (λ v. Some v) (sym (all_give node context key some.0 is true one).value)
+      let same : some.0 ≡ value_given one.touch =
+      elim either [
+        | inl changing ↦ sym (changing_gives node context key some.0 is told one changing).value
+        | inr changing ↦
+            sym (first_gives node context key some.0 is).value ∙ (both_give node context key false is.first two (inr changing)).value ∙ sym (both_give node context key told one two (inr changing)).value
+      ] in
+      some.1 ∙ ap (λ v. Some v) same

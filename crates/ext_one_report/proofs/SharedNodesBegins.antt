@@ -1,5 +1,5 @@
 -- How a concurrent child begins, on its lanes and in the plain run, where those before it in the plain run have settled some of the places that are open for them.
-use Rattle.std.proofs.Common.{◌≡◌, ◌≢◌, ℕ, ◌<◌, ◌≤◌, ◌==◌, inl, inr, true, false, List, [], ◌∷◌, append-nil, length, take, None, Some, sym, subst, ◌∙◌, arith, eq-eqb}
+use Rattle.std.proofs.Common.{◌≡◌, ◌≢◌, ℕ, ◌<◌, ◌≤◌, ◌==◌, inl, inr, true, false, drop, List, [], ◌∷◌, append-nil, length, take, None, Some, sym, subst, ◌∙◌, arith, eq-eqb}
 use Rattle.std.specs.Prelude.{All, Contains, slice_get}
 use mathlib.Core.List.{IsPrefix}
 use base.Growing.{prefix_trans}
@@ -27,12 +27,11 @@ use Rattle.ext_one_report.proofs.OnCells.{same_slot}
 use Rattle.ext_one_report.proofs.Standings.{matched_empty}
 use Rattle.ext_one_report.specs.Within.{is_within}
 use Rattle.ext_one_report.proofs.PlainFrames.{IsOpen, LeavesElse}
-use Rattle.ext_one_report.proofs.Open.{AreNear, Computes, MayStand, StandsOrNot, is_open}
+use Rattle.ext_one_report.proofs.Open.{AreNear, Computes, MayStand, StandsOrNot, is_open, some_or_none}
 use Rattle.ext_one_report.specs.Shares.{Open}
 use Rattle.ext_one_report.proofs.OpenSteps.{StandsInBoth}
 use Rattle.ext_one_report.proofs.Shared.{unshared}
 use Rattle.ext_one_report.proofs.OpenStep.{knows_more, open_value, or_not_more, value_is_open}
-use Rattle.ext_one_report.proofs.SharedNodes.{some_or_none}
 use Rattle.ext_one_report.proofs.Levels.{AreLevel}
 use Rattle.ext_one_report.proofs.SharedNodesWords.{AreComputed, AreOwn, BeginsNear}
 use Rattle.ext_one_report.proofs.ChildLists.{among_first, apart_before, once-left}
@@ -40,9 +39,10 @@ use Rattle.ext_one_report.proofs.NodePlaces.{any_none, any_of, both_ways, carrie
 use Rattle.ext_one_report.proofs.NodePlain.{IsFine, child_leaves, children_fine, children_leave}
 use Rattle.ext_one_report.proofs.NodeTrees.{its_path}
 use Rattle.ext_one_report.proofs.SharedNodesBasis.{above_unchanged, has_path, in_plan, not_shared, plan_tree, run_tree, shared_elsewhere}
-use Rattle.ext_one_report.proofs.SharedNodesBody.{Body, Ground, IsChild, acts_at, after_all, all_once, beside_child, begun_at, cell, child_at, closed_for, computed_at, conc, cs, ended_at, ends_in, free, frozen_to, here, in_nodes, job_at, maker, maker_changes, not_free, open_of, open_parts, over, over_at, path_in, s_of, shared_below, since, since_until, step, touches, turn_ones, u_of, until, until_in_h, up_to}
+use Rattle.ext_one_report.proofs.SharedNodesBody.{Body, ClosedFor, Ground, IsChild, acts_at, after_all, all_once, beside_child, begun_at, cell, child_at, children_stay, closed_child, closed_for, closed_off, computed_at, conc, cs, ended_at, ends_in, free, frozen_to, here, in_nodes, job_at, maker, maker_changes, none_is, not_free, open_of, open_parts, over, over_at, path_in, s_of, shared_below, since, since_until, step, touches, turn_ones, u_of, until, until_in_h, up_to}
 use Rattle.ext_one_report.proofs.SharedNodesCells.{between_fewer, near_stay, none_between}
-use Rattle.ext_one_report.proofs.SharedNodesPlaces.{all_clear, clear_is, none_stands_or_not, not_both, one_value, stands_or_not, unshared_is, unshared_parts}
+use Rattle.ext_one_report.proofs.ComputedAbove.{IsClosedAbove, all_clear, clear_is}
+use Rattle.ext_one_report.proofs.SharedNodesPlaces.{none_stands_or_not, not_both, one_value, stands_or_not, unshared_is, unshared_parts}
 
 module _ (g : Ground) (b : Body g) where
   -- ---- the plain run
@@ -116,6 +116,14 @@ module _ (g : Ground) (b : Body g) where
         let path = has_path g.plan g.run g.locks g.h g.touched g.changes g.changed g.shares g.basis context less in
         All-head P context path.above (subst (All P) (sym path.same) (clear_is b.r.state (plan_path g.plan context) key clear))
   ]
+
+  -- and so it is on the lanes
+  pub absent_first : (context number : ℕ) (key : KeyValue) → g.touched g.node context key ≡ true → b.o context key ≡ None → free g b context key ≡ true → HasNumberIn g.run key number
+      → slots_in (cell_of g.run number) (since g b) context ≡ None
+  absent_first context number key touched none fr has =
+      let matched = b.level.matches.slots context key number (unshared_is (g.touched g.node) b.o context key touched none) has in
+      (matched_empty g.run.meaning (plain_meaning b.r.state.values) (slots_in (cell_of g.run number) (since g b) context) (plain_slot b.r.state context key) matched).1
+      (empty_first context key (in_nodes g b g.node context key touched) none fr)
 
   -- ---- what is so when a child begins in the plain run
 
@@ -279,9 +287,7 @@ module _ (g : Ground) (b : Body g) where
               let same = one_value (g.shares c context key) some.0 v (shared_below g b c context key some.0 c_in touched some.1) is in
               subst (λ w. MayStand g.run.meaning w (slots_in (cell_of g.run number) (since g b) context)) same (b.near.lanes context key number some.0 some.1 has)
           | inl none ↦
-              let empty = empty_first context key (in_nodes g b c context key touched) none fr in
-              let matched = b.level.matches.slots context key number (unshared_is (g.touched g.node) b.o context key (up_to g b c context key c_in touched) none) has in
-              let nothing = (matched_empty g.run.meaning (plain_meaning b.r.state.values) (slots_in (cell_of g.run number) (since g b) context) (plain_slot b.r.state context key) matched).1 empty in
+              let nothing = absent_first context number key (up_to g b c context key c_in touched) none fr has in
               subst (λ x. MayStand g.run.meaning v x) (sym nothing) tt
         ]
 
@@ -338,14 +344,23 @@ module _ (g : Ground) (b : Body g) where
       };
     }
 
+    -- ---- what was computed above it
+
+    begins_closed : IsClosedAbove g.plan (drop 1 (plan_path g.plan c)) o (before_it i).state
+    begins_closed =
+        let first : ClosedFor g o b.r = record { none = λ context key computed. none_is g b c context key (closed_off g b context key computed); stands = b.closed.stands } in
+        closed_child g c o (before_it i) (beside_child g c c_in) (children_stay g (take i (cs g b)) o b.r (all_children (take i (cs g b)) (first_ones i)) first)
+
     pub begins : BeginsNear g.plan g.run g.locks g.h g.touched g.changes g.changed g.shares c o (s_of g b i) (u_of g b i) (before_it i)
     begins = record {
       within = ends_in g b i less;
       lanes = (job_at g b i less).lanes;
+      apart = (job_at g b i less).apart;
       open_is = λ context key v is. (open_parts g b c context key v is).1;
       own = begins_own;
       computed = begins_computed;
       level = begins_level;
       near = begins_near;
+      closed = begins_closed;
       results = (fine_before i).count;
     }

@@ -34,7 +34,7 @@ use Rattle.ext_one_report.proofs.SharedNodesBasis.{both_share, in_plan, plan_tre
 use Rattle.ext_one_report.proofs.SharedNodesBegins.{Gone, all_children, all_fine, all_leave, before_it, clear_first, its_own, once_beside}
 use Rattle.ext_one_report.proofs.SharedNodesBody.{Body, ChildrenEnd, Ends, Ground, IsChild, acts_at, after_all, beside_child, begun_at, cell, child_at, conc, cs, ended_at, free, frozen, here, ids, in_nodes, maker, maker_changes, maker_of, open_of, over_at, ran_at, s_of, shared_below, since, since_until, touches, u_of, unshared_none, until, until_in_h, up_to}
 use Rattle.ext_one_report.proofs.SharedNodesCells.{near_stay}
-use Rattle.ext_one_report.proofs.SharedNodesGone.{after_it, behind, behind_in, ended_near, gone_at, rest_leaves}
+use Rattle.ext_one_report.proofs.SharedNodesGone.{after_it, behind, behind_in, ended_near, gone_at, rest_leaves, to_all}
 use Rattle.ext_one_report.proofs.SharedNodesPasses.{Passes, computed_between}
 use Rattle.ext_one_report.proofs.SharedNodesPlaces.{not_both, still_cases, still_parts, unshared_is, unshared_parts}
 
@@ -96,8 +96,17 @@ module _ (g : Ground) (b : Body g) (each : ChildrenEnd g) (drawn : (after_all g 
   pub fine_then : IsFine g.plan last
   fine_then = all_fine g b (cs g b) b.r all_of_them b.fine
 
+  gone_last : (gone : Gone g b count last) × (gone.settled ≡ (gone_at g b each drawn count (to_all g b each drawn)).settled)
+  gone_last =
+      let first = gone_at g b each drawn count (to_all g b each drawn) in
+      subst (λ (l : List ℕ). (gone : Gone g b count (after_all g b.r l)) × (gone.settled ≡ first.settled)) (take_all count (cs g b) (omega arith)) (first, refl)
+
   pub gone : Gone g b count last
-  gone = subst (λ (l : List ℕ). Gone g b count (after_all g b.r l)) (take_all count (cs g b) (omega arith)) (gone_at g b each drawn count (omega arith))
+  gone = gone_last.0
+
+  pub gone_settled : gone.settled ≡ (gone_at g b each drawn count (to_all g b each drawn)).settled
+  unfolding gone
+  gone_settled = gone_last.1
 
   knows : KnowsMore (plain_meaning b.r.state.values) (plain_meaning last.state.values)
   knows = knows_more (any_of g.changes (cs g b)) (within_any g.plan (cs g b)) b.r.state last.state leaves

@@ -1,8 +1,8 @@
 -- The concurrent children of a container that share places: who made the events there, which of the places are open for them, and where nothing happens.
-use Rattle.std.proofs.Common.{◌≡◌, ℕ, ◌<◌, ◌≤◌, inl, inr, true, false, ◌||◌, fold, List, ◌∷◌, ◌++◌, length, None, Some, ap, sym, subst, ◌∙◌, arith}
+use Rattle.std.proofs.Common.{◌≡◌, ℕ, ◌<◌, ◌≤◌, inl, inr, true, false, ◌||◌, drop, fold, List, [], ◌∷◌, ◌++◌, length, None, Some, ap, sym, subst, ◌∙◌, arith}
 use Rattle.std.specs.Prelude.{All, Contains, if◌then◌else◌, slice_get, slice_index_or}
 use mathlib.Core.List.{IsPrefix}
-use Rattle.std.proofs.lemmas.List.Elements.{All-contains, Contains-get_or, filter_passes}
+use Rattle.std.proofs.lemmas.List.Elements.{All-contains, All-head, All-tail, Contains-get_or, filter_passes}
 use Rattle.ext_history.proofs.Lists.{bools, contains_cons}
 use Rattle.ext_history.proofs.Once.{Once, once-from_pairs, once-parted}
 use Rattle.ext_model.specs.declared.event.Event.{Event}
@@ -31,27 +31,31 @@ use Rattle.ext_one_report.proofs.Containers.{are_children, is_concurrent_child}
 use Rattle.ext_one_report.proofs.Kept.{same_there}
 use Rattle.ext_parallel.specs.declared.steps.stored_value.StoredValue.{StoredValue}
 use Rattle.ext_plain.specs.PlainRun.{RunState, node_run}
+use Rattle.ext_plain.proofs.Nodes.{child_path}
 use Rattle.ext_one_report.proofs.MatchingWords.{HasNumberIn, Places, RunView, cell_of, plain_meaning, plain_slot}
 use Rattle.ext_one_report.proofs.StepsWords.{IsLaneIn}
 use Rattle.ext_one_report.proofs.Calls.{lane_before}
 use Rattle.ext_one_report.proofs.Standings.{matched_empty}
-use Rattle.ext_one_report.proofs.Open.{AreNear, Computes, is_open}
+use Rattle.ext_one_report.proofs.Open.{AreNear, Computes, is_open, some_or_none}
 use Rattle.ext_one_report.specs.Shares.{Open}
 use Rattle.ext_one_report.proofs.Shared.{unshared}
-use Rattle.ext_one_report.proofs.OpenStep.{value_is_open}
-use Rattle.ext_one_report.proofs.SharedNodes.{some_or_none}
+use Rattle.ext_one_report.proofs.OpenStep.{open_value, value_is_open}
 use Rattle.ext_one_report.proofs.FullRuns.{setting_in}
 use Rattle.ext_one_report.proofs.Levels.{AreLevel}
 use Rattle.ext_one_report.proofs.SharedNodesWords.{AreComputed, AreOwn, BeginsNear, EndsNear, IsSharedBasis}
 use Rattle.ext_one_report.proofs.LanesAlone.{view_moves}
-use Rattle.ext_one_report.proofs.NodePlaces.{both_ways, or_first, or_second}
+use Rattle.ext_one_report.proofs.LanesApart.{AreApart}
+use Rattle.ext_one_report.proofs.NodePlaces.{both_ways, never, or_either, or_first, or_second}
 use Rattle.ext_one_report.proofs.NodePlain.{IsFine}
+use Rattle.ext_one_report.proofs.NodeTrees.{its_path}
 use Rattle.ext_one_report.proofs.SharedEvents.{shared_is_computed, shared_is_looked_for}
 use Rattle.ext_one_report.proofs.SharedEventsFrozen.{frozen_is_quiet}
 use Rattle.ext_one_report.proofs.SharedNodesBasis.{HasPath, IsConcurrent, above_unchanged, has_path, in_plan, in_run, made_changes, run_tree, shares_too, up}
 use Rattle.ext_one_report.proofs.SharedNodesCells.{Between, quiet_up_to}
-use Rattle.ext_one_report.proofs.SharedNodesPlaces.{absent_is, all_clear, is_clear_there, never_claimed, not_both, one_value, unshared_is}
-use Rattle.ext_one_report.proofs.SharedNodesRuns.{Job, acts, at_end, at_start, begun, ended, ends_within, job, lasts, made_by, over as lasts_over, ran_of, until_in}
+use Rattle.ext_one_report.proofs.ComputedAbove.{IsClosedAbove, IsComputedIn, all_clear}
+use Rattle.ext_one_report.proofs.KeptAbove.{child_closed}
+use Rattle.ext_one_report.proofs.SharedNodesPlaces.{absent_is, is_clear_there, never_claimed, not_both, one_value, unshared_is}
+use Rattle.ext_one_report.proofs.SharedNodesRuns.{Job, acts, at_end, at_start, begun, ended, ends_within, job, lasts, made_by, made_in, one_maker as made_once, over as lasts_over, ran_of, until_in}
 
 -- a node has ended near, and all that ran is at or below it
 pub record Ends (plan : PlanText) (run : RunView) (locks : LocksView) (h : History) (touched changes : ℕ → Places) (changed : ℕ → List ℕ) (shares : ℕ → Open)
@@ -125,6 +129,28 @@ module _ (g : Ground) where
   pub concurrent : (c : ℕ) → Contains beside_ones c → IsConcurrent g.plan g.run g.locks g.h g.touched g.changes g.changed g.shares g.basis g.node c
   concurrent c among = (beside_child c among, All-contains (λ x. concurrent_of g.plan x ≡ true) beside_ones c (filter_passes (concurrent_of g.plan) (children_of g.run.store.tree g.node)) among)
 
+  -- what the callbacks of the container and of nodes above it computed stands behind its children too
+  abbrev pub ClosedFor : Open → RunState → Type 0
+  ClosedFor o r = IsClosedAbove g.plan (plan_path g.plan g.node) o r.state
+
+  child_on : (c : ℕ) → IsChild c → IsPathOf ids c (c ∷ g.path)
+  child_on c parent = child_path ids g.node c g.path path_in parent
+
+  pub child_stays : (c : ℕ) (o : Open) (r : RunState) → IsChild c → ClosedFor o r → ClosedFor o (step r c)
+  child_stays c o r parent closed = child_closed g.plan g.basis.read g.levels c (plan_path g.plan g.node) (c ∷ g.path) (child_on c parent) o r closed
+
+  pub children_stay : (xs : List ℕ) (o : Open) (r : RunState) → All IsChild xs → ClosedFor o r → ClosedFor o (after_all r xs)
+  children_stay [] o r children closed = closed
+  children_stay (c ∷ xs) o r children closed = children_stay xs o (step r c) (All-tail IsChild c xs children) (child_stays c o r (All-head IsChild c xs children) closed)
+
+  -- the nodes above a child are the container and those above it
+  pub closed_child : (c : ℕ) (o : Open) (r : RunState) → IsChild c → ClosedFor o r → IsClosedAbove g.plan (drop 1 (plan_path g.plan c)) o r.state
+  closed_child c o r parent closed =
+      let tree = g.basis.read.runnable.tree in
+      let above : plan_path g.plan g.node ≡ drop 1 (plan_path g.plan c) =
+      sym (its_path g.plan tree g.node g.path path_in) ∙ ap (λ l. drop 1 l) (its_path g.plan tree c (c ∷ g.path) (child_on c parent)) in
+      subst (λ l. IsClosedAbove g.plan l o r.state) above closed
+
   pub all_once : Once (beside_ones ++ turn_ones)
   all_once =
       let children = children_of g.run.store.tree g.node in
@@ -141,6 +167,7 @@ pub record Body (g : Ground) : Type 0 where
   pub body : BodyRun (over g) (ChildRun (over g) g.depth) g.node opened below after
   pub within : All (HasSeenWithin g.h) body.joined
   pub known : All (IsLaneIn g.run) body.joined
+  pub apart : AreApart body.joined
   pub o : Open
   pub among : (context : ℕ) (key : KeyValue) (v : ValueText) → o context key ≡ Some v → g.shares g.node context key ≡ Some v
   pub own : AreOwn g.run g.h (unshared (g.touched g.node) o) opened.first body.joined
@@ -149,6 +176,8 @@ pub record Body (g : Ground) : Type 0 where
   pub fine : IsFine g.plan r
   pub level : AreLevel g.plan g.run (unshared (g.touched g.node) o) (first_seen opened.first) r.state
   pub near : AreNear g.run o (first_seen opened.first) r.state
+  -- what its own callbacks and those of nodes above computed is not open, and stands in the plain run
+  pub closed : IsClosedAbove g.plan (plan_path g.plan g.node) o r.state
 
 module _ (g : Ground) (b : Body g) where
   abbrev pub cs : List ℕ
@@ -171,40 +200,40 @@ module _ (g : Ground) (b : Body g) where
 
   -- the run of each concurrent child
   abbrev pub s_of : ℕ → Lanes StoredValue
-  s_of i = at_start (over g) goes g.h g.depth g.node b.opened b.below b.after b.body b.within (IsLaneIn g.run) (lane_before g.run) b.known i
+  s_of i = at_start (over g) goes g.h g.depth g.node b.opened b.below b.after b.body b.within (IsLaneIn g.run) (lane_before g.run) b.known b.apart i
 
   abbrev pub u_of : ℕ → Lanes StoredValue
-  u_of i = at_end (over g) goes g.h g.depth g.node b.opened b.below b.after b.body b.within (IsLaneIn g.run) (lane_before g.run) b.known i
+  u_of i = at_end (over g) goes g.h g.depth g.node b.opened b.below b.after b.body b.within (IsLaneIn g.run) (lane_before g.run) b.known b.apart i
 
   abbrev pub ran_at : ℕ → List Ran
-  ran_at i = ran_of (over g) goes g.h g.depth g.node b.opened b.below b.after b.body b.within (IsLaneIn g.run) (lane_before g.run) b.known i
+  ran_at i = ran_of (over g) goes g.h g.depth g.node b.opened b.below b.after b.body b.within (IsLaneIn g.run) (lane_before g.run) b.known b.apart i
 
   abbrev pub JobAt : ℕ → Type 0
-  JobAt i = Job (over g) goes g.h g.depth g.node b.opened b.below b.after b.body b.within (IsLaneIn g.run) (lane_before g.run) b.known i (s_of i) (ran_at i) (u_of i)
+  JobAt i = Job (over g) goes g.h g.depth g.node b.opened b.below b.after b.body b.within (IsLaneIn g.run) (lane_before g.run) b.known b.apart i (s_of i) (ran_at i) (u_of i)
 
   pub job_at : (i : ℕ) → i < length cs → JobAt i
-  job_at i less = job (over g) goes g.h g.depth g.node b.opened b.below b.after b.body b.within (IsLaneIn g.run) (lane_before g.run) b.known i less
+  job_at i less = job (over g) goes g.h g.depth g.node b.opened b.below b.after b.body b.within (IsLaneIn g.run) (lane_before g.run) b.known b.apart i less
 
   pub ends_in : (i : ℕ) → i < length cs → All (HasSeenWithin g.h) (u_of i).first
-  ends_in i less = ends_within (over g) goes g.h g.depth g.node b.opened b.below b.after b.body b.within (IsLaneIn g.run) (lane_before g.run) b.known i less
+  ends_in i less = ends_within (over g) goes g.h g.depth g.node b.opened b.below b.after b.body b.within (IsLaneIn g.run) (lane_before g.run) b.known b.apart i less
 
   pub acts_at : (i : ℕ) → i < length cs → Acts g.h (s_of i).first (u_of i).first
-  acts_at i less = acts (over g) goes g.h g.depth g.node b.opened b.below b.after b.body b.within (IsLaneIn g.run) (lane_before g.run) b.known i less
+  acts_at i less = acts (over g) goes g.h g.depth g.node b.opened b.below b.after b.body b.within (IsLaneIn g.run) (lane_before g.run) b.known b.apart i less
 
   pub begun_at : (i : ℕ) → i < length cs → IsPrefix since (first_seen (s_of i).first)
-  begun_at i less = begun (over g) goes g.h g.depth g.node b.opened b.below b.after b.body b.within (IsLaneIn g.run) (lane_before g.run) b.known i less
+  begun_at i less = begun (over g) goes g.h g.depth g.node b.opened b.below b.after b.body b.within (IsLaneIn g.run) (lane_before g.run) b.known b.apart i less
 
   pub over_at : (i : ℕ) → i < length cs → IsPrefix (first_seen (s_of i).first) (first_seen (u_of i).first)
-  over_at i less = lasts_over (over g) goes g.h g.depth g.node b.opened b.below b.after b.body b.within (IsLaneIn g.run) (lane_before g.run) b.known i less
+  over_at i less = lasts_over (over g) goes g.h g.depth g.node b.opened b.below b.after b.body b.within (IsLaneIn g.run) (lane_before g.run) b.known b.apart i less
 
   pub ended_at : (i : ℕ) → i < length cs → IsPrefix (first_seen (u_of i).first) until
-  ended_at i less = ended (over g) goes g.h g.depth g.node b.opened b.below b.after b.body b.within (IsLaneIn g.run) (lane_before g.run) b.known i less
+  ended_at i less = ended (over g) goes g.h g.depth g.node b.opened b.below b.after b.body b.within (IsLaneIn g.run) (lane_before g.run) b.known b.apart i less
 
   pub since_until : IsPrefix since until
-  since_until = lasts (over g) goes g.h g.depth g.node b.opened b.below b.after b.body b.within (IsLaneIn g.run) (lane_before g.run) b.known
+  since_until = lasts (over g) goes g.h g.depth g.node b.opened b.below b.after b.body b.within (IsLaneIn g.run) (lane_before g.run) b.known b.apart
 
   pub until_in_h : IsPrefix until g.h
-  until_in_h = until_in (over g) goes g.h g.depth g.node b.opened b.below b.after b.body b.within (IsLaneIn g.run) (lane_before g.run) b.known
+  until_in_h = until_in (over g) goes g.h g.depth g.node b.opened b.below b.after b.body b.within (IsLaneIn g.run) (lane_before g.run) b.known b.apart
 
   pub here : (i : ℕ) → i < length cs → Contains cs (child_at i)
   here i less = Contains-get_or cs i 0 less
@@ -262,9 +291,18 @@ module _ (g : Ground) (b : Body g) where
     | inr some ↦ both_ways (free context key) (or_first (is_open b.o context key) (all_clear b.r.state (plan_path g.plan context) key) (value_is_open b.o context key some.0 some.1)) off
   ]
 
-  -- what a child touches that is open for the container, it shares
+  -- no place that was computed above the children is free, and so none is open for one of them
+  pub closed_off : (context : ℕ) (key : KeyValue) → IsComputedIn g.plan (plan_path g.plan g.node) context key → free context key ≡ false
+  closed_off context key computed =
+      never (free context key) (λ on. elim (or_either (is_open b.o context key) (all_clear b.r.state (plan_path g.plan context) key) on) [
+        | inl opens ↦ let some = open_value b.o context key opens in not_both (b.o context key) some.0 (b.closed.none context key computed) some.1
+        | inr clear ↦ both_ways (all_clear b.r.state (plan_path g.plan context) key) clear (b.closed.stands context key computed)
+      ])
+
+  -- what a child touches that is open for the container, it shares: nothing was computed there before it
   pub shared_below : (c context : ℕ) (key : KeyValue) (v : ValueText) → Contains cs c → g.touched c context key ≡ true → b.o context key ≡ Some v → g.shares c context key ≡ Some v
-  shared_below c context key v c_in is opens = g.basis.shared.below g.node c context key v (beside_child g c c_in) (b.among context key v opens) is
+  shared_below c context key v c_in is opens =
+      g.basis.shared.below g.node c context key v (beside_child g c c_in) (b.among context key v opens) is (λ computed. not_both (b.o context key) v (b.closed.none context key computed) opens)
 
   pub closed_for : (c context : ℕ) (key : KeyValue) → Contains cs c → g.touched c context key ≡ true → g.shares c context key ≡ None → b.o context key ≡ None
   closed_for c context key c_in is none = elim (some_or_none (b.o context key)) [
@@ -285,8 +323,18 @@ module _ (g : Ground) (b : Body g) where
 
   pub maker_of : (place : ℕ) → IsMadeIn g.h place b.opened.first b.body.joined → MadeBy place
   maker_of place made =
-      let by = made_by (over g) goes g.h g.depth g.node b.opened b.below b.after b.body b.within (IsLaneIn g.run) (lane_before g.run) b.known place made in
+      let by = made_by (over g) goes g.h g.depth g.node b.opened b.below b.after b.body b.within (IsLaneIn g.run) (lane_before g.run) b.known b.apart place made in
       record { i = by.0; less = by.1; made = by.2 }
+
+  -- and the event is made by no other
+  pub one_maker : (i j place : ℕ) → i < length cs → j < length cs → IsMadeIn g.h place (s_of i).first (u_of i).first → IsMadeIn g.h place (s_of j).first (u_of j).first → i ≡ j
+  one_maker i j place less below made also =
+      made_once (over g) goes g.h g.depth g.node b.opened b.below b.after b.body b.within (IsLaneIn g.run) (lane_before g.run) b.known b.apart i j place less below made also
+
+  -- and meanwhile
+  pub made_meanwhile : (i place : ℕ) → i < length cs → IsMadeIn g.h place (s_of i).first (u_of i).first → IsMadeIn g.h place b.opened.first b.body.joined
+  made_meanwhile i place less made =
+      made_in (over g) goes g.h g.depth g.node b.opened b.below b.after b.body b.within (IsLaneIn g.run) (lane_before g.run) b.known b.apart i place less made
 
   pub maker : (context number place : ℕ) (key : KeyValue) (event : Event ℕ) → g.touched g.node context key ≡ true → b.o context key ≡ None → HasNumberIn g.run key number → length since ≤ place → place < length until
       → slice_get g.h place ≡ Some event → place_of event.act ≡ Some (cell number context) → MadeBy place

@@ -1,9 +1,11 @@
 -- The callbacks of a container, on the first of its lanes and in the plain run: from before them to after them, where some of their steps compute values at open places.
-use Rattle.std.proofs.Common.{◌≡◌, ℕ, ◌<◌, ◌&&◌, inl, inr, true, not, List, [], ◌∷◌, ◌++◌, append-nil, length, None, Some, refl, ap, sym, subst, ◌∙◌}
+use Rattle.std.proofs.Common.{◌≡◌, ℕ, ◌+◌, ◌<◌, ◌&&◌, inl, inr, true, not, drop, List, [], ◌∷◌, ◌++◌, append-nil, length, None, Some, refl, ap, sym, subst, ◌∙◌, arith}
 use Rattle.std.specs.Prelude.{All, Contains}
+use Rattle.std.specs.List.{flat_map}
 use Rattle.std.proofs.lemmas.List.Elements.{All-contains, All-head, All-tail, Contains-get_or}
 use Rattle.ext_history.specs.Histories.{seen_by}
 use Rattle.ext_history.proofs.Legal.{legal_begun}
+use Rattle.ext_history.proofs.Lists.{contains_none}
 use Rattle.ext_model.specs.declared.event.Event.{Event}
 use Rattle.ext_model.specs.History.{History}
 use Rattle.ext_model.specs.Sizes.{most_numbers}
@@ -11,7 +13,8 @@ use Rattle.ext_tree.specs.Keys.{KeyValue}
 use Rattle.ext_tree.specs.Trees.{IsPathOf}
 use Rattle.ext_lifecycle.specs.declared.call.Call.{Call}
 use Rattle.ext_lifecycle.specs.declared.outcome.Outcome.{Outcome}
-use Rattle.ext_lifecycle.specs.Lifecycle.{MakesAll, MakesBefores}
+use Rattle.ext_lifecycle.specs.Endings.{all_successful}
+use Rattle.ext_lifecycle.specs.Lifecycle.{MakesAll, MakesBefores, computed_in}
 use Rattle.ext_plan.specs.Plans.{KeyText, PlanText, StepText}
 use Rattle.ext_plan.specs.PlanCalls.{steps_of_call}
 use Rattle.ext_plan.specs.ReadPlans.{StayOnPath}
@@ -23,19 +26,23 @@ use Rattle.ext_engine.specs.Meeting.{HasSeenWithin, first_seen}
 use Rattle.ext_engine.specs.Order.{IsMadeIn, LaneGoesOn}
 use Rattle.ext_engine.proofs.Acts.{Acts, same_made}
 use Rattle.ext_parallel.specs.StoreCalls.{PlanLane}
-use Rattle.ext_races.specs.MadeSteps.{calls_after, calls_before}
+use Rattle.ext_races.specs.MadeSteps.{calls_after, calls_before, steps_before}
 use Rattle.ext_races.proofs.Lists.{all_contained}
 use Rattle.ext_plain.specs.NodeCalls.{CallsEnd, call_run, make_all, make_befores, no_calls}
 use Rattle.ext_plain.specs.ValueStates.{ValueState}
 use Rattle.ext_plain.proofs.Nodes.{start_is}
 use Rattle.ext_one_report.proofs.CallListsWords.{CallFits}
+use Rattle.ext_one_report.proofs.ComputedAbove.{NoneOpenAbove}
 use Rattle.ext_one_report.proofs.MatchingWords.{Matches, Places, RunView, cell_of}
 use Rattle.ext_one_report.proofs.StepsWords.{IsLaneIn}
 use Rattle.ext_one_report.proofs.CallLists.{all_alike, befores_first}
 use Rattle.ext_one_report.proofs.Matching.{matches_at_fewer, numbered_at_fewer}
+use Rattle.ext_one_report.proofs.Fills.{Fills, IsFilledBy, IsFilledIn, Spot}
+use Rattle.ext_one_report.proofs.FillsLanes.{filled_by, filled_in, none_filled}
+use Rattle.ext_one_report.proofs.FillsLaws.{fills_as, fills_none}
 use Rattle.ext_one_report.proofs.Open.{AreNear, AreOpenBeside, also, place_of_step, still_open}
 use Rattle.ext_one_report.specs.Shares.{Open, SharesNothing}
-use Rattle.ext_one_report.proofs.OpenCalls.{BeforesFit, CallFitsOpen, CallsNear, LeavesNear, StepsFit}
+use Rattle.ext_one_report.proofs.OpenCalls.{BeforesFit, CallFitsOpen, CallsNear, LeavesNear, NoneOpen, StepsFit}
 use Rattle.ext_one_report.proofs.OpenSteps.{AreBesideOpen, StandsInBoth}
 use Rattle.ext_one_report.proofs.Shared.{unshared}
 use Rattle.ext_one_report.proofs.Levels.{AreLevel}
@@ -54,7 +61,7 @@ use Rattle.ext_one_report.proofs.SharedNodesPasses.{Passes, own_fewer}
 use Rattle.ext_one_report.proofs.SharedNodesPlaces.{not_both, still_cases, still_parts, unshared_is, unshared_parts}
 use Rattle.ext_one_report.proofs.SharedNodesTold.{AreCounted}
 use Rattle.ext_one_report.proofs.SharedNodesTurn.{Since, Whole, computed_then, own_then}
-use Rattle.ext_one_report.proofs.SharedTestsOpen.{after_fits, befores_fit, beside_at_others, calls_fit_others, shared_beside}
+use Rattle.ext_one_report.proofs.SharedTestsOpen.{after_fits, befores_fit, beside_at_others, calls_fit_others, none_fewer, shared_beside}
 use Rattle.ext_one_report.proofs.OpenCallLists.{all_calls_end_near, befores_end_near}
 
 -- steps that fit some places fit others, where these have all of them that are in a context of the path
@@ -113,6 +120,9 @@ module _ (g : Ground) where
     among : (context : ℕ) (key : KeyValue) (v : ValueText) → o context key ≡ Some v → g.shares g.node context key ≡ Some v
     among context key v opens = w.among context key v (since.fewer context key v opens)
 
+    apart : NoneOpenAbove g.plan (drop 1 g.path) o
+    apart = none_fewer g.plan (drop 1 g.path) w.o o since.fewer w.none_above
+
     b_in : HasSeenWithin g.h b
     b_in = All-head (HasSeenWithin g.h) b rest (subst (All (HasSeenWithin g.h)) is within)
 
@@ -168,12 +178,12 @@ module _ (g : Ground) where
     opening_fits : BeforesFit g.run g.plan g.path places o (calls_before g.plan g.node)
     opening_fits =
         befores_fit_places g.run g.plan g.path (calls_before g.plan g.node) (unshared (g.touched g.node) o) places o on_its_way
-        (befores_fit g.plan g.run g.locks g.h g.touched g.changes g.changed g.shares g.basis g.node g.path (path_in g) o among)
+        (befores_fit g.plan g.run g.locks g.h g.touched g.changes g.changed g.shares g.basis g.node g.path (path_in g) o among apart)
 
     -- and so do those after it
     fits : (call : Call) → Contains (calls_after g.plan g.node) call → CallFitsOpen g.run g.plan g.path places o call
     fits call there =
-        let one = after_fits g.plan g.run g.locks g.h g.touched g.changes g.changed g.shares g.basis g.node g.path (path_in g) o among call there in (
+        let one = after_fits g.plan g.run g.locks g.h g.touched g.changes g.changed g.shares g.basis g.node g.path (path_in g) o among apart call there in (
           one.0,
           fits_places g.run g.plan.keys g.path (steps_of_call g.plan call) (unshared (g.touched g.node) o) places o one.0 on_its_way one.1,
         )
@@ -248,23 +258,59 @@ module _ (g : Ground) where
           untouched = λ context number place key v event opens has there on made. same_made g.h xs place (subst (λ (l : List PlanLane). IsMadeIn g.h place xs l) (sym one) made);
         }
 
-    -- what is so after calls, that had these outcomes
-    pub record Called (outcomes : List Outcome) (end : CallsEnd) : Type 0 where
+    -- what the lanes fill the first of them does
+    fill_in : (spot : Spot) → IsFilledBy g.run a b spot → IsFilledIn g.run g.h xs ys spot
+    fill_in spot filled =
+        subst (λ (l : List PlanLane). IsFilledIn g.run g.h l ys spot) (sym was)
+        (subst (λ (l : List PlanLane). IsFilledIn g.run g.h (a ∷ rest) l spot) (sym is) (filled_in g.run g.h a b rest b_in spot filled))
+
+    in_fill : (spot : Spot) → IsFilledIn g.run g.h xs ys spot → IsFilledBy g.run a b spot
+    in_fill spot filled =
+        filled_by g.run g.h a b rest b_in spot goes.seen
+        (subst (λ (l : List PlanLane). IsFilledIn g.run g.h (a ∷ rest) l spot) is (subst (λ (l : List PlanLane). IsFilledIn g.run g.h l ys spot) was filled))
+
+    its_fills : (later : Open) (lanes plain : ℕ) → Fills (IsFilledBy g.run a b) o later s lanes plain → Fills (IsFilledIn g.run g.h xs ys) o later s lanes plain
+    its_fills later lanes plain fills =
+        fills_as (IsFilledBy g.run a b) (IsFilledIn g.run g.h xs ys) o later s lanes plain lanes plain (λ spot v opens filled. fill_in spot filled) (λ spot v opens filled. in_fill spot filled) refl refl fills
+
+    no_fills : a ≡ b → (n : ℕ) → Fills (IsFilledIn g.run g.h xs ys) o o s n n
+    no_fills same n =
+        let one : ys ≡ xs = is ∙ (ap (λ (x : PlanLane). x ∷ rest) (sym same) ∙ sym was) in
+        fills_none (IsFilledIn g.run g.h xs ys) o s n (λ spot v opens filled. none_filled g.run g.h xs spot (subst (λ (l : List PlanLane). IsFilledIn g.run g.h xs l spot) one filled))
+
+    -- What is so after these calls, where all up to them had these outcomes, and those before them computed so many values in the plain run
+    pub record Called (outcomes made : List Outcome) (had : ℕ) (end : CallsEnd) : Type 0 where
       pub near : CallsNear outcomes end
       pub counted : SharesNothing (g.shares g.node) → AreCounted outcomes end
       pub later : Open
       pub step : Passes g.plan g.run g.h (g.touched g.node) done o xs s later ys end.state
+      pub plain : ℕ
+      pub plain_is : end.computed ≡ had + plain
+      pub fills : Fills (IsFilledIn g.run g.h xs ys) o later s (computed_in made) plain
+
+    -- and after the callbacks before its body: where all were successful, nothing is open still that they compute
+    pub record Opened (outcomes : List Outcome) (end : CallsEnd) : Type 0 where
+      pub called : Called outcomes outcomes 0 end
+      pub settles : all_successful end.calls ≡ true → NoneOpen g.plan.keys g.path called.later (steps_before g.plan g.node)
 
     held_here : Holds s
     held_here = record { memory = since.level.memory; keeps = since.level.keeps; gave = since.level.gave; of_plan = since.level.of_plan }
 
     pub befores_called : (calls : List Call) (os : List Outcome) → All Own calls → calls_before g.plan g.node ≡ calls → MakesBefores (MakesFully g.plan g.run g.locks g.node None) calls a os b
-        → (make_befores (call_run g.plan g.path) calls (no_calls s)).state.store.drawn < most_numbers g.plan.size → Called os (make_befores (call_run g.plan g.path) calls (no_calls s))
+        → (make_befores (call_run g.plan g.path) calls (no_calls s)).state.store.drawn < most_numbers g.plan.size → Opened os (make_befores (call_run g.plan g.path) calls (no_calls s))
     befores_called [] os own are_its made drawn = record {
-      near = subst (λ (l : List Outcome). CallsNear l (no_calls s)) (sym made.0) (record { says = refl; counts = refl });
-      counted = λ nothing. subst (λ (l : List Outcome). AreCounted l (no_calls s)) (sym made.0) (record { computed = refl; found = refl });
-      later = o;
-      step = nothing_passes (sym made.1);
+      called = record {
+        near = subst (λ (l : List Outcome). CallsNear l (no_calls s)) (sym made.0) (record { says = refl; counts = refl });
+        counted = λ nothing. subst (λ (l : List Outcome). AreCounted l (no_calls s)) (sym made.0) (record { computed = refl; found = refl });
+        later = o;
+        step = nothing_passes (sym made.1);
+        plain = 0;
+        plain_is = refl;
+        fills = subst (λ (l : List Outcome). Fills (IsFilledIn g.run g.h xs ys) o o s (computed_in l) 0) (sym made.0) (no_fills (sym made.1) 0);
+      };
+      settles = λ all.
+          subst (λ (l : List Call). NoneOpen g.plan.keys g.path o (flat_map (steps_of_call g.plan) l)) (sym are_its)
+          (record { none = λ step there computes. contains_none step there });
     }
     befores_called (call ∷ calls) os own are_its made drawn =
         let all = call ∷ calls in
@@ -274,23 +320,33 @@ module _ (g : Ground) where
         let makes = befores_made g.plan g.run g.locks g.node None all a os b made in
         let both = befores_end_near g.run g.plan g.node g.path places o all a os b s g.path_is its (subst (λ (l : List Call). BeforesFit g.run g.plan g.path places o l) are_its opening_fits) finds room makes in
         record {
-          near = both.0;
-          counted = λ nothing.
-              let alike = befores_first g.run g.plan g.node g.path places g.path_is all a os b s
-              (record { beside = beside_at_others g.run g.path places o a b s its; fits = each_of Own (CallFits g.plan g.path places) all (fits_others nothing) own; finds = finds }) room makes in
-              record { computed = alike.computed; found = alike.found };
-          later = still_open both.1.settled o;
-          step = passes _ both.1 (node_calls.befores_hold g.plan g.run g.basis.read g.node g.path (path_in g) all (no_calls s) own held_here);
+          called = record {
+            near = both.0;
+            counted = λ nothing.
+                let alike = befores_first g.run g.plan g.node g.path places g.path_is all a os b s
+                (record { beside = beside_at_others g.run g.path places o a b s its; fits = each_of Own (CallFits g.plan g.path places) all (fits_others nothing) own; finds = finds }) room makes in
+                record { computed = alike.computed; found = alike.found };
+            later = still_open both.1.settled o;
+            step = passes _ both.1 (node_calls.befores_hold g.plan g.run g.basis.read g.node g.path (path_in g) all (no_calls s) own held_here);
+            plain = (make_befores (call_run g.plan g.path) all (no_calls s)).computed;
+            plain_is = omega arith;
+            fills = its_fills (still_open both.1.settled o) (computed_in os) (make_befores (call_run g.plan g.path) all (no_calls s)).computed both.3;
+          };
+          settles = λ successful.
+              subst (λ (l : List Call). NoneOpen g.plan.keys g.path (still_open both.1.settled o) (flat_map (steps_of_call g.plan) l)) (sym are_its) (both.2 successful);
         }
 
     pub all_called : (calls : List Call) (before os : List Outcome) (e : CallsEnd) → e.state ≡ s → CallsNear before e → (SharesNothing (g.shares g.node) → AreCounted before e) → All Own calls → calls_after g.plan g.node ≡ calls → MakesAll (MakesFully g.plan g.run g.locks g.node None) calls a os b
-        → (make_all (call_run g.plan g.path) calls e).state.store.drawn < most_numbers g.plan.size → Called (before ++ os) (make_all (call_run g.plan g.path) calls e)
+        → (make_all (call_run g.plan g.path) calls e).state.store.drawn < most_numbers g.plan.size → Called (before ++ os) os e.computed (make_all (call_run g.plan g.path) calls e)
     all_called [] before os e at near counted own are_its made drawn = record {
       near = subst (λ (l : List Outcome). CallsNear (before ++ l) e) (sym made.0) (subst (λ (l : List Outcome). CallsNear l e) (sym (append-nil before)) near);
       counted = λ nothing.
           subst (λ (l : List Outcome). AreCounted (before ++ l) e) (sym made.0) (subst (λ (l : List Outcome). AreCounted l e) (sym (append-nil before)) (counted nothing));
       later = o;
       step = subst (λ (t : ValueState). Passes g.plan g.run g.h (g.touched g.node) done o xs s o ys t) (sym at) (nothing_passes (sym made.1));
+      plain = 0;
+      plain_is = omega arith;
+      fills = subst (λ (l : List Outcome). Fills (IsFilledIn g.run g.h xs ys) o o s (computed_in l) 0) (sym made.0) (no_fills (sym made.1) 0);
     }
     all_called (call ∷ calls) before os e at near counted own are_its made drawn =
         let all = call ∷ calls in
@@ -302,8 +358,11 @@ module _ (g : Ground) where
         let makes = all_made g.plan g.run g.locks g.node None all a os b made in
         let both = all_calls_end_near g.run g.plan g.node g.path places o all before a os b e g.path_is near its
         (subst (All (CallFitsOpen g.run g.plan g.path places o)) are_its (all_contained (CallFitsOpen g.run g.plan g.path places o) (calls_after g.plan g.node) fits)) finds room makes in
-        let E : ValueState → Type 0 = λ q. LeavesNear g.run places o a q b (make_all (call_run g.plan g.path) all e).state in
-        let leaves = subst E at both.1 in
+        let last = make_all (call_run g.plan g.path) all e in
+        let E : ValueState → Type 0 = λ q. (left : LeavesNear g.run places o a q b last.state) × (plain : ℕ) × (last.computed ≡ e.computed + plain)
+        × Fills (IsFilledBy g.run a b) o (still_open left.settled o) q (computed_in os) plain in
+        let leaves_all : E s = subst E at (both.1, both.2, both.3, both.4) in
+        let leaves = leaves_all.0 in
         record {
           near = both.0;
           counted = λ nothing.
@@ -314,4 +373,7 @@ module _ (g : Ground) where
               record { computed = alike.computed; found = alike.found };
           later = still_open leaves.settled o;
           step = passes _ leaves (node_calls.all_hold g.plan g.run g.basis.read g.node g.path (path_in g) all e own held);
+          plain = leaves_all.1;
+          plain_is = leaves_all.2;
+          fills = its_fills (still_open leaves.settled o) (computed_in os) leaves_all.1 leaves_all.3;
         }

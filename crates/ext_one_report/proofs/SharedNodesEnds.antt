@@ -1,17 +1,20 @@
 -- Nodes with all nodes below them that share values with nodes beside them: on the lanes and in the plain run they end near.
-use Rattle.std.proofs.Common.{◌≡◌, ◌≢◌, ℕ, zero, suc, ◌+◌, ◌-◌, ◌<◌, ◌≤◌, ◌==◌, ◌&&◌, inl, inr, true, false, not, fold, List, [], ◌∷◌, ◌++◌, length, None, Some, ap, refl, sym, subst, ◌∙◌, arith}
+use Rattle.std.proofs.Common.{◌≡◌, ◌≢◌, ℕ, zero, suc, ◌+◌, ◌-◌, ◌<◌, ◌≤◌, ◌==◌, ◌&&◌, inl, inr, true, false, not, drop, fold, List, [], ◌∷◌, ◌++◌, length, None, Some, ap, refl, sym, subst, ◌∙◌, arith}
 use Rattle.std.specs.Prelude.{All, Contains, is_some}
 use Rattle.std.proofs.lemmas.Bool.{eqb-true}
 use Rattle.std.proofs.lemmas.Grind.{fold-append}
 use Rattle.std.proofs.lemmas.List.Elements.{All-append, All-contains, Contains-get_or}
+use Rattle.std.proofs.lemmas.List.Sums.{sum_by-append}
 use Rattle.ext_history.specs.Histories.{seen_by}
 use Rattle.ext_history.proofs.Lists.{bools, contains_cons, contains_here, contains_none}
+use Rattle.ext_model.specs.Events.{place_of}
 use Rattle.ext_model.specs.History.{History}
 use Rattle.ext_model.specs.Sizes.{most_numbers}
 use Rattle.ext_tree.specs.Keys.{KeyValue}
 use Rattle.ext_tree.specs.Trees.{Id, IsParentOf, IsPathOf, IsTree, children_of}
 use Rattle.ext_tree.proofs.TreeLaws.{paths_are_unique}
 use Rattle.ext_lifecycle.specs.declared.call.Call.{Call}
+use Rattle.ext_lifecycle.specs.declared.outcome.Outcome.{Outcome}
 use Rattle.ext_lifecycle.specs.Callbacks.{afters_of, befores_of}
 use Rattle.ext_lifecycle.specs.Endings.{all_successful}
 use Rattle.ext_lifecycle.specs.FaultTexts.{NodeOutcome, fault_text}
@@ -43,24 +46,31 @@ use Rattle.ext_plain.specs.ContextEnds.{faults_of_closes, seal_keys}
 use Rattle.ext_plain.specs.NodeCalls.{CallsEnd, afters_run, befores_run, no_calls}
 use Rattle.ext_plain.specs.PlainRun.{RunState, body_run, container_run, node_run, outcome_of, test_node_run, with_result}
 use Rattle.ext_plain.proofs.NodeCalls.{texts-successful}
+use Rattle.ext_plain.proofs.Reached.{set-elsewhere}
 use Rattle.ext_plain.proofs.Nodes.{child_path, node_run-more, start_is}
 use Rattle.ext_one_report.proofs.MatchingWords.{Places, RunView}
 use Rattle.ext_one_report.proofs.StepsWords.{IsLaneIn}
 use Rattle.ext_one_report.specs.Within.{is_within}
 use Rattle.ext_one_report.proofs.FrameNodes.{afters_own, befores_own, within_nodes}
 use Rattle.ext_one_report.proofs.FrameSteps.{seals_leave}
-use Rattle.ext_one_report.proofs.Open.{AreNear, also, is_open, still_open}
+use Rattle.ext_one_report.proofs.Fills.{Fills, IsFilledIn, Spot, computed_at, computed_of, computed_told}
+use Rattle.ext_one_report.proofs.FillsCounts.{computed_is, of_first, told_first, told_later}
+use Rattle.ext_one_report.proofs.FillsLanes.{filled_first, filled_then, none_filled}
+use Rattle.ext_one_report.proofs.FillsLaws.{fills_as, fills_none}
+use Rattle.ext_one_report.proofs.NodeTold.{set-there}
+use Rattle.ext_one_report.proofs.Open.{AreNear, also, is_open, some_or_none, still_open}
 use Rattle.ext_one_report.specs.Shares.{Open, AreToldNear}
 use Rattle.ext_one_report.proofs.OpenSteps.{StandsInBoth}
 use Rattle.ext_one_report.proofs.Shared.{unshared}
 use Rattle.ext_one_report.proofs.OpenStep.{open_value, value_is_open}
-use Rattle.ext_one_report.proofs.SharedNodes.{some_or_none}
 use Rattle.ext_one_report.proofs.Closes.{ClosesLevel}
 use Rattle.ext_one_report.proofs.FullRuns.{setting_in}
 use Rattle.ext_one_report.proofs.Levels.{AreLevel, besides, outside}
 use Rattle.ext_one_report.proofs.SharedNodesWords.{AllToldNear, AreComputed, AreOwn, AreUntouched, BeginsNear, IsSharedBasis, NodesEndNear}
 use Rattle.ext_one_report.proofs.CloseEnds.{sealed_slot, closes_end_level}
 use Rattle.ext_one_report.proofs.ClosePlain.{plain_seals_places}
+use Rattle.ext_one_report.proofs.ComputedAbove.{IsClosedAbove, NoneOpenAbove}
+use Rattle.ext_one_report.proofs.KeptAbove.{body_closed}
 use Rattle.ext_one_report.proofs.LanesAlone.{lanes_in, view_moves}
 use Rattle.ext_one_report.proofs.NodeTrees.{path_short, its_path, long, path_apart, within_itself, within_parent}
 use Rattle.ext_one_report.proofs.NodePlaces.{and_both, and_of, away, away_first, away_is, both_ways, from_not, level_fewer, never, or_either}
@@ -68,14 +78,14 @@ use Rattle.ext_one_report.proofs.NodePlain.{IsFine, children_fine, children_leav
 use Rattle.ext_one_report.proofs.NodeRooms.{all_draw, befores_hold}
 use Rattle.ext_one_report.proofs.SharedClosesOpen.{near_after, none_elsewhere, stand_after}
 use Rattle.ext_one_report.proofs.SharedNodesBasis.{in_plan, plan_tree, run_tree}
-use Rattle.ext_one_report.proofs.SharedNodesBody.{ChildrenEnd, Ends, Ground, IsChild, after_all, beside_child, beside_ones, ids, over, path_in, turn_child, turn_ones}
-use Rattle.ext_one_report.proofs.SharedNodesCalls.{Called, Holds, all_called, befores_called}
+use Rattle.ext_one_report.proofs.SharedNodesBody.{ChildrenEnd, ClosedFor, Ends, Ground, IsChild, after_all, beside_child, beside_ones, ids, over, path_in, turn_child, turn_ones}
+use Rattle.ext_one_report.proofs.SharedNodesCalls.{Called, Holds, Opened, all_called, befores_called}
 use Rattle.ext_one_report.proofs.SharedNodesPasses.{own_fewer, passes_none}
-use Rattle.ext_one_report.proofs.SharedNodesPlaces.{not_both, one_value, still_parts, unshared_is, unshared_parts}
+use Rattle.ext_one_report.proofs.SharedNodesPlaces.{not_both, one_value, still_is, still_none, still_parts, unshared_is, unshared_parts}
 use Rattle.ext_one_report.proofs.SharedNodesTold.{near_none, near_own, told_as}
-use Rattle.ext_one_report.proofs.SharedNodesTurn.{Since, Whole, computed_then, own_then, since_then}
+use Rattle.ext_one_report.proofs.SharedNodesTurn.{Since, Whole, computed_then, fills_next, own_then, since_then}
 use Rattle.ext_one_report.proofs.SharedNodesTurns.{body_turned}
-use Rattle.ext_one_report.proofs.SharedTestsOpen.{open_elsewhere, open_not_below}
+use Rattle.ext_one_report.proofs.SharedTestsOpen.{none_computed, open_elsewhere, open_not_below}
 use Rattle.ext_one_report.proofs.SharedTests.{tests_end_near}
 
 -- ---- a container
@@ -91,6 +101,9 @@ module _ (g : Ground) (container : is_some (test_of g.plan g.node) ≡ false) (e
 
   less : g.node < length g.plan.nodes
   less = within_nodes g.plan g.node g.path tree (path_in g)
+
+  on_path : g.path ≡ plan_path g.plan g.node
+  on_path = its_path g.plan tree g.node g.path (path_in g)
 
   -- ---- its lanes
 
@@ -150,6 +163,8 @@ module _ (g : Ground) (container : is_some (test_of g.plan g.node) ≡ false) (e
     computed = begins.computed;
     within = begins.within;
     known = begins.lanes;
+    apart = begins.apart;
+    none_above = subst (λ l. NoneOpenAbove g.plan (drop 1 l) o) (sym on_path) begins.closed.none;
   }
 
   -- ---- its calls
@@ -159,9 +174,6 @@ module _ (g : Ground) (container : is_some (test_of g.plan g.node) ≡ false) (e
 
   abbrev afters : List Call
   afters = afters_of (registered g.plan) false g.node g.path
-
-  on_path : g.path ≡ plan_path g.plan g.node
-  on_path = its_path g.plan tree g.node g.path (path_in g)
 
   befores_are : calls_before g.plan g.node ≡ befores
   befores_are = λ i. befores_of (registered g.plan) (container i) g.node (sym on_path i)
@@ -262,7 +274,7 @@ module _ (g : Ground) (container : is_some (test_of g.plan g.node) ≡ false) (e
     since_first : Since g w [] o before.first r.state
     since_first = passes_none g.plan g.run g.h (g.touched g.node) o before.first r.state begins.level begins.near
 
-    opened : Called g w [] no_child o before.first lanes_run.opened lanes_run.befores_made.lane lanes_run.befores_made.left lanes_run.befores_made.rest lanes_run.befores_made.first_was lanes_run.befores_made.first_is
+    opened : Opened g w [] no_child o before.first lanes_run.opened lanes_run.befores_made.lane lanes_run.befores_made.left lanes_run.befores_made.rest lanes_run.befores_made.first_was lanes_run.befores_made.first_is
         (no_acts g.h before.first) opening from_opened opened_in opened_within (befores_go (over g) going g.node None befores lanes_run.befores_made.lane lanes_run.befores lanes_run.befores_made.left lanes_run.befores_made.change)
         r.state since_first lanes_run.befores opened_end
     opened =
@@ -270,11 +282,21 @@ module _ (g : Ground) (container : is_some (test_of g.plan g.node) ≡ false) (e
         befores_called g w [] no_child o before.first lanes_run.opened on.lane on.left on.rest on.first_was on.first_is (no_acts g.h before.first) opening from_opened opened_in opened_within
         (befores_go (over g) going g.node None befores on.lane lanes_run.befores on.left on.change) r.state since_first befores lanes_run.befores befores_its befores_are on.change opened_drawn
 
-    since_opened : Since g w [] opened.later lanes_run.opened opened_end.state
-    since_opened = since_then g w [] [] o opened.later before.first lanes_run.opened r.state opened_end.state no_child no_child (no_acts g.h before.first) opening from_opened since_first opened.step
+    since_opened : Since g w [] opened.called.later lanes_run.opened opened_end.state
+    since_opened = since_then g w [] [] o opened.called.later before.first lanes_run.opened r.state opened_end.state no_child no_child (no_acts g.h before.first) opening from_opened since_first opened.called.step
 
     went_on : all_successful opened_end.calls ≡ all_successful (endings_of lanes_run.befores)
-    went_on = ap all_successful (sym opened.near.says) ∙ texts-successful (endings_of lanes_run.befores)
+    went_on = ap all_successful (sym opened.called.near.says) ∙ texts-successful (endings_of lanes_run.befores)
+
+    among_opened : (context : ℕ) (key : KeyValue) (v : ValueText) → opened.called.later context key ≡ Some v → g.shares g.node context key ≡ Some v
+    among_opened context key v is = begins.open_is context key v (opened.called.step.fewer context key v is)
+
+    -- where its body is run, what its callbacks and those of nodes above have computed is not open still, and stands in the plain run
+    closed_opened : all_successful opened_end.calls ≡ true → ClosedFor g opened.called.later opened_run
+    closed_opened all =
+        subst (λ l. IsClosedAbove g.plan l opened.called.later opened_end.state) on_path
+        (body_closed g.plan g.basis.read g.node g.path (path_in g) container o opened.called.later r.state begins.closed opened.called.step.fewer
+        (none_computed g.plan g.run g.locks g.h g.touched g.changes g.changed g.shares g.basis g.node g.path (path_in g) opened.called.later among_opened (opened.settles all)) all)
 
     -- ---- after it
 
@@ -283,6 +305,8 @@ module _ (g : Ground) (container : is_some (test_of g.plan g.node) ≡ false) (e
       are : (x : ℕ) → Contains done x → IsChild g x
       open_still : Open
       since : Since g w done open_still lanes_run.body.first bodied_run.state
+      fewer : (context : ℕ) (key : KeyValue) (v : ValueText) → open_still context key ≡ Some v → opened.called.later context key ≡ Some v
+      fills : Fills (IsFilledIn g.run g.h lanes_run.opened lanes_run.body.first) opened.called.later open_still opened_end.state (computed_of lanes_run.below) (computed_told lanes_run.below bodied_run.results)
       told : AllToldNear g.shares lanes_run.below r.results bodied_run.results
       under : (k : ℕ) → HasRun lanes_run.below k → (c : ℕ) × IsChild g c × Under (ids g) c k
 
@@ -293,11 +317,14 @@ module _ (g : Ground) (container : is_some (test_of g.plan g.node) ≡ false) (e
         let body = lanes_run.body_made.made on in
         let is = bodied_on (went_on ∙ on) in
         let last : (after_all g (after_all g opened_run first_ones) later_ones).state.store.drawn < most_numbers g.plan.size = subst (λ (q : RunState). q.state.store.drawn < most_numbers g.plan.size) is bodied_drawn in
-        let turned = body_turned g w each begun lanes_run.below lanes_run.body body bodied_in bodied_within opening from_bodied opened.later opened_run opened_fine since_opened last in
+        let turned = body_turned g w each begun lanes_run.below lanes_run.body body bodied_in bodied_within opening from_bodied opened.called.later opened_run opened_fine since_opened (closed_opened (went_on ∙ on)) last in
         record {
           done = turned.done;
           are = turned.are;
           open_still = turned.open_still;
+          fewer = turned.fewer;
+          fills = subst (λ (q : RunState). Fills (IsFilledIn g.run g.h lanes_run.opened lanes_run.body.first) opened.called.later turned.open_still opened_end.state (computed_of lanes_run.below) (computed_told lanes_run.below q.results))
+              (sym is) turned.fills;
           since = subst (λ (q : RunState). Since g w turned.done turned.open_still lanes_run.body.first q.state) (sym is) turned.since;
           told = subst (λ (q : RunState). AllToldNear g.shares lanes_run.below r.results q.results) (sym is) turned.below.told;
           under = λ k has.
@@ -314,8 +341,12 @@ module _ (g : Ground) (container : is_some (test_of g.plan g.node) ≡ false) (e
         record {
           done = [];
           are = no_child;
-          open_still = opened.later;
-          since = subst (λ (q : RunState). Since g w [] opened.later lanes_run.body.first q.state) (sym is) (subst (λ (l : List PlanLane). Since g w [] opened.later l opened_run.state) same since_opened);
+          open_still = opened.called.later;
+          fewer = λ context key v opens. opens;
+          fills = subst (λ (l : List Ran). Fills (IsFilledIn g.run g.h lanes_run.opened lanes_run.body.first) opened.called.later opened.called.later opened_end.state (computed_of l) (computed_told l bodied_run.results)) (sym skipped.0)
+              (subst (λ (l : List PlanLane). Fills (IsFilledIn g.run g.h lanes_run.opened l) opened.called.later opened.called.later opened_end.state 0 0) same
+              (fills_none (IsFilledIn g.run g.h lanes_run.opened lanes_run.opened) opened.called.later opened_end.state 0 (λ spot v opens filled. none_filled g.run g.h lanes_run.opened spot filled)));
+          since = subst (λ (q : RunState). Since g w [] opened.called.later lanes_run.body.first q.state) (sym is) (subst (λ (l : List PlanLane). Since g w [] opened.called.later l opened_run.state) same since_opened);
           told = subst (λ (q : RunState). AllToldNear g.shares lanes_run.below r.results q.results) (sym is) (subst (λ (l : List Ran). AllToldNear g.shares l r.results r.results) (sym skipped.0) (near_none g.shares r.results));
           under = λ k has. absurd (contains_none k (subst (λ (l : List Ran). HasRun l k) skipped.0 has));
         }
@@ -328,13 +359,13 @@ module _ (g : Ground) (container : is_some (test_of g.plan g.node) ≡ false) (e
     called : Called g w bodied.done bodied.are bodied.open_still lanes_run.body.first lanes_run.ends.called lanes_run.ends.afters_made.lane lanes_run.ends.afters_made.left lanes_run.ends.afters_made.rest
         lanes_run.ends.afters_made.first_was lanes_run.ends.afters_made.first_is to_bodied calling closing called_in called_within
         (all_go (over g) going g.node None afters lanes_run.ends.afters_made.lane lanes_run.ends.afters lanes_run.ends.afters_made.left lanes_run.ends.afters_made.change)
-        bodied_run.state bodied.since (lanes_run.befores ++ lanes_run.ends.afters) called_end
+        bodied_run.state bodied.since (lanes_run.befores ++ lanes_run.ends.afters) lanes_run.ends.afters opened_end.computed called_end
     called =
         let on = lanes_run.ends.afters_made in
         let e : CallsEnd = record opened_end { state = bodied_run.state } in
         all_called g w bodied.done bodied.are bodied.open_still lanes_run.body.first lanes_run.ends.called on.lane on.left on.rest on.first_was on.first_is to_bodied calling closing called_in called_within
         (all_go (over g) going g.node None afters on.lane lanes_run.ends.afters on.left on.change) bodied_run.state bodied.since afters lanes_run.befores lanes_run.ends.afters e refl
-        (record { says = opened.near.says; counts = opened.near.counts }) (λ nothing. let are = opened.counted nothing in record { computed = are.computed; found = are.found }) afters_its afters_are on.change called_drawn
+        (record { says = opened.called.near.says; counts = opened.called.near.counts }) (λ nothing. let are = opened.called.counted nothing in record { computed = are.computed; found = are.found }) afters_its afters_are on.change called_drawn
 
     -- what is open in the end
     abbrev last : Open
@@ -505,11 +536,88 @@ module _ (g : Ground) (container : is_some (test_of g.plan g.node) ≡ false) (e
       ];
     }
 
+    -- ---- values that were filled
+
+    -- up to the body's end,
+    fills_bodied : Fills (IsFilledIn g.run g.h before.first lanes_run.body.first) o bodied.open_still r.state (computed_in lanes_run.befores + computed_of lanes_run.below) (opened.called.plain + computed_told lanes_run.below bodied_run.results)
+    fills_bodied =
+        fills_next g w [] o opened.called.later bodied.open_still before.first lanes_run.opened lanes_run.body.first r.state opened_end.state
+        (computed_in lanes_run.befores) opened.called.plain (computed_of lanes_run.below) (computed_told lanes_run.below bodied_run.results) (no_acts g.h before.first) opening bodying from_bodied
+        (λ context key v is. is) bodied.fewer opened.called.step opened.called.fills bodied.fills
+
+    -- up to the close,
+    fills_called : Fills (IsFilledIn g.run g.h before.first lanes_run.ends.called) o last r.state (computed_in lanes_run.befores + computed_of lanes_run.below + computed_in lanes_run.ends.afters)
+        (opened.called.plain + computed_told lanes_run.below bodied_run.results + called.plain)
+    fills_called =
+        fills_next g w bodied.done o bodied.open_still last before.first lanes_run.body.first lanes_run.ends.called r.state bodied_run.state
+        (computed_in lanes_run.befores + computed_of lanes_run.below) (opened.called.plain + computed_told lanes_run.below bodied_run.results) (computed_in lanes_run.ends.afters) called.plain
+        (no_acts g.h before.first) to_bodied calling closing (λ context key v is. is) called.step.fewer bodied.since fills_bodied called.fills
+
+    -- which fills none
+    closed_fill : (spot : Spot) (v : ValueText) → o spot.0 spot.1 ≡ Some v → IsFilledIn g.run g.h lanes_run.ends.called after.first spot → ⊥
+    closed_fill spot v is filled =
+        none_elsewhere g.plan g.run g.locks g.h g.basis.view g.basis.legal g.node lane rest after.first lanes_run.ends.faults closes begins.within spot.0 filled.number filled.place spot.1 filled.event (elsewhere spot.0 spot.1 v is)
+        filled.has filled.there (ap place_of filled.act) (subst (λ (l : List PlanLane). IsMadeIn g.h filled.place l after.first) lanes_run.ends.afters_made.first_is filled.made)
+
+    -- what is open in the end is what is not settled
+    last_is : (context : ℕ) (key : KeyValue) → last context key ≡ still_open settled o context key
+    last_is context key = elim (bools (settled context key)) [
+      | inl on ↦ settled_closed context key on ∙ sym (still_none settled o context key on)
+      | inr off ↦ elim (some_or_none (o context key)) [
+        | inr some ↦ open_last context key some.0 off some.1 ∙ sym (still_is settled o context key some.0 off some.1)
+        | inl none ↦ elim (some_or_none (last context key)) [
+          | inr opens ↦ not_both (o context key) opens.0 none (since_called.fewer context key opens.0 opens.1)
+          | inl closed ↦ elim (some_or_none (still_open settled o context key)) [
+            | inl also_none ↦ closed ∙ sym also_none
+            | inr opens ↦ not_both (o context key) opens.0 none (still_parts settled o context key opens.0 opens.1).1
+          ]
+        ]
+      ]
+    ]
+
+    lanes_computed : computed_in lanes_run.befores + computed_of lanes_run.below + computed_in lanes_run.ends.afters ≡ computed_of ran
+    lanes_computed =
+        let own_is : lanes_run.own.result.computed ≡ computed_in (lanes_run.befores ++ lanes_run.ends.afters) = ap (λ (x : Ran). x.result.computed) lanes_run.ends.own_is in
+        let calls = sum_by-append (λ (x : Outcome). x.computed) lanes_run.befores lanes_run.ends.afters in
+        let all = of_first lanes_run.own lanes_run.below in
+        let ran_is = ap computed_of lanes_run.ran_are in
+        omega (arith, own_is, calls, all, ran_is)
+
+    own_less : lanes_run.own.result.node < length r.results
+    own_less = let same = own_node in let few = less in let long = begins.results in omega (arith, same, few, long)
+
+    plain_computed : opened.called.plain + computed_told lanes_run.below bodied_run.results + called.plain ≡ computed_told ran (with_result outcome bodied_run.results)
+    plain_computed =
+        let last_results = with_result outcome bodied_run.results in
+        let long = bodied.told.count in
+        let in_results = own_less in
+        let at_own = own_node in
+        let own_at : computed_at last_results lanes_run.own.result.node ≡ called_end.computed =
+        ap (computed_at last_results) own_node ∙ computed_is last_results g.node outcome (set-there bodied_run.results g.node outcome (omega (arith, long, in_results, at_own))) in
+        let same = told_later lanes_run.below bodied_run.results last_results (λ node has.
+        set-elsewhere bodied_run.results g.node node outcome (λ is. own_apart (subst (HasRun lanes_run.below) (is ∙ sym own_node) has))) in
+        let all = told_first lanes_run.own lanes_run.below last_results in
+        let ran_is = ap (λ (l : List Ran). computed_told l last_results) lanes_run.ran_are in
+        let early = opened.called.plain_is in
+        let late = called.plain_is in
+        omega (arith, own_at, same, all, ran_is, early, late)
+
+    fills : Fills (IsFilledIn g.run g.h before.first after.first) o (still_open settled o) r.state (computed_of ran) (computed_told ran (with_result outcome bodied_run.results))
+    fills =
+        subst (λ (later : Open). Fills (IsFilledIn g.run g.h before.first after.first) o later r.state (computed_of ran) (computed_told ran (with_result outcome bodied_run.results))) (λ i context key. last_is context key i)
+        (fills_as (IsFilledIn g.run g.h before.first lanes_run.ends.called) (IsFilledIn g.run g.h before.first after.first) o last r.state
+        (computed_in lanes_run.befores + computed_of lanes_run.below + computed_in lanes_run.ends.afters) (opened.called.plain + computed_told lanes_run.below bodied_run.results + called.plain)
+        (computed_of ran) (computed_told ran (with_result outcome bodied_run.results))
+        (λ spot v is filled. filled_first g.run g.h before.first lanes_run.ends.called after.first closing.goes spot filled)
+        (λ spot v is filled. elim (filled_then g.run g.h before.first lanes_run.ends.called after.first to_called.goes spot filled) [
+          | inl early ↦ early
+          | inr late ↦ absurd (closed_fill spot v is late)
+        ]) lanes_computed plain_computed fills_called)
+
     -- ---- all of it
 
     pub container_near : Ends g.plan g.run g.locks g.h g.touched g.changes g.changed g.shares g.node o before ran after r (container_run g.plan (node_run g.plan g.levels) g.node g.path r)
     container_near =
-        let own_less : lanes_run.own.result.node < length r.results = let same = own_node in let few = less in let long = begins.results in omega (arith, same, few, long) in
         let told = near_own g.shares lanes_run.own lanes_run.below r.results bodied_run.results outcome own_told own_less own_apart bodied.told in
         record {
           ends = record {
@@ -526,6 +634,7 @@ module _ (g : Ground) (container : is_some (test_of g.plan g.node) ≡ false) (e
                 sealed_slot g.node called_end.state sealed (plain_seals_places g.node called_end.state) context key (elsewhere context key v is) ∙ since_called.unchanged context key v (open_last context key v off is);
             untouched = untouched;
             told = subst (λ (l : List Ran). AllToldNear g.shares l r.results (with_result outcome bodied_run.results)) (sym lanes_run.ran_are) told;
+            fills = fills;
           };
           under = subst (λ (l : List Ran). (k : ℕ) → HasRun l k → Under (ids g) g.node k) (sym lanes_run.ran_are) under_it;
         }

@@ -18,11 +18,10 @@ use Rattle.ext_one_report.proofs.StandingsWords.{AreMatched}
 use Rattle.ext_one_report.proofs.OnCells.{same_slot}
 use Rattle.ext_one_report.specs.Within.{is_within}
 use Rattle.ext_one_report.proofs.PlainFrames.{IsOpen, LeavesElse}
-use Rattle.ext_one_report.proofs.Open.{Computes, also}
+use Rattle.ext_one_report.proofs.Open.{Computes, also, some_or_none}
 use Rattle.ext_one_report.specs.Shares.{Open}
 use Rattle.ext_one_report.proofs.OpenSteps.{StandsInBoth}
 use Rattle.ext_one_report.proofs.Shared.{unshared}
-use Rattle.ext_one_report.proofs.SharedNodes.{some_or_none}
 use Rattle.ext_one_report.proofs.Levels.{outside}
 use Rattle.ext_one_report.proofs.ChildLists.{among_later, fold_at}
 use Rattle.ext_one_report.proofs.NodePlaces.{and_of, any_of, both_ways, carried, never, or_either, or_first, or_second, within_any}
@@ -174,7 +173,7 @@ module _ (g : Ground) (b : Body g) (each : ChildrenEnd g) (drawn : (after_all g 
         (ap not (off_it c c_in context key was.0 its)) in
         absurd (cc (sym (ends_at.ends.level.matches.unnumbered context key place without) ∙ (ends_at.ends.stand context key was.0 on was.1).plain.there))
 
-    abbrev both_settled : Places
+    abbrev pub both_settled : Places
     both_settled context key = gone.settled context key || ends_at.ends.settled context key
 
     settled_parts : (context : ℕ) (key : KeyValue) → both_settled context key ≡ false → (gone.settled context key ≡ false) × (ends_at.ends.settled context key ≡ false)
@@ -232,11 +231,33 @@ module _ (g : Ground) (b : Body g) (each : ChildrenEnd g) (drawn : (after_all g 
         b.level.matches.unnumbered context key (unshared_is (g.touched g.node) b.o context key (up_to g b c context key c_in (touches g b c context key v is)) (not_open g b context key off)) without;
   }
 
+  -- a child and those before it
+  pub inside : (i : ℕ) → suc i ≤ length (cs g b) → i < length (cs g b)
+  inside i less = omega (arith, less)
+
+  pub earlier : (i : ℕ) → suc i ≤ length (cs g b) → i ≤ length (cs g b)
+  earlier i less = omega (arith, less)
+
+  pub to_all : length (cs g b) ≤ length (cs g b)
+  to_all = omega arith
+
+  gone_next : (i : ℕ) (less : i < length (cs g b)) (gone : Gone g b i (before_it g b i)) → (then : Gone g b (suc i) (before_it g b (suc i))) × (then.settled ≡ both_settled i less gone)
+  unfolding gone_then
+  gone_next i less gone = subst (λ (q : RunState). (then : Gone g b (suc i) q) × (then.settled ≡ both_settled i less gone)) (sym (next i less)) (gone_then i less gone, refl)
+
   pub gone_at : (i : ℕ) → i ≤ length (cs g b) → Gone g b i (before_it g b i)
   gone_at zero less = gone_first
-  gone_at (suc i) less =
-      let within : i < length (cs g b) = omega (arith, less) in
-      subst (λ (q : RunState). Gone g b (suc i) q) (sym (next i within)) (gone_then i within (gone_at i (omega (arith, less))))
+  gone_at (suc i) less = (gone_next i (inside i less) (gone_at i (earlier i less))).0
+
+  -- at first they have settled nothing,
+  pub settled_first : (less : 0 ≤ length (cs g b)) → (gone_at 0 less).settled ≡ (λ context key. false)
+  unfolding gone_at gone_first
+  settled_first less = refl
+
+  -- and with one more child what it has settled
+  pub settled_next : (i : ℕ) (less : suc i ≤ length (cs g b)) → (gone_at (suc i) less).settled ≡ both_settled i (inside i less) (gone_at i (earlier i less))
+  unfolding gone_at
+  settled_next i less = (gone_next i (inside i less) (gone_at i (earlier i less))).1
 
   -- each of them ends near
   pub ended_near : (i : ℕ) → i < length (cs g b) → Ends g.plan g.run g.locks g.h g.touched g.changes g.changed g.shares (child_at g b i) (open_of g b (child_at g b i)) (s_of g b i) (ran_at g b i) (u_of g b i) (before_it g b i) (after_it i)

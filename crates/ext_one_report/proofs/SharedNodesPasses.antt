@@ -1,5 +1,5 @@
 -- From one moment of a node's run to a later one: some open places are settled on the way, and the others are left as they were.
-use Rattle.std.proofs.Common.{◌≡◌, ℕ, inl, inr, true, false, not, List, [], None, Some, refl, ap, sym, ◌∙◌, arith}
+use Rattle.std.proofs.Common.{◌≡◌, ℕ, ◌+◌, inl, inr, true, false, not, List, [], None, Some, refl, ap, sym, ◌∙◌, arith}
 use Rattle.std.specs.Prelude.{slice_get}
 use mathlib.Core.List.{IsPrefix}
 use base.Growing.{prefix_trans}
@@ -18,11 +18,13 @@ use Rattle.ext_one_report.proofs.Parts.{no_acts}
 use Rattle.ext_parallel.specs.StoreCalls.{PlanLane}
 use Rattle.ext_plain.specs.ValueStates.{ValueState}
 use Rattle.ext_one_report.proofs.MatchingWords.{HasNumberIn, Places, RunView, cell_of, plain_meaning, plain_slot}
-use Rattle.ext_one_report.proofs.Open.{AreNear, Computes, Stands}
+use Rattle.ext_one_report.proofs.Fills.{Fills, IsFilledIn}
+use Rattle.ext_one_report.proofs.FillsLanes.{filled_first, filled_second, filled_then}
+use Rattle.ext_one_report.proofs.FillsLaws.{fills_then}
+use Rattle.ext_one_report.proofs.Open.{AreNear, Computes, Stands, some_or_none}
 use Rattle.ext_one_report.specs.Shares.{Open}
 use Rattle.ext_one_report.proofs.OpenSteps.{StandsInBoth}
 use Rattle.ext_one_report.proofs.Shared.{unshared}
-use Rattle.ext_one_report.proofs.SharedNodes.{some_or_none}
 use Rattle.ext_one_report.proofs.Levels.{AreLevel}
 use Rattle.ext_one_report.proofs.SharedNodesWords.{AreComputed, AreOwn}
 use Rattle.ext_one_report.proofs.CloseSame.{numbered_or_not}
@@ -136,3 +138,17 @@ module _ (plan : PlanText) (run : RunView) (h : History) (touched : Places) wher
         | inr late ↦ two.untouched context number place key v event is has there on late
       ];
     }
+
+    -- what is filled up to one moment, and then up to another
+    pub fills_pass : (done : List ℕ) (later last : Open) (xs ys zs : List PlanLane) (s t : ValueState) (lanes plain more others : ℕ) → Acts h xs ys → Acts h ys zs → IsPrefix (first_seen zs) h → AreComputed run h o xs zs
+        → ((context : ℕ) (key : KeyValue) (v : ValueText) → last context key ≡ Some v → later context key ≡ Some v) → Passes done o xs s later ys t
+        → Fills (IsFilledIn run h xs ys) o later s lanes plain → Fills (IsFilledIn run h ys zs) later last t more others → Fills (IsFilledIn run h xs zs) o last s (lanes + more) (plain + others)
+    fills_pass done later last xs ys zs s t lanes plain more others first second within computed fewer passes one two =
+        fills_then (IsFilledIn run h xs ys) (IsFilledIn run h ys zs) (IsFilledIn run h xs zs) o later last s t lanes plain more others passes.fewer fewer passes.unchanged
+        (λ spot v is filled. filled_then run h xs ys zs first.goes spot filled) (λ spot filled. filled_first run h xs ys zs second.goes spot filled) (λ spot filled. filled_second run h xs ys zs first.goes spot filled)
+        (λ spot settled filled.
+        let stands = passes.stand spot.0 spot.1 settled.value settled.was_open settled.closed in
+        let seen = second.seen filled.place filled.made in
+        let low = heads_go ys zs second.goes in
+        let same = quiet_from xs ys zs computed (heads_go xs ys first.goes) low within t spot.0 filled.number spot.1 settled.value settled.was_open filled.has stands in
+        none_between h (first_seen ys) (first_seen zs) low within (cell_of run filled.number spot.0) same filled.place filled.event seen.0 seen.1 filled.there (ap place_of filled.act)) one two

@@ -1,5 +1,5 @@
 -- Open places and the others: which of them are touched, which are settled, and where nothing stands in a plain run at a place and above it.
-use Rattle.std.proofs.Common.{◌≡◌, ℕ, ◌⊎◌, inl, inr, Bool, true, false, not, ◌&&◌, List, [], ◌∷◌, Option, None, Some, cond, refl, ap, sym, subst, ◌∙◌}
+use Rattle.std.proofs.Common.{◌≡◌, ℕ, ◌⊎◌, inl, inr, true, false, not, List, [], ◌∷◌, Option, None, Some, cond, refl, ap, sym, subst, ◌∙◌}
 use Rattle.std.specs.Prelude.{All, if◌then◌else◌, is_some, find}
 use Rattle.std.proofs.lemmas.List.Elements.{All-cons, All-head, All-nil, All-tail}
 use Rattle.ext_history.proofs.Lists.{bools}
@@ -14,10 +14,10 @@ use Rattle.ext_one_report.proofs.MatchingWords.{Places, TextMeaning, plain_slot}
 use Rattle.ext_one_report.proofs.StandingsWords.{AreMatched, standing_of, value, value_stands}
 use Rattle.ext_one_report.proofs.Standings.{Holds, holds}
 use Rattle.ext_one_report.specs.Shares.{Open, SharesNothing}
-use Rattle.ext_one_report.proofs.Open.{StandsOrNot, Stands, still_open}
+use Rattle.ext_one_report.proofs.ComputedAbove.{all_clear}
+use Rattle.ext_one_report.proofs.Open.{Stands, StandsOrNot, some_or_none, still_open}
 use Rattle.ext_one_report.proofs.Shared.{unshared}
-use Rattle.ext_one_report.proofs.SharedNodes.{some_or_none}
-use Rattle.ext_one_report.proofs.NodePlaces.{and_both, and_of}
+use Rattle.ext_one_report.proofs.NodePlaces.{and_of}
 
 pub not_both : {A : Type 0} (o : Option ValueText) (v : ValueText) → o ≡ None → o ≡ Some v → A
 not_both o v none some = absurd (cc (sym none ∙ some))
@@ -48,6 +48,9 @@ unshared_all touched o none = λ i context key. unshared touched (λ c k. none c
 pub still_none : (settled : Places) (o : Open) (context : ℕ) (key : KeyValue) → settled context key ≡ true → still_open settled o context key ≡ None
 still_none settled o context key on = ap (λ b. if b then None else o context key) on
 
+pub still_is : (settled : Places) (o : Open) (context : ℕ) (key : KeyValue) (v : ValueText) → settled context key ≡ false → o context key ≡ Some v → still_open settled o context key ≡ Some v
+still_is settled o context key v off is = ap (λ b. if b then None else o context key) off ∙ is
+
 pub still_parts : (settled : Places) (o : Open) (context : ℕ) (key : KeyValue) (v : ValueText) → still_open settled o context key ≡ Some v → (settled context key ≡ false) × (o context key ≡ Some v)
 still_parts settled o context key v is = elim (bools (settled context key)) [
   | inl on ↦ not_both (still_open settled o context key) v (still_none settled o context key on) is
@@ -62,23 +65,8 @@ still_cases settled o context key none = elim (bools (settled context key)) [
 
 -- ---- where nothing stands
 
-clear_none : (x : Option Slot) → not (is_some x) ≡ true → x ≡ None
-clear_none None is = refl
-clear_none (Some x) is = absurd (cc is)
-
 none_clear : (x : Option Slot) → x ≡ None → not (is_some x) ≡ true
 none_clear x none = ap (λ y. not (is_some y)) none
-
--- in the plain run nothing stands under the key in these contexts
-abbrev pub all_clear : ValueState → List ℕ → KeyValue → Bool
-all_clear s [] key = true
-all_clear s (context ∷ path) key = not (is_some (plain_slot s context key)) && all_clear s path key
-
-pub clear_is : (s : ValueState) (path : List ℕ) (key : KeyValue) → all_clear s path key ≡ true → All (λ c. plain_slot s c key ≡ None) path
-clear_is s [] key is = All-nil (λ c. plain_slot s c key ≡ None)
-clear_is s (context ∷ path) key is =
-    let parts = and_both (not (is_some (plain_slot s context key))) (all_clear s path key) is in
-    All-cons (λ c. plain_slot s c key ≡ None) context path (clear_none (plain_slot s context key) parts.0) (clear_is s path key parts.1)
 
 pub is_clear_there : (s : ValueState) (path : List ℕ) (key : KeyValue) → All (λ c. plain_slot s c key ≡ None) path → all_clear s path key ≡ true
 is_clear_there s [] key none = refl

@@ -1,4 +1,4 @@
--- The runs of the concurrent children of a container, one of each: what the container's lanes make meanwhile, one of these runs made.
+-- The runs of the concurrent children of a container, one of each: what the container's lanes make meanwhile, one of these runs made, and no other.
 use Rattle.std.proofs.Common.{◌≡◌, inl, inr, ℕ, ◌<◌, min, List, [], ◌∷◌, length, map, ap, refl, subst}
 use Rattle.std.specs.Prelude.{All, Some, slice_get, slice_index_or}
 use mathlib.Core.List.{IsPrefix}
@@ -17,6 +17,7 @@ use Rattle.ext_engine.proofs.Going.{all_met, children_dealt_go}
 use Rattle.ext_engine.proofs.Order.{came_from, children_within, run-inside}
 use Rattle.ext_one_report.proofs.Bodies.{first_has_seen, some_lanes}
 use Rattle.ext_one_report.proofs.Containers.{Tree, at, go}
+use Rattle.ext_one_report.proofs.LanesApart.{AreApart, apart_before, apart_left, apart_taken, made_first, made_later}
 use Rattle.ext_one_report.proofs.Parts.{first_within}
 use Rattle.ext_one_report.proofs.SharedNodesDealt.{AreRuns, dealt_runs}
 
@@ -45,10 +46,10 @@ module _ {V : Type 0} (L : StoreLane V → Type 0) (earlier : (a b : StoreLane V
 
 -- ---- bodies
 
--- `L` is so of the lanes in the end, and so of each before
+-- `L` is so of the lanes in the end, and so of each before; no two of them have one number
 module _ {V A : Type 0} (t : TreeSetting V A) (moves : CallsGoOn t.call_gives) (h : History) (depth node : ℕ) (opened : Lanes V) (below : List Ran) (after : Lanes V)
     (body : BodyRun t (ChildRun t depth) node opened below after) (within : All (HasSeenWithin h) body.joined)
-    (L : StoreLane V → Type 0) (earlier : (a b : StoreLane V) → LaneGoesOn a b → L b → L a) (known : All L body.joined) where
+    (L : StoreLane V → Type 0) (earlier : (a b : StoreLane V) → LaneGoesOn a b → L b → L a) (known : All L body.joined) (differ : AreApart body.joined) where
   abbrev pub cs : List ℕ
   cs = concurrent_children t node
 
@@ -67,9 +68,7 @@ module _ {V A : Type 0} (t : TreeSetting V A) (moves : CallsGoOn t.call_gives) (
     pub run : ChildRun t depth (child i) s ran u
     pub inside : IsWithin since until s u
     pub lanes : All L u.first
-
-  pub goes : (i : ℕ) (s : Lanes V) (ran : List Ran) (u : Lanes V) → Job i s ran u → AllGoOn s.first u.first
-  goes i s ran u r = go t moves h depth (child i) s ran u r.run
+    pub apart : AreApart u.first
 
   abbrev Known : ℕ → Lanes V → List Ran → Lanes V → Type 0
   Known i s ran u = (slice_get body.beside i ≡ Some ran) × (ChildRun t depth (child i) s ran u × IsWithin since until s u)
@@ -88,14 +87,26 @@ module _ {V A : Type 0} (t : TreeSetting V A) (moves : CallsGoOn t.call_gives) (
       let workers = min (length body.forked) (length cs) in
       let forked = with_lanes body.forked opened in
       let each = standing _ (length cs) workers forked body.between body.beside (children_within t (ChildRun t depth) (go t moves h depth) node opened below after body) in
-      let Ls : Lanes V → Type 0 = λ s. All L s.first in
+      let Ls : Lanes V → Type 0 = λ s. All L s.first × AreApart s.first in
       let all = run-inside Known (λ s. Unit {0}) Ls (λ i s ran u r k. tt)
-      (λ i s ran u r l. all_earlier L earlier s.first u.first (go t moves h depth (child i) s ran u r.1.0) l) (λ n s k. (tt, tt)) (λ n s l. (All-take L n s.first l, All-drop L n s.first l))
-      (length cs) workers forked body.between body.beside tt (all_earlier L earlier body.between.first body.joined join known) each in
-      run-weaker _ Job all (λ i s ran u r. record { stands = r.0.0; run = r.0.1.0; inside = r.0.1.1; lanes = r.2 })
+      (λ i s ran u r l. let going = go t moves h depth (child i) s ran u r.1.0 in (all_earlier L earlier s.first u.first going l.0, apart_before s.first u.first going l.1)) (λ n s k. (tt, tt))
+      (λ n s l. ((All-take L n s.first l.0, apart_taken n s.first l.1), (All-drop L n s.first l.0, apart_left n s.first l.1)))
+      (length cs) workers forked body.between body.beside tt (all_earlier L earlier body.between.first body.joined join known, apart_before body.between.first body.joined join differ) each in
+      run-weaker _ Job all (λ i s ran u r. record { stands = r.0.0; run = r.0.1.0; inside = r.0.1.1; lanes = r.2.0; apart = r.2.1 })
 
-  pub runs : AreRuns h Job goes [] (length cs) (with_lanes body.forked opened) body.between
-  runs = dealt_runs h Job goes [] (length cs) (min (length body.forked) (length cs)) (with_lanes body.forked opened) body.between body.beside dealt
+  pub until_in : IsPrefix until h
+  until_in = first_within h body.joined within
+
+  ends_in_h : (i : ℕ) (s : Lanes V) (ran : List Ran) (u : Lanes V) → Job i s ran u → All (HasSeenWithin h) u.first
+  ends_in_h i s ran u r = All-weaker (HasSeenWithin until) (HasSeenWithin h) (λ lane l. prefix_trans (seen_by lane.cells.view) until h l until_in) u.first r.inside.ends
+
+  pub acting : (i : ℕ) (s : Lanes V) (ran : List Ran) (u : Lanes V) → Job i s ran u → Acts h s.first u.first
+  acting i s ran u r = at t moves h depth (child i) s ran u r.run (ends_in_h i s ran u r)
+
+  pub runs : AreRuns h Job acting [] (length cs) (with_lanes body.forked opened) body.between
+  runs =
+      dealt_runs h Job acting [] (length cs) (min (length body.forked) (length cs)) (with_lanes body.forked opened) body.between body.beside
+      (apart_before body.forked body.between.first deal (apart_before body.between.first body.joined join differ)) dealt
 
   abbrev pub at_start : ℕ → Lanes V
   at_start i = (runs.run_of i).before
@@ -119,8 +130,14 @@ module _ {V A : Type 0} (t : TreeSetting V A) (moves : CallsGoOn t.call_gives) (
         ]
       ]
 
-  pub until_in : IsPrefix until h
-  until_in = first_within h body.joined within
+  -- and what one of them made, the container's lanes made meanwhile
+  pub made_in : (i place : ℕ) → i < length cs → IsMadeIn h place (at_start i).first (at_end i).first → IsMadeIn h place opened.first body.joined
+  made_in i place less made =
+      made_later h opened.first body.forked body.joined place fork (made_first h body.forked body.between.first body.joined place join (runs.from i place less made))
+
+  -- no event is made by two of them
+  pub one_maker : (i j place : ℕ) → i < length cs → j < length cs → IsMadeIn h place (at_start i).first (at_end i).first → IsMadeIn h place (at_start j).first (at_end j).first → i ≡ j
+  one_maker i j place less below made also = runs.one i j place less below made also
 
   pub lasts : IsPrefix since until
   lasts = prefix_trans since (first_seen body.forked) until (heads_go opened.first body.forked fork)
@@ -131,10 +148,10 @@ module _ {V A : Type 0} (t : TreeSetting V A) (moves : CallsGoOn t.call_gives) (
     job = runs.is_run i less
 
     pub ends_within : All (HasSeenWithin h) (at_end i).first
-    ends_within = All-weaker (HasSeenWithin until) (HasSeenWithin h) (λ lane l. prefix_trans (seen_by lane.cells.view) until h l until_in) (at_end i).first job.inside.ends
+    ends_within = ends_in_h i (at_start i) (ran_of i) (at_end i) job
 
     pub acts : Acts h (at_start i).first (at_end i).first
-    acts = at t moves h depth (child i) (at_start i) (ran_of i) (at_end i) job.run ends_within
+    acts = acting i (at_start i) (ran_of i) (at_end i) job
 
     pub begun : IsPrefix since (first_seen (at_start i).first)
     begun = let lanes = some_lanes t depth (child i) (at_start i) (ran_of i) (at_end i) job.run in first_has_seen since (at_start i).first lanes.0 lanes.1 lanes.2 job.inside.begins

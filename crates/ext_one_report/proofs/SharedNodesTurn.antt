@@ -1,14 +1,16 @@
 -- The other children of a container, one after another: from before one of them to after it, and so for all.
-use Rattle.std.proofs.Common.{◌≡◌, ◌≢◌, ℕ, ◌<◌, inl, inr, true, false, not, List, [], ◌∷◌, None, Some, ap, sym, subst, ◌∙◌}
+use Rattle.std.proofs.Common.{◌≡◌, ◌≢◌, ℕ, ◌+◌, ◌<◌, inl, inr, true, false, not, drop, List, [], ◌∷◌, None, Some, ap, sym, subst, ◌∙◌}
 use Rattle.std.specs.Prelude.{All, Contains, if◌then◌else◌}
 use mathlib.Core.List.{IsPrefix}
 use base.Growing.{prefix_trans}
 use Rattle.std.proofs.lemmas.List.Elements.{All-contains, Contains-get_or}
 use Rattle.ext_history.proofs.Lists.{bools, contains_cons, contains_here, contains_later}
+use Rattle.ext_model.specs.Events.{place_of}
 use Rattle.ext_model.specs.History.{slots_in}
 use Rattle.ext_model.specs.Sizes.{most_numbers}
 use Rattle.ext_tree.specs.Keys.{KeyValue}
 use Rattle.ext_plan.specs.Values.{ValueText}
+use Rattle.ext_races.specs.MadeSteps.{plan_path}
 use Rattle.ext_engine.specs.Meeting.{HasSeenWithin, first_seen}
 use Rattle.ext_engine.specs.Order.{ChildRun}
 use Rattle.ext_engine.specs.TreeRun.{Lanes, Ran}
@@ -26,24 +28,28 @@ use Rattle.ext_one_report.proofs.StandingsWords.{AreMatched}
 use Rattle.ext_one_report.proofs.StepsWords.{IsLaneIn}
 use Rattle.ext_one_report.specs.Within.{is_within}
 use Rattle.ext_one_report.proofs.PlainFrames.{IsOpen, LeavesElse}
-use Rattle.ext_one_report.proofs.Open.{AreNear, StandsOrNot, also, still_open}
+use Rattle.ext_one_report.proofs.Fills.{Fills, IsFilledIn, computed_of, computed_told}
+use Rattle.ext_one_report.proofs.FillsCounts.{fills_wider}
+use Rattle.ext_one_report.proofs.Open.{AreNear, StandsOrNot, also, some_or_none, still_open}
 use Rattle.ext_one_report.specs.Shares.{Open}
 use Rattle.ext_one_report.proofs.Shared.{unshared}
 use Rattle.ext_one_report.proofs.OpenStep.{knows_more, open_value, or_not_more, value_is_open}
-use Rattle.ext_one_report.proofs.SharedNodes.{some_or_none}
 use Rattle.ext_one_report.proofs.Levels.{AreLevel, outside}
 use Rattle.ext_one_report.proofs.SharedNodesWords.{AreComputed, AreOwn, BeginsNear}
 use Rattle.ext_one_report.proofs.ChildLists.{only}
+use Rattle.ext_one_report.proofs.ComputedAbove.{NoneOpenAbove}
 use Rattle.ext_one_report.proofs.NodePlaces.{and_of, any_of, away, away_first, away_from, away_is, both_ways, carried, level_fewer, never, or_first, or_second, within_any}
 use Rattle.ext_one_report.proofs.NodePlain.{IsFine, child_fine, child_leaves}
 use Rattle.ext_one_report.proofs.SharedNodesBasis.{in_plan, made_changes, unchanged, up}
+use Rattle.ext_one_report.proofs.KeptAbove.{fewer_closed}
 use Rattle.ext_one_report.proofs.LanesAlone.{computed_part}
+use Rattle.ext_one_report.proofs.LanesApart.{AreApart, apart_before}
 use Rattle.ext_one_report.proofs.SharedClosesOpen.{computed_fewer}
 use Rattle.ext_one_report.proofs.SharedNodesBeside.{above_same, off_above, off_node}
-use Rattle.ext_one_report.proofs.SharedNodesBody.{ChildrenEnd, Ends, Ground, IsChild, over, path_in, step}
+use Rattle.ext_one_report.proofs.SharedNodesBody.{ChildrenEnd, ClosedFor, Ends, Ground, IsChild, child_stays, closed_child, over, path_in, step}
 use Rattle.ext_one_report.proofs.SharedNodesCells.{near_stay}
-use Rattle.ext_one_report.proofs.SharedNodesPasses.{Passes, computed_between, own_now, passes_then}
-use Rattle.ext_one_report.proofs.SharedNodesPlaces.{not_both, still_cases, still_parts, unshared_is, unshared_parts}
+use Rattle.ext_one_report.proofs.SharedNodesPasses.{Passes, computed_between, fills_pass, own_now, passes_then}
+use Rattle.ext_one_report.proofs.SharedNodesPlaces.{not_both, still_cases, still_none, still_parts, unshared_is, unshared_parts}
 
 -- the open places that are touched
 abbrev pub only_touched : Places → Open → Open
@@ -80,6 +86,9 @@ pub record Whole (g : Ground) : Type 0 where
   pub computed : AreComputed g.run g.h o first last
   pub within : All (HasSeenWithin g.h) last
   pub known : All (IsLaneIn g.run) last
+  pub apart : AreApart last
+  -- what was computed above it is not open
+  pub none_above : NoneOpenAbove g.plan (drop 1 g.path) o
 
 module _ (g : Ground) (w : Whole g) where
   last_in : IsPrefix (first_seen w.last) g.h
@@ -111,11 +120,20 @@ module _ (g : Ground) (w : Whole g) where
       pre.goes acts.goes (prefix_trans (first_seen zs) (first_seen w.last) g.h (heads_go zs w.last post.goes) last_in)
       (computed_part g.h w.first w.first zs w.last (no_acts g.h w.first) (acts_then g.h w.first ys zs pre acts).goes post g.run w.o w.computed) one two
 
+  -- what is filled in a part of its run, and then in the next
+  pub fills_next : (done : List ℕ) (o mid final : Open) (xs ys zs : List PlanLane) (s t : ValueState) (lanes plain more others : ℕ) → Acts g.h w.first xs → Acts g.h xs ys → Acts g.h ys zs → Acts g.h zs w.last
+      → ((context : ℕ) (key : KeyValue) (v : ValueText) → o context key ≡ Some v → w.o context key ≡ Some v) → ((context : ℕ) (key : KeyValue) (v : ValueText) → final context key ≡ Some v → mid context key ≡ Some v)
+      → Passes g.plan g.run g.h (g.touched g.node) done o xs s mid ys t
+      → Fills (IsFilledIn g.run g.h xs ys) o mid s lanes plain → Fills (IsFilledIn g.run g.h ys zs) mid final t more others → Fills (IsFilledIn g.run g.h xs zs) o final s (lanes + more) (plain + others)
+  fills_next done o mid final xs ys zs s t lanes plain more others pre first second post of fewer passes one two =
+      fills_pass g.plan g.run g.h (g.touched g.node) g.basis.legal o (λ context key v is. open_touched context key v (of context key v is)) done mid final xs ys zs s t lanes plain more others first second
+      (prefix_trans (first_seen zs) (first_seen w.last) g.h (heads_go zs w.last post.goes) last_in) (computed_then o xs zs pre (acts_then g.h xs ys zs first second) post of) fewer passes one two
+
   -- ---- one child
 
   module _ (each : ChildrenEnd g) (c : ℕ) (parent : IsChild g c) (before : List ℕ) (others : (x : ℕ) → Contains before x → IsChild g x × (x ≢ c)) (o : Open) (s : Lanes StoredValue) (ran : List Ran) (m : Lanes StoredValue) (r : RunState)
       (child : ChildRun (over g) g.depth c s ran m) (m_within : All (HasSeenWithin g.h) m.first) (m_known : All (IsLaneIn g.run) m.first) (pre : Acts g.h w.first s.first) (acts : Acts g.h s.first m.first)
-      (post : Acts g.h m.first w.last) (fine : IsFine g.plan r) (since : Since before o s.first r.state) (drawn : (step g r c).state.store.drawn < most_numbers g.plan.size) where
+      (post : Acts g.h m.first w.last) (fine : IsFine g.plan r) (since : Since before o s.first r.state) (drawn : (step g r c).state.store.drawn < most_numbers g.plan.size) (closed : ClosedFor g o r) where
     abbrev oc : Open
     oc = only_touched (g.touched c) o
 
@@ -145,9 +163,10 @@ module _ (g : Ground) (w : Whole g) where
     begins_c = record {
       within = m_within;
       lanes = m_known;
+      apart = apart_before m.first w.last post.goes w.apart;
       open_is = λ context key v is.
           let parts = touched_parts (g.touched c) o context key v is in
-          g.basis.shared.below g.node c context key v parent (among_c context key v parts.1) parts.0;
+          g.basis.shared.below g.node c context key v parent (among_c context key v parts.1) parts.0 (λ computed. not_both (o context key) v (closed.none context key computed) parts.1);
       own = record {
         own = λ context number place key event is has seen there on.
             let parts = unshared_parts (g.touched c) oc context key is in
@@ -166,6 +185,7 @@ module _ (g : Ground) (w : Whole g) where
           drawn = since.near.numbered.drawn;
         };
       };
+      closed = closed_child g c oc r parent (fewer_closed g.plan (plan_path g.plan g.node) o oc r.state (λ context key v is. (touched_parts (g.touched c) o context key v is).1) closed);
       results = fine.count;
     }
 
@@ -183,6 +203,11 @@ module _ (g : Ground) (w : Whole g) where
 
     fine_c : IsFine g.plan (step g r c)
     fine_c = child_fine g.plan g.touched g.changes g.basis.read g.basis.covered g.levels g.node g.path (path_in g) r c parent fine
+
+    -- what was computed above it stands behind it too
+    pub closed_c : ClosedFor g later_c (step g r c)
+    closed_c =
+        fewer_closed g.plan (plan_path g.plan g.node) o later_c (step g r c).state (λ context key v is. (still_parts settled o context key v is).1) (child_stays g c o r parent closed)
 
     -- what it settles it touches, and was open
     settled_was : (context : ℕ) (key : KeyValue) → settled context key ≡ true → (v : ValueText) × (g.touched c context key ≡ true) × (o context key ≡ Some v)
@@ -207,14 +232,14 @@ module _ (g : Ground) (w : Whole g) where
       parts : (g.touched g.node context key ≡ true) × (later_c context key ≡ None)
       parts = unshared_parts (g.touched g.node) later_c context key (away_first g.plan (c ∷ before) (unshared (g.touched g.node) later_c) context key is)
 
-      closed : o context key ≡ None
-      closed = elim (still_cases settled o context key parts.1) [
+      was_closed : o context key ≡ None
+      was_closed = elim (still_cases settled o context key parts.1) [
         | inl on ↦ both_ways (g.touched c context key) (settled_was context key on).1 not_touched
         | inr not_settled ↦ not_settled.1
       ]
 
       place : away g.plan before (unshared (g.touched g.node) o) context key ≡ true
-      place = away_is g.plan before (unshared (g.touched g.node) o) context key (unshared_is (g.touched g.node) o context key parts.0 closed)
+      place = away_is g.plan before (unshared (g.touched g.node) o) context key (unshared_is (g.touched g.node) o context key parts.0 was_closed)
           (λ x there within. away_from g.plan (c ∷ before) (unshared (g.touched g.node) later_c) context key is x (contains_later c before x there) within)
 
       off : g.changes c context key ≡ false
@@ -226,7 +251,7 @@ module _ (g : Ground) (w : Whole g) where
       quiet : (number : ℕ) → HasNumberIn g.run key number → events_at (cell_of g.run number context) (first_seen m.first) ≡ events_at (cell_of g.run number context) (first_seen s.first)
       quiet number has =
           same_there g.h (first_seen s.first) (first_seen m.first) (cell_of g.run number context) (heads_go s.first m.first acts.goes) (first_within g.h m.first m_within) (λ event_place event low high there on.
-          let made = own_c.own context number event_place key event (unshared_is (g.touched g.node) o context key parts.0 closed) has (record { since = low; until = high }) there on in
+          let made = own_c.own context number event_place key event (unshared_is (g.touched g.node) o context key parts.0 was_closed) has (record { since = low; until = high }) there on in
           both_ways (g.changes c context key)
           (made_changes g.plan g.run g.locks g.h g.touched g.changes g.changed g.shares g.basis g.depth c s ran m child m_within context number event_place key event (g.basis.covered.within g.node context key parts.0) has there on made) off)
 
@@ -329,7 +354,7 @@ module _ (g : Ground) (w : Whole g) where
       };
     }
 
-    passes_c : Passes g.plan g.run g.h (g.touched g.node) (c ∷ before) o s.first r.state later_c m.first (step g r c).state
+    pub passes_c : Passes g.plan g.run g.h (g.touched g.node) (c ∷ before) o s.first r.state later_c m.first (step g r c).state
     passes_c = record {
       fewer = λ context key v is. (still_parts settled o context key v is).1;
       level = level_c;
@@ -349,3 +374,28 @@ module _ (g : Ground) (w : Whole g) where
     pub since_c : Since (c ∷ before) later_c m.first (step g r c).state
     since_c = since_then before (c ∷ before) o later_c s.first m.first r.state (step g r c).state (λ x there. (others x there).0)
         (λ x there. elim (contains_cons c before x there) [ inl same ↦ subst (IsChild g) same parent | inr early ↦ (others x early).0 ]) pre acts post since passes_c
+
+    -- it fills no other open places than those that it touches
+    pub fills_c : Fills (IsFilledIn g.run g.h s.first m.first) o later_c r.state (computed_of ran) (computed_told ran (step g r c).results)
+    fills_c =
+        fills_wider (IsFilledIn g.run g.h s.first m.first) oc o (still_open settled oc) later_c r.state (computed_of ran) (computed_told ran (step g r c).results)
+        (λ spot is. record {
+          value = is.value;
+          was_open = (touched_parts (g.touched c) o spot.0 spot.1 is.value is.was_open).1;
+          closed = elim (still_cases settled oc spot.0 spot.1 is.closed) [
+            | inl on ↦ still_none settled o spot.0 spot.1 on
+            | inr none ↦ not_both (oc spot.0 spot.1) is.value none.1 is.was_open
+          ];
+        })
+        (λ spot is. elim (still_cases settled o spot.0 spot.1 is.closed) [
+          | inl on ↦ record {
+            value = is.value;
+            was_open = touched_open (g.touched c) o spot.0 spot.1 is.value (settled_was spot.0 spot.1 on).1 is.was_open;
+            closed = still_none settled oc spot.0 spot.1 on;
+          }
+          | inr none ↦ not_both (o spot.0 spot.1) is.value none.1 is.was_open
+        ])
+        (λ spot v is filled.
+        let ch = made_changes g.plan g.run g.locks g.h g.touched g.changes g.changed g.shares g.basis g.depth c s ran m child m_within spot.0 filled.number filled.place spot.1 filled.event
+        (g.basis.covered.within g.node spot.0 spot.1 (touched_node spot.0 spot.1 v is)) filled.has filled.there (ap place_of filled.act) filled.made in
+        (v, touched_open (g.touched c) o spot.0 spot.1 v (g.basis.covered.touches c spot.0 spot.1 ch) is)) ends_c.ends.fills

@@ -1,11 +1,14 @@
 -- All children of a container, on the lanes and in the plain run: the concurrent ones, and then the others.
-use Rattle.std.proofs.Common.{◌≡◌, ◌≢◌, ℕ, ◌<◌, ◌≤◌, inl, inr, List, [], ◌∷◌, ◌++◌, map, ap, sym, subst, ◌∙◌, arith}
+use Rattle.std.proofs.Common.{◌≡◌, ◌≢◌, ℕ, ◌<◌, ◌≤◌, inl, inr, ◌+◌, List, [], ◌∷◌, ◌++◌, length, map, Some, refl, ap, sym, subst, ◌∙◌, arith}
 use Rattle.std.specs.Prelude.{All, Contains}
 use Rattle.std.specs.List.{FoldsTo, flat_map}
 use Rattle.std.proofs.lemmas.List.Elements.{Contains-get_or}
 use Rattle.ext_history.proofs.Lists.{contains_cons, contains_here, contains_later, contains_none}
 use Rattle.ext_history.proofs.Once.{Once}
 use Rattle.ext_model.specs.Sizes.{most_numbers}
+use Rattle.ext_tree.specs.Keys.{KeyValue}
+use Rattle.ext_plan.specs.Values.{ValueText}
+use Rattle.ext_races.specs.MadeSteps.{plan_path}
 use Rattle.ext_engine.specs.RunLaws.{HasRun}
 use Rattle.ext_engine.specs.Meeting.{HasSeenWithin, first_seen}
 use Rattle.ext_engine.specs.Order.{CallsGoOn, ChildRun}
@@ -26,31 +29,36 @@ use Rattle.ext_one_report.proofs.Shared.{unshared}
 use Rattle.ext_one_report.proofs.SharedNodesWords.{AllToldNear}
 use Rattle.ext_one_report.proofs.ChildLists.{once-apart, once-right, only}
 use Rattle.ext_one_report.proofs.NodePlaces.{away, away_is, level_fewer}
+use Rattle.ext_one_report.proofs.KeptAbove.{fewer_closed}
 use Rattle.ext_one_report.proofs.LanesAlone.{lanes_in, view_moves}
+use Rattle.ext_one_report.proofs.LanesApart.{apart_before}
 use Rattle.ext_one_report.proofs.NodePlain.{IsFine, child_fine, children_fine, children_leave}
-use Rattle.ext_one_report.proofs.SharedNodesBasis.{plan_tree}
-use Rattle.ext_one_report.proofs.Below.{TellsBelow, all_below, none_below, one_below, then_below}
+use Rattle.ext_one_report.proofs.SharedNodesPasses.{Passes}
+use Rattle.ext_one_report.proofs.Below.{all_below, none_below, one_below, then_below}
+use Rattle.ext_one_report.proofs.Fills.{Fills, IsFilledIn, computed_of, computed_told}
+use Rattle.ext_one_report.proofs.FillsCounts.{fills_counted, of_both}
+use Rattle.ext_one_report.proofs.FillsLanes.{none_filled}
+use Rattle.ext_one_report.proofs.FillsLaws.{fills_none}
+use Rattle.ext_one_report.proofs.SharedNodesCounts.{Below, counted_all, told_first_then, tree_is}
 use Rattle.ext_one_report.proofs.SharedNodesBeside.{beside_passes, later}
-use Rattle.ext_one_report.proofs.SharedNodesBody.{Body, ChildrenEnd, Ground, IsChild, after_all, all_once, beside_child, beside_ones, ids, job_at, over, path_in, ran_at, step, turn_child, turn_ones}
+use Rattle.ext_one_report.proofs.SharedNodesBody.{Body, ChildrenEnd, ClosedFor, Ground, IsChild, after_all, all_once, beside_child, beside_ones, children_stay, ids, job_at, over, path_in, ran_at, step, turn_child, turn_ones}
+use Rattle.ext_one_report.proofs.SharedNodesFills.{beside_fills, first_computed, first_told}
 use Rattle.ext_one_report.proofs.SharedNodesGone.{ended_near}
 use Rattle.ext_one_report.proofs.SharedNodesBegins.{once_beside}
 use Rattle.ext_one_report.proofs.SharedNodesTold.{near_none, near_then}
-use Rattle.ext_one_report.proofs.SharedNodesTurn.{Since, Whole, computed_then, ends_c, own_then, since_c, since_then}
+use Rattle.ext_one_report.proofs.SharedNodesTurn.{Since, Whole, closed_c, computed_then, ends_c, fills_c, fills_next, own_then, passes_c, since_c, since_then}
 
 module _ (g : Ground) where
-  -- what is told of nodes below these children
-  abbrev pub Below : List ℕ → List Ran → RunState → RunState → Type 0
-  Below children ran a b =
-      TellsBelow (ids g) (plan_tree g.plan g.run g.locks g.h g.touched g.changes g.changed g.shares g.basis) g.node (λ r child. node_run g.plan g.levels (child ∷ g.path) r) (AllToldNear g.shares) (near_none g.shares) (near_then g.shares) children ran a b
-
   module _ (w : Whole g) (each : ChildrenEnd g) where
-    -- what these children leave, that have run up to these lanes and this state
-    pub record Turned (children : List ℕ) (ran : List Ran) (ys : List PlanLane) (a b : RunState) : Type 0 where
+    -- what these children leave, that have run from these lanes and this state, where these places were open, up to those
+    pub record Turned (children : List ℕ) (ran : List Ran) (o : Open) (xs ys : List PlanLane) (a b : RunState) : Type 0 where
       pub done : List ℕ
       pub are : (x : ℕ) → Contains done x → IsChild g x
       pub open_still : Open
+      pub fewer : (context : ℕ) (key : KeyValue) (v : ValueText) → open_still context key ≡ Some v → o context key ≡ Some v
       pub since : Since g w done open_still ys b.state
-      pub below : Below children ran a b
+      pub below : Below g children ran a b
+      pub fills : Fills (IsFilledIn g.run g.h xs ys) o open_still a.state (computed_of ran) (computed_told ran b.results)
 
     going : CallsGoOn (over g).call_gives
     going = view_moves g.plan g.run
@@ -61,28 +69,44 @@ module _ (g : Ground) where
     all_leave_drawn : (xs : List ℕ) (r : RunState) → All (IsChild g) xs → IsFine g.plan r → r.state.store.drawn ≤ (after_all g r xs).state.store.drawn
     all_leave_drawn xs r children fine = (children_leave g.plan g.touched g.changes g.basis.read g.basis.covered g.levels g.node g.path (path_in g) xs r children fine).drawn
 
-    -- what is told of one child and of those behind it
-    told_on : (c : ℕ) (rest : List ℕ) (ran more : List Ran) (r : RunState) → IsChild g c → ((x : ℕ) → Contains rest x → IsChild g x) → (Contains rest c → ⊥) → AllToldNear g.shares ran r.results (step g r c).results
-        → ((k : ℕ) → HasRun ran k → Under (ids g) c k) → Below rest more (step g r c) (after_all g (step g r c) rest) → Below (c ∷ rest) (ran ++ more) r (after_all g (step g r c) rest)
-    told_on c rest ran more r parent children once told under behind =
-        let tree = plan_tree g.plan g.run g.locks g.h g.touched g.changes g.changed g.shares g.basis in
-        then_below (ids g) tree g.node (λ r child. node_run g.plan g.levels (child ∷ g.path) r) (AllToldNear g.shares) (near_none g.shares) (near_then g.shares) (c ∷ []) rest ran more r (step g r c) (after_all g (step g r c) rest)
-        (λ x there. subst (IsChild g) (only c x there) parent) children (λ x there also. once (subst (Contains rest) (sym (only c x there)) also))
-        (one_below (ids g) tree g.node (λ r child. node_run g.plan g.levels (child ∷ g.path) r) (AllToldNear g.shares) (near_none g.shares) (near_then g.shares) c ran r (step g r c) told under) behind
+    -- what is told of one child,
+    told_one : (c : ℕ) (ran : List Ran) (r : RunState) → AllToldNear g.shares ran r.results (step g r c).results → ((k : ℕ) → HasRun ran k → Under (ids g) c k) → Below g (c ∷ []) ran r (step g r c)
+    told_one c ran r told under =
+        one_below (ids g) (tree_is g) g.node (λ r child. node_run g.plan g.levels (child ∷ g.path) r) (AllToldNear g.shares) (near_none g.shares) (near_then g.shares) c ran r (step g r c) told under
+
+    -- and of some children and then others, and how many values they filled and computed
+    told_then : (xs ys : List ℕ) (first second : List Ran) (a b c : RunState) → ((x : ℕ) → Contains xs x → IsChild g x) → ((x : ℕ) → Contains ys x → IsChild g x) → ((x : ℕ) → Contains xs x → Contains ys x → ⊥)
+        → Below g xs first a b → Below g ys second b c → Below g (xs ++ ys) (first ++ second) a c
+    told_then xs ys first second a b c xs_children ys_children apart one two =
+        then_below (ids g) (tree_is g) g.node (λ r child. node_run g.plan g.levels (child ∷ g.path) r) (AllToldNear g.shares) (near_none g.shares) (near_then g.shares) xs ys first second a b c xs_children ys_children apart one two
+
+    filled_then : (cs ds : List ℕ) (first second : List Ran) (a b c : RunState) → ((x : ℕ) → Contains cs x → IsChild g x) → ((x : ℕ) → Contains ds x → IsChild g x) → ((x : ℕ) → Contains cs x → Contains ds x → ⊥)
+        → Below g cs first a b → Below g ds second b c → (done : List ℕ) (o mid last : Open) (xs ys zs : List PlanLane) → Acts g.h w.first xs → Acts g.h xs ys → Acts g.h ys zs → Acts g.h zs w.last
+        → ((context : ℕ) (key : KeyValue) (v : ValueText) → o context key ≡ Some v → w.o context key ≡ Some v) → ((context : ℕ) (key : KeyValue) (v : ValueText) → last context key ≡ Some v → mid context key ≡ Some v)
+        → Passes g.plan g.run g.h (g.touched g.node) done o xs a.state mid ys b.state → Fills (IsFilledIn g.run g.h xs ys) o mid a.state (computed_of first) (computed_told first b.results)
+        → Fills (IsFilledIn g.run g.h ys zs) mid last b.state (computed_of second) (computed_told second c.results)
+        → Fills (IsFilledIn g.run g.h xs zs) o last a.state (computed_of (first ++ second)) (computed_told (first ++ second) c.results)
+    filled_then cs ds first second a b c cs_children ds_children apart one two done o mid last xs ys zs pre go onward post of fewer passes fills others =
+        fills_counted (IsFilledIn g.run g.h xs zs) o last a.state (computed_of first + computed_of second) (computed_told first b.results + computed_told second c.results) (computed_of (first ++ second))
+        (computed_told (first ++ second) c.results) (sym (of_both first second)) (sym (told_first_then g cs ds first second a b c cs_children ds_children apart one two))
+        (fills_next g w done o mid last xs ys zs a.state b.state (computed_of first) (computed_told first b.results) (computed_of second) (computed_told second c.results) pre go onward post of fewer passes fills others)
 
     turns : (entries : List Entry) (before : List ℕ) (o : Open) (s u : Lanes StoredValue) (r : RunState) → FoldsTo (λ s d u. Run d.0 s d.1 u) s entries u
         → ((x : ℕ) → Contains (map (λ e. e.0) entries) x → Contains (turn_ones g) x) → Once (map (λ e. e.0) entries) → ((x : ℕ) → Contains before x → IsChild g x)
         → ((x : ℕ) → Contains before x → Contains (map (λ e. e.0) entries) x → ⊥) → All (IsLaneIn g.run) u.first → All (HasSeenWithin g.h) u.first → Acts g.h w.first s.first → Acts g.h u.first w.last → IsFine g.plan r
-        → Since g w before o s.first r.state → (after_all g r (map (λ e. e.0) entries)).state.store.drawn < most_numbers g.plan.size
-        → Turned (map (λ e. e.0) entries) (flat_map (λ e. e.1) entries) u.first r (after_all g r (map (λ e. e.0) entries))
-    turns [] before o s u r same in_turn once are apart known within pre post fine since drawn = record {
+        → Since g w before o s.first r.state → ClosedFor g o r → (after_all g r (map (λ e. e.0) entries)).state.store.drawn < most_numbers g.plan.size
+        → Turned (map (λ e. e.0) entries) (flat_map (λ e. e.1) entries) o s.first u.first r (after_all g r (map (λ e. e.0) entries))
+    turns [] before o s u r same in_turn once are apart known within pre post fine since closed drawn = record {
       done = before;
       are = are;
       open_still = o;
+      fewer = λ context key v is. is;
       since = subst (λ (x : Lanes StoredValue). Since g w before o x.first r.state) same since;
-      below = none_below (ids g) (plan_tree g.plan g.run g.locks g.h g.touched g.changes g.changed g.shares g.basis) g.node (λ r child. node_run g.plan g.levels (child ∷ g.path) r) (AllToldNear g.shares) (near_none g.shares) (near_then g.shares) r;
+      below = none_below (ids g) (tree_is g) g.node (λ r child. node_run g.plan g.levels (child ∷ g.path) r) (AllToldNear g.shares) (near_none g.shares) (near_then g.shares) r;
+      fills = subst (λ (x : Lanes StoredValue). Fills (IsFilledIn g.run g.h s.first x.first) o o r.state 0 0) same
+          (fills_none (IsFilledIn g.run g.h s.first s.first) o r.state 0 (λ spot v is filled. none_filled g.run g.h s.first spot filled));
     }
-    turns (e ∷ entries) before o s u r runs in_turn once are apart known within pre post fine since drawn =
+    turns (e ∷ entries) before o s u r runs in_turn once are apart known within pre post fine since closed drawn =
         let c = e.0 in
         let rest = map (λ (e : Entry). e.0) entries in
         let m = runs.0 in
@@ -98,27 +122,39 @@ module _ (g : Ground) where
         let fine_m = child_fine g.plan g.touched g.changes g.basis.read g.basis.covered g.levels g.node g.path (path_in g) r c parent fine in
         let more_drawn = all_leave_drawn rest (step g r c) rest_children fine_m in
         let few : (step g r c).state.store.drawn < most_numbers g.plan.size = omega (arith, more_drawn, drawn) in
-        let end = ends_c g w each c parent before others o s e.1 m r runs.1 m_within m_known pre acts post_m fine since few in
-        let since_m = since_c g w each c parent before others o s e.1 m r runs.1 m_within m_known pre acts post_m fine since few in
+        let end = ends_c g w each c parent before others o s e.1 m r runs.1 m_within m_known pre acts post_m fine since few closed in
+        let since_m = since_c g w each c parent before others o s e.1 m r runs.1 m_within m_known pre acts post_m fine since few closed in
+        let closed_m = closed_c g w each c parent before others o s e.1 m r runs.1 m_within m_known pre acts post_m fine since few closed in
         let more = turns entries (c ∷ before) _ m u (step g r c) runs.2 (λ x there. in_turn x (contains_later c rest x there)) once.1
         (λ x there. elim (contains_cons c before x there) [ inl same ↦ subst (IsChild g) same parent | inr early ↦ are x early ])
         (λ x there also. elim (contains_cons c before x there) [
           | inl same ↦ once.0 (subst (Contains rest) (sym same) also)
           | inr early ↦ apart x early (contains_later c rest x also)
-        ]) known within (acts_then g.h w.first s.first m.first pre acts) post fine_m since_m drawn in
+        ]) known within (acts_then g.h w.first s.first m.first pre acts) post fine_m since_m closed_m drawn in
+        let passes = passes_c g w each c parent before others o s e.1 m r runs.1 m_within m_known pre acts post_m fine since few closed in
+        let fills = fills_c g w each c parent before others o s e.1 m r runs.1 m_within m_known pre acts post_m fine since few closed in
+        let last = after_all g (step g r c) rest in
+        let behind = flat_map (λ (e : Entry). e.1) entries in
+        let it_child : (x : ℕ) → Contains (c ∷ []) x → IsChild g x = λ x there. subst (IsChild g) (only c x there) parent in
+        let behind_children : (x : ℕ) → Contains rest x → IsChild g x = λ x there. turn_child g x (in_turn x (contains_later c rest x there)) in
+        let differ : (x : ℕ) → Contains (c ∷ []) x → Contains rest x → ⊥ = λ x there also. once.0 (subst (Contains rest) (sym (only c x there)) also) in
+        let one = told_one c e.1 r end.ends.told end.under in
         record {
           done = more.done;
           are = more.are;
           open_still = more.open_still;
+          fewer = λ context key v is. passes.fewer context key v (more.fewer context key v is);
           since = more.since;
-          below = told_on c rest e.1 (flat_map (λ e. e.1) entries) r parent (λ x there. turn_child g x (in_turn x (contains_later c rest x there))) once.0 end.ends.told end.under more.below;
+          below = told_then (c ∷ []) rest e.1 behind r (step g r c) last it_child behind_children differ one more.below;
+          fills = filled_then (c ∷ []) rest e.1 behind r (step g r c) last it_child behind_children differ one more.below (c ∷ before) o _ more.open_still s.first m.first u.first pre acts later_acts post
+              since.fewer more.fewer passes fills more.fills;
         }
 
     -- ---- the body
 
     module _ (opened : Lanes StoredValue) (below : List Ran) (after : Lanes StoredValue) (body : BodyRun (over g) (ChildRun (over g) g.depth) g.node opened below after) (known : All (IsLaneIn g.run) after.first)
         (within : All (HasSeenWithin g.h) after.first) (pre : Acts g.h w.first opened.first) (post : Acts g.h after.first w.last) (o : Open) (r : RunState) (fine : IsFine g.plan r) (since : Since g w [] o opened.first r.state)
-        (drawn : (after_all g (after_all g r (beside_ones g)) (turn_ones g)).state.store.drawn < most_numbers g.plan.size) where
+        (closed : ClosedFor g o r) (drawn : (after_all g (after_all g r (beside_ones g)) (turn_ones g)).state.store.drawn < most_numbers g.plan.size) where
       joined_within : All (HasSeenWithin g.h) body.joined
       joined_within = turned_within (over g) going g.h (Tree (over g) going g.h g.depth) (go (over g) going g.h g.depth) (at (over g) going g.h g.depth) g.node opened below after body within
 
@@ -146,6 +182,7 @@ module _ (g : Ground) where
         body = body;
         within = joined_within;
         known = joined_known;
+        apart = apart_before body.joined w.last since_joined.goes w.apart;
         o = o;
         among = λ context key v is. w.among context key v (since.fewer context key v is);
         own = own_then g w [] o opened.first body.joined r.state pre beside_acts since_joined since;
@@ -155,6 +192,7 @@ module _ (g : Ground) where
         level = level_fewer g.plan g.run (away g.plan [] (unshared (g.touched g.node) o)) (unshared (g.touched g.node) o) (first_seen opened.first) r.state
             (λ context key is. away_is g.plan [] (unshared (g.touched g.node) o) context key is (λ x there inside. contains_none x there)) since.level;
         near = since.near;
+        closed = closed;
       }
 
       turn_children : All (IsChild g) (turn_ones g)
@@ -172,30 +210,54 @@ module _ (g : Ground) where
       since_mid : Since g w (beside_ones g) (later g its each few) body.joined mid.state
       since_mid = since_then g w [] (beside_ones g) o (later g its each few) opened.first body.joined r.state mid.state (λ x there. absurd (contains_none x there)) (beside_child g) pre beside_acts since_joined since (beside_passes g its each few)
 
-      told_mid : Below (beside_ones g) (flat_map (λ ran. ran) body.beside) r mid
+      closed_mid : ClosedFor g (later g its each few) mid
+      closed_mid =
+          fewer_closed g.plan (plan_path g.plan g.node) o (later g its each few) mid.state (λ context key v is. (beside_passes g its each few).fewer context key v is)
+          (children_stay g (beside_ones g) o r beside_children closed)
+
+      told_mid : Below g (beside_ones g) (flat_map (λ ran. ran) body.beside) r mid
       told_mid =
-          all_below (ids g) (plan_tree g.plan g.run g.locks g.h g.touched g.changes g.changed g.shares g.basis) g.node (λ r child. node_run g.plan g.levels (child ∷ g.path) r) (AllToldNear g.shares) (near_none g.shares) (near_then g.shares) (beside_ones g) body.beside r
+          all_below (ids g) (tree_is g) g.node (λ r child. node_run g.plan g.levels (child ∷ g.path) r) (AllToldNear g.shares) (near_none g.shares) (near_then g.shares) (beside_ones g) body.beside r
           body.dealt.outcome_count (once_beside g its) (beside_child g) (λ i less.
           let e = ended_near g its each few i less in
           record { ran = ran_at g its i; stands = (job_at g its i less).stands; told = e.ends.told; under = e.under })
 
-      pub body_turned : Turned (beside_ones g ++ turn_ones g) below after.first r (after_all g mid (turn_ones g))
+      counted_mid : (first_computed g its each few (length (beside_ones g)) ≡ computed_of (flat_map (λ ran. ran) body.beside))
+          × (first_told g its each few (length (beside_ones g)) ≡ computed_told (flat_map (λ ran. ran) body.beside) mid.results)
+      counted_mid =
+          let sums = counted_all g (beside_ones g) body.beside r (ran_at g its) (first_computed g its each few) (first_told g its each few) body.dealt.outcome_count (once_beside g its) (beside_child g)
+          (λ i less. let e = ended_near g its each few i less in record { stands = (job_at g its i less).stands; told = e.ends.told; under = e.under }) (λ i less. refl) (λ i less. refl) in
+          (sums.0 ∙ omega arith, sums.1 ∙ omega arith)
+
+      fills_mid : Fills (IsFilledIn g.run g.h opened.first body.joined) o (later g its each few) r.state (computed_of (flat_map (λ ran. ran) body.beside)) (computed_told (flat_map (λ ran. ran) body.beside) mid.results)
+      fills_mid =
+          fills_counted (IsFilledIn g.run g.h opened.first body.joined) o (later g its each few) r.state (first_computed g its each few (length (beside_ones g))) (first_told g its each few (length (beside_ones g)))
+          (computed_of (flat_map (λ ran. ran) body.beside)) (computed_told (flat_map (λ ran. ran) body.beside) mid.results) counted_mid.0 counted_mid.1 (beside_fills g its each few)
+
+      pub body_turned : Turned (beside_ones g ++ turn_ones g) below o opened.first after.first r (after_all g mid (turn_ones g))
       body_turned =
           let entries = body.in_turn.done in
           let are = body.in_turn.each in
-          let tree = plan_tree g.plan g.run g.locks g.h g.touched g.changes g.changed g.shares g.basis in
           let second = turns entries (beside_ones g) (later g its each few) (with_lanes body.joined body.between) after mid body.in_turn.runs (λ x there. subst (λ l. Contains l x) are there)
           (subst Once (sym are) (once-right (beside_ones g) (turn_ones g) (all_once g))) (beside_child g) (λ x there also. once-apart (beside_ones g) (turn_ones g) x (all_once g) there (subst (λ l. Contains l x) are also))
-          known within (acts_then g.h w.first opened.first body.joined pre beside_acts) post mid_fine since_mid (subst (λ (l : List ℕ). (after_all g mid l).state.store.drawn < most_numbers g.plan.size) (sym are) drawn) in
-          let turned : Turned (turn_ones g) (flat_map (λ e. e.1) entries) after.first mid (after_all g mid (turn_ones g)) =
-          subst (λ (l : List ℕ). Turned l (flat_map (λ e. e.1) entries) after.first mid (after_all g mid l)) are second in
-          let both = then_below (ids g) tree g.node (λ r child. node_run g.plan g.levels (child ∷ g.path) r) (AllToldNear g.shares) (near_none g.shares) (near_then g.shares) (beside_ones g) (turn_ones g) (flat_map (λ ran. ran) body.beside) (flat_map (λ e. e.1) entries)
-          r mid (after_all g mid (turn_ones g)) (beside_child g) (turn_child g) (λ x there also. once-apart (beside_ones g) (turn_ones g) x (all_once g) there also) told_mid turned.below in
-          let ran_is : flat_map (λ ran. ran) body.beside ++ flat_map (λ (e : Entry). e.1) entries ≡ below = sym (body.below_are ∙ ap (λ l. flat_map (λ ran. ran) body.beside ++ l) body.in_turn.ran_are) in
+          known within (acts_then g.h w.first opened.first body.joined pre beside_acts) post mid_fine since_mid closed_mid (subst (λ (l : List ℕ). (after_all g mid l).state.store.drawn < most_numbers g.plan.size) (sym are) drawn) in
+          let first_ran = flat_map (λ (ran : List Ran). ran) body.beside in
+          let second_ran = flat_map (λ (e : Entry). e.1) entries in
+          let last = after_all g mid (turn_ones g) in
+          let turned : Turned (turn_ones g) second_ran (later g its each few) body.joined after.first mid last =
+          subst (λ (l : List ℕ). Turned l second_ran (later g its each few) body.joined after.first mid (after_all g mid l)) are second in
+          let apart : (x : ℕ) → Contains (beside_ones g) x → Contains (turn_ones g) x → ⊥ = λ x there also. once-apart (beside_ones g) (turn_ones g) x (all_once g) there also in
+          let both = told_then (beside_ones g) (turn_ones g) first_ran second_ran r mid last (beside_child g) (turn_child g) apart told_mid turned.below in
+          let passes = beside_passes g its each few in
+          let fills = filled_then (beside_ones g) (turn_ones g) first_ran second_ran r mid last (beside_child g) (turn_child g) apart told_mid turned.below (beside_ones g) o (later g its each few) turned.open_still
+          opened.first body.joined after.first pre beside_acts turned_acts post since.fewer turned.fewer passes fills_mid turned.fills in
+          let ran_is : first_ran ++ second_ran ≡ below = sym (body.below_are ∙ ap (λ l. first_ran ++ l) body.in_turn.ran_are) in
           record {
             done = turned.done;
             are = turned.are;
             open_still = turned.open_still;
+            fewer = λ context key v is. passes.fewer context key v (turned.fewer context key v is);
             since = turned.since;
-            below = subst (λ (l : List Ran). Below (beside_ones g ++ turn_ones g) l r (after_all g mid (turn_ones g))) ran_is both;
+            below = subst (λ (l : List Ran). Below g (beside_ones g ++ turn_ones g) l r last) ran_is both;
+            fills = subst (λ (l : List Ran). Fills (IsFilledIn g.run g.h opened.first after.first) o turned.open_still r.state (computed_of l) (computed_told l last.results)) ran_is fills;
           }

@@ -1,7 +1,7 @@
 -- Runs of nodes that compute the same values as nodes beside them: on several lanes and in the plain run the same is told of each node but for who computed such a value and who found it.
 -- JUnit 5 User Guide, "Parallel Execution"; Javadoc `ExtensionContext.Store`, `getOrComputeIfAbsent`.
 use Rattle.ext_one_report.specs.Shares.{AreToldNear, Open}
-use Rattle.std.specs.Prelude.{◌≡◌, ℕ, ◌+◌, ◌<◌, true, false, List, length, All, Contains, Some, is_some, slice_get}
+use Rattle.std.specs.Prelude.{◌≡◌, ℕ, ◌+◌, ◌<◌, true, false, List, length, All, Contains, Some, drop, is_some, slice_get}
 use mathlib.Core.List.{IsPrefix}
 use Rattle.ext_model.specs.declared.event.Event.{Event}
 use Rattle.ext_model.specs.Events.{place_of}
@@ -16,6 +16,7 @@ use Rattle.ext_plan.specs.Plans.{PlanText}
 use Rattle.ext_plan.specs.PlanCalls.{test_of}
 use Rattle.ext_plan.specs.ReadPlans.{IsReadPlan, ids_of_nodes}
 use Rattle.ext_plan.specs.Values.{ValueText}
+use Rattle.ext_races.specs.MadeSteps.{plan_path}
 use Rattle.ext_one_report.specs.Alone.{IsSeenMeanwhile}
 use Rattle.ext_one_report.specs.Changing.{IsBelow, NodesChangeOnly}
 use Rattle.ext_engine.specs.RunLaws.{HasRun}
@@ -27,8 +28,11 @@ use Rattle.ext_parallel.specs.StoreCalls.{PlanLane}
 use Rattle.ext_plain.specs.PlainRun.{RunState, node_run, test_node_run}
 use Rattle.ext_one_report.proofs.MatchingWords.{HasNumberIn, IsRunView, Places, RunView, cell_of, plain_slot}
 use Rattle.ext_one_report.proofs.StepsWords.{IsLaneIn}
+use Rattle.ext_one_report.proofs.ComputedAbove.{IsClosedAbove}
 use Rattle.ext_one_report.proofs.Covers.{AreCovered}
 use Rattle.ext_races.specs.OneReports.{ClosesTellOne}
+use Rattle.ext_one_report.proofs.Fills.{Fills, IsFilledIn, computed_of, computed_told}
+use Rattle.ext_one_report.proofs.LanesApart.{AreApart}
 use Rattle.ext_one_report.proofs.Open.{AreNear, Computes, also, still_open}
 use Rattle.ext_one_report.proofs.OpenSteps.{StandsInBoth}
 use Rattle.ext_one_report.proofs.Shared.{AreShared, unshared}
@@ -91,16 +95,21 @@ module _ (plan : PlanText) (run : RunView) (locks : LocksView) (h : History) (to
     pub unchanged : (context : ℕ) (key : KeyValue) (v : ValueText) → settled context key ≡ false → open_at context key ≡ Some v → plain_slot s.state context key ≡ plain_slot r.state context key
     pub untouched : AreUntouched run h open_at settled before.first after.first
     pub told : AllToldNear shares ran r.results s.results
+    -- but for what each run filled itself at open places, both computed as many values
+    pub fills : Fills (IsFilledIn run h before.first after.first) open_at (still_open settled open_at) r.state (computed_of ran) (computed_told ran s.results)
 
   -- what is so of a node's run before it, where these of the places that it shares are open
   pub record BeginsNear (node : ℕ) (open_at : Open) (before : Lanes StoredValue) (after : Lanes StoredValue) (r : RunState) : Type 0 where
     pub within : All (HasSeenWithin h) after.first
     pub lanes : All (IsLaneIn run) after.first
+    pub apart : AreApart after.first
     pub open_is : (context : ℕ) (key : KeyValue) (v : ValueText) → open_at context key ≡ Some v → shares node context key ≡ Some v
     pub own : AreOwn run h (unshared (touched node) open_at) before.first after.first
     pub computed : AreComputed run h open_at before.first after.first
     pub level : AreLevel plan run (unshared (touched node) open_at) (first_seen before.first) r.state
     pub near : AreNear run open_at (first_seen before.first) r.state
+    -- what was computed above it is not open, and stands in the plain run
+    pub closed : IsClosedAbove plan (drop 1 (plan_path plan node)) open_at r.state
     pub results : length r.results ≡ length plan.nodes
 
   -- a test ends so,

@@ -18,6 +18,7 @@ use Rattle.ext_one_report.proofs.MatchingWords.{RunView}
 use Rattle.ext_one_report.proofs.Covered.{touched_in}
 use Rattle.ext_one_report.proofs.CoveredCalls.{made_path}
 use Rattle.ext_one_report.proofs.CoveredPaths.{has_context}
+use Rattle.ext_one_report.proofs.ComputedAbove.{NoneOpenAbove}
 use Rattle.ext_one_report.proofs.Open.{ComputesOpen}
 use Rattle.ext_one_report.proofs.OpenCalls.{CallFitsOpen, NoneOpen}
 use Rattle.ext_one_report.specs.Shares.{Open, shares_in}
@@ -25,7 +26,8 @@ use Rattle.ext_races.specs.OneReports.{SharesValues}
 use Rattle.ext_one_report.proofs.Shared.{unshared}
 use Rattle.ext_one_report.proofs.SharedPlansWords.{PlansAreShared}
 use Rattle.ext_one_report.proofs.SharedCalls.{call_fits_open}
-use Rattle.ext_one_report.proofs.SharedNodes.{above, below, beside, outside, same, touched_there}
+use Rattle.ext_one_report.proofs.SharedNodes as laws
+use Rattle.ext_one_report.proofs.SharedNodes.{below, below_changed, beside, outside, same, touched_there}
 use Rattle.ext_one_report.proofs.SharedSteps.{computes_there}
 use Rattle.ext_one_report.proofs.SharedFound.{same_count}
 use Rattle.ext_one_report.proofs.SharedTouches.{IsMadeBehind, behind_befores, behind_none}
@@ -43,13 +45,14 @@ computes plan read shares node path call step key up v is among there changed e 
 -- a call of a node behind others, where none of the places that it shares is open whose value those compute
 fits : (plan : PlanText) (run : RunView) → IsReadPlan plan → SharesValues plan → run.store.tree ≡ ids_of_nodes plan.nodes → (node : ℕ) (path : List ℕ) (call : Call)
     → IsPathOf (ids_of_nodes plan.nodes) node path → Contains (calls_of plan node) call → (earlier : List StepText) → IsMadeBehind plan node call earlier → (open_at : Open)
-    → ((context : ℕ) (key : KeyValue) (v : ValueText) → open_at context key ≡ Some v → shares_in plan node context key ≡ Some v) → NoneOpen plan.keys path open_at earlier
+    → ((context : ℕ) (key : KeyValue) (v : ValueText) → open_at context key ≡ Some v → shares_in plan node context key ≡ Some v) → NoneOpenAbove plan (drop 1 path) open_at → NoneOpen plan.keys path open_at earlier
     → CallFitsOpen run plan path (unshared (touched_in plan node) open_at) open_at call
-fits plan run read shares tree node path call is among earlier behind open_at open_is none =
+fits plan run read shares tree node path call is among earlier behind open_at open_is above none =
     let less = has_context (ids_of_nodes plan.nodes) read.runnable.tree node path is in
     let along = made_path plan read node path is in
     subst (λ p. CallFitsOpen run plan p (unshared (touched_in plan node) open_at) open_at call) (sym along)
-    (call_fits_open plan read shares run tree node call less among earlier behind open_at open_is (subst (λ p. NoneOpen plan.keys p open_at earlier) along none))
+    (call_fits_open plan read shares run tree node call less among earlier behind open_at open_is (subst (λ p. NoneOpenAbove plan (drop 1 p) open_at) along above)
+    (subst (λ p. NoneOpen plan.keys p open_at earlier) along none))
 
 is_within : (plan : PlanText) → IsReadPlan plan → (node : ℕ) (path : List ℕ) → IsPathOf (ids_of_nodes plan.nodes) node path → node < length plan.nodes
 is_within plan read node path is =
@@ -59,30 +62,32 @@ is_within plan read node path is =
 
 befores : (plan : PlanText) (run : RunView) → IsReadPlan plan → SharesValues plan → run.store.tree ≡ ids_of_nodes plan.nodes → (node : ℕ) (path : List ℕ) (before : List Call) (call : Call) (more : List Call) (open_at : Open)
     → IsPathOf (ids_of_nodes plan.nodes) node path → calls_before plan node ++ test_call node ∷ [] ≡ before ++ call ∷ more
-    → ((context : ℕ) (key : KeyValue) (v : ValueText) → open_at context key ≡ Some v → shares_in plan node context key ≡ Some v) → NoneOpen plan.keys path open_at (flat_map (steps_of_call plan) before)
-    → CallFitsOpen run plan path (unshared (touched_in plan node) open_at) open_at call
-befores plan run read shares tree node path before call more open_at is whole open_is none =
+    → ((context : ℕ) (key : KeyValue) (v : ValueText) → open_at context key ≡ Some v → shares_in plan node context key ≡ Some v) → NoneOpenAbove plan (drop 1 path) open_at
+    → NoneOpen plan.keys path open_at (flat_map (steps_of_call plan) before) → CallFitsOpen run plan path (unshared (touched_in plan node) open_at) open_at call
+befores plan run read shares tree node path before call more open_at is whole open_is above none =
     let opening = calls_before plan node ++ test_call node ∷ [] in
     let there : Contains opening call = subst (λ (l : List Call). Contains l call) (sym whole) (Contains-append_right before (call ∷ more) call (contains_first call more)) in
     fits plan run read shares tree node path call is (Contains-append_left opening (calls_after plan node) call there) (flat_map (steps_of_call plan) before)
-    (behind_befores plan node (is_within plan read node path is) before call more whole) open_at open_is none
+    (behind_befores plan node (is_within plan read node path is) before call more whole) open_at open_is above none
 
 afters : (plan : PlanText) (run : RunView) → IsReadPlan plan → SharesValues plan → run.store.tree ≡ ids_of_nodes plan.nodes → (node : ℕ) (path : List ℕ) (call : Call) (open_at : Open)
     → IsPathOf (ids_of_nodes plan.nodes) node path → Contains (calls_after plan node) call
-    → ((context : ℕ) (key : KeyValue) (v : ValueText) → open_at context key ≡ Some v → shares_in plan node context key ≡ Some v) → CallFitsOpen run plan path (unshared (touched_in plan node) open_at) open_at call
-afters plan run read shares tree node path call open_at is there open_is =
+    → ((context : ℕ) (key : KeyValue) (v : ValueText) → open_at context key ≡ Some v → shares_in plan node context key ≡ Some v) → NoneOpenAbove plan (drop 1 path) open_at
+    → CallFitsOpen run plan path (unshared (touched_in plan node) open_at) open_at call
+afters plan run read shares tree node path call open_at is there open_is above =
     let opening = calls_before plan node ++ test_call node ∷ [] in
-    fits plan run read shares tree node path call is (Contains-append_right opening (calls_after plan node) call there) [] (behind_none plan node (is_within plan read node path is) call there) open_at open_is
+    fits plan run read shares tree node path call is (Contains-append_right opening (calls_after plan node) call there) [] (behind_none plan node (is_within plan read node path is) call there) open_at open_is above
     (record { none = λ step held computes. contains_nothing step held })
 
 pub plans_are_shared : PlansAreShared
 plans_are_shared plan run read shares tree = record {
   touched_there = touched_there plan read shares;
   outside = outside plan read shares;
-  above = λ node context key v path e is. above plan read shares node context key v e path is;
+  above = λ node context key v path e is. laws.above plan read shares node context key v e path is;
   computes = computes plan read shares;
   befores = befores plan run read shares tree;
   afters = afters plan run read shares tree;
+  below_changed = below_changed plan read shares;
   below = below plan read shares;
   beside = beside plan read shares;
   same = same plan read shares;

@@ -1,6 +1,5 @@
 -- A step of a call at places that its node shares: where it changes one it computes the value, and it changes none above one.
 use Rattle.std.proofs.Common.{◌≡◌, ◌<◌, ℕ, true, false, List, [], ◌∷◌, length, Contains, drop, Some, None, refl, ap, sym, subst, ◌∙◌, arith, inl, inr}
-use Rattle.std.specs.Prelude.{◌&&◌}
 use Rattle.std.proofs.lemmas.Bool.{cases_Bool, true≢false}
 use Rattle.std.proofs.lemmas.List.{length-drop}
 use Rattle.std.proofs.lemmas.List.Elements.{All-contains}
@@ -18,20 +17,20 @@ use Rattle.ext_plan.specs.declared.word.Word.{Word}
 use Rattle.ext_plan.specs.declared.word.Word.TheVariants as words
 use Rattle.ext_races.specs.Acts.{ActText}
 use Rattle.ext_races.specs.MadeSteps.{calls_of, plan_path}
-use Rattle.ext_races.specs.Touches.{keys_named, text_if, touch_of, touches_made}
+use Rattle.ext_races.specs.Touches.{keys_named, text_if, touch_of, touches_along, touches_made}
 use Rattle.ext_plan.specs.StepWords.{changes, gives_value, has_text, leaves_closeable, word_eq}
 use Rattle.ext_one_report.proofs.PlanCells.{changed_by}
 use Rattle.ext_one_report.proofs.MatchingWords.{RunView}
 use Rattle.ext_one_report.proofs.Covered.{changed_in, touched_in}
 use Rattle.ext_one_report.proofs.CoveredCalls.{call_stays}
 use Rattle.ext_one_report.proofs.CoveredPaths.{path_there}
-use Rattle.ext_one_report.proofs.CoveredTouches.{along_first, step_of}
+use Rattle.ext_one_report.proofs.CoveredTouches.{along_first, first_changes, step_of}
 use Rattle.ext_one_report.proofs.CoveredPlans.{IsTouchedBelow, an_act, changed_by_touch, none_is, step_changes, within_itself}
 use Rattle.ext_one_report.proofs.Open.{ComputesOpen}
 use Rattle.ext_one_report.specs.Shares.{Open, shares_in}
 use Rattle.ext_races.specs.OneReports.{SharesValues}
 use Rattle.ext_one_report.proofs.OpenCalls.{LeavesAbove}
-use Rattle.ext_one_report.proofs.SharedFound.{Gives, all_give, same_count, shares_found}
+use Rattle.ext_one_report.proofs.SharedFound.{Gives, changing_gives, same_count, shares_found}
 use Rattle.ext_one_report.proofs.SharedNodes.{above}
 use Rattle.ext_one_report.proofs.SharedTouches.{changes_there}
 use Rattle.ext_one_report.proofs.WordCases.{of_computes}
@@ -44,8 +43,8 @@ from_start (context ∷ above) some = (above, refl)
 
 -- the value that a compute gives is that of its touch
 value_is : (word : Word) (text : List ℕ) → gives_value word ≡ true
-    → ◌≡◌ {A = ValueText} (record { text = text; closeable = leaves_closeable word }) (record { text = text_if (changes word && has_text word) text; closeable = word_eq word words.ComputeCloseable })
-value_is word text = of_computes (λ w. ◌≡◌ {A = ValueText} (record { text = text; closeable = leaves_closeable w }) (record { text = text_if (changes w && has_text w) text; closeable = word_eq w words.ComputeCloseable })) refl refl word
+    → ◌≡◌ {A = ValueText} (record { text = text; closeable = leaves_closeable word }) (record { text = text_if (has_text word) text; closeable = word_eq word words.ComputeCloseable })
+value_is word text = of_computes (λ w. ◌≡◌ {A = ValueText} (record { text = text; closeable = leaves_closeable w }) (record { text = text_if (has_text w) text; closeable = word_eq w words.ComputeCloseable })) refl refl word
 
 -- ---- steps of a call
 
@@ -70,26 +69,28 @@ module _ (plan : PlanText) (read : IsReadPlan plan) (shares : SharesValues plan)
       → Contains (touches_made plan) (touch_of node (place_of_key (keys_named plan) (key_of_step plan.keys act.key)) act (changes act.word) (start_of (drop act.up (plan_path plan node))))
   acts_there act there changing =
       let number = place_of_key (keys_named plan) (key_of_step plan.keys act.key) in
-      changes_there plan node call within among act there changing (touch_of node number act (changes act.word) (start_of (drop act.up path)))
-      (along_first node number act (drop act.up path) (goes_up act there))
+      let context = start_of (drop act.up path) in
+      subst (λ b. Contains (touches_made plan) (touch_of node number act b context)) (sym changing)
+      (changes_there plan node call within among act there changing (touch_of node number act true context)
+      (subst (Contains (touches_along node number act None (drop act.up path))) (first_changes node number act None context changing) (along_first node number act None (drop act.up path) (goes_up act there))))
 
   -- where the place is shared, it computes the value
   gives_there : (act : ActText) → Contains (steps_of_call plan call) (step_of act) → changes act.word ≡ true → (v : ValueText)
       → shares_in plan node (start_of (drop act.up (plan_path plan node))) (key_of_step plan.keys act.key) ≡ Some v
-      → Gives (touch_of node (place_of_key (keys_named plan) (key_of_step plan.keys act.key)) act (changes act.word) (start_of (drop act.up (plan_path plan node)))) v
+      → Gives (touch_of node (place_of_key (keys_named plan) (key_of_step plan.keys act.key)) act true (start_of (drop act.up (plan_path plan node)))) v
   gives_there act there changing v e =
       let key = key_of_step plan.keys act.key in
+      let number = place_of_key (keys_named plan) key in
       let context = start_of (drop act.up path) in
-      let t = touch_of node (place_of_key (keys_named plan) key) act (changes act.word) context in
       let one : IsTouchedBelow plan node context key true = record {
-        touch = touch_of node (place_of_key (keys_named plan) key) act (changes act.word) context;
-        made = acts_there act there changing;
+        touch = touch_of node number act true context;
+        made = subst (λ b. Contains (touches_made plan) (touch_of node number act b context)) changing (acts_there act there changing);
         below = within_itself plan read node within;
         context_is = refl;
         key_is = refl;
-        changes = λ told. changing;
+        changes = λ told. refl;
       } in
-      all_give plan read shares node context key v (shares_found plan read node context key v e) true one
+      changing_gives plan read shares node context key v (shares_found plan read node context key v e) true one refl
 
   -- what is open at the place of the one is so at the place of the other, where they are one
   moved : (o : Open) (v : ValueText) (a b : StepKeyText × ℕ) → a ≡ b → o (start_of (drop b.1 (plan_path plan node))) (key_of_step plan.keys b.0) ≡ Some v → o (start_of (drop a.1 (plan_path plan node))) (key_of_step plan.keys a.0) ≡ Some v
@@ -104,7 +105,7 @@ module _ (plan : PlanText) (read : IsReadPlan plan) (shares : SharesValues plan)
         let some : Some (k, u) ≡ Some (key, up) = rw changing at changed in
         let same : (k, u) ≡ (key, up) = cc some in
         let gives = gives_there (an_act word k text u) there changing v (moved (shares_in plan node) v (k, u) (key, up) same e) in
-        (gives.word, moved o v (k, u) (key, up) same open_is ∙ ap (λ w. Some w) (sym (value_is word text gives.word ∙ gives.value)))
+        (gives.acts, moved o v (k, u) (key, up) same open_is ∙ ap (λ w. Some w) (sym (value_is word text gives.acts ∙ gives.value)))
     | inr still ↦ absurd (none_is (rw still at changed))
   ]
   computes_there (fail text) there o key up v changed e open_is = absurd (cc changed)

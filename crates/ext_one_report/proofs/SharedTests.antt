@@ -1,5 +1,5 @@
 -- A test ends near: where some of its steps compute values at open places, which nodes beside it may compute too, all else is as in the plain run.
-use Rattle.std.proofs.Common.{◌≡◌, ◌≢◌, ℕ, ◌<◌, inl, inr, true, false, List, [], ◌∷◌, length, Contains, Some, refl, ap, sym, subst, ◌∙◌, arith}
+use Rattle.std.proofs.Common.{◌≡◌, ◌≢◌, ℕ, ◌+◌, ◌<◌, inl, inr, true, false, drop, List, [], ◌∷◌, length, Contains, Some, refl, ap, sym, subst, ◌∙◌, arith}
 use Rattle.std.specs.Prelude.{All, is_some, slice_get}
 use Rattle.std.proofs.lemmas.List.Elements.{All-head}
 use Rattle.ext_history.specs.Histories.{seen_by}
@@ -35,21 +35,26 @@ use Rattle.ext_parallel.specs.StoreCalls.{PlanLane}
 use Rattle.ext_plain.specs.ValueStates.{ValueState}
 use Rattle.ext_plain.specs.ContextEnds.{faults_of_closes, seal_keys}
 use Rattle.ext_plain.specs.NodeCalls.{CallsEnd}
-use Rattle.ext_plain.specs.PlainRun.{RunState, outcome_of, test_node_run}
+use Rattle.ext_plain.specs.PlainRun.{RunState, outcome_of, test_node_run, with_result}
 use Rattle.ext_plain.proofs.Nodes.{start_is}
 use Rattle.ext_one_report.proofs.CallListsWords.{CallFits, CallsAlike}
+use Rattle.ext_one_report.proofs.ComputedAbove.{NoneOpenAbove}
 use Rattle.ext_one_report.proofs.MatchingWords.{HasNumberIn, Matches, Places, RunView, cell_of}
 use Rattle.ext_one_report.proofs.StepsWords.{IsLaneIn}
 use Rattle.ext_one_report.proofs.TestCallsWords.{TestHasRoom, afters_round, befores_round, plain_test}
 use Rattle.ext_one_report.proofs.TestCalls.{test_alike}
 use Rattle.ext_one_report.proofs.FrameNodes.{within_nodes}
 use Rattle.ext_one_report.proofs.FrameSteps.{seals_leave}
-use Rattle.ext_one_report.proofs.Open.{AreNear, also, still_open}
+use Rattle.ext_one_report.proofs.Fills.{Fills, IsFilledBy, IsFilledIn, Spot, computed_at, computed_of, computed_told}
+use Rattle.ext_one_report.proofs.FillsCounts.{computed_is, of_first, told_first}
+use Rattle.ext_one_report.proofs.FillsLanes.{filled_by, filled_first, filled_in, filled_then}
+use Rattle.ext_one_report.proofs.FillsLaws.{fills_as}
+use Rattle.ext_one_report.proofs.NodeTold.{set-there}
+use Rattle.ext_one_report.proofs.Open.{AreNear, also, some_or_none, still_open}
 use Rattle.ext_one_report.specs.Shares.{Open, SharesNothing, AreToldNear}
 use Rattle.ext_one_report.proofs.OpenCalls.{BeforesFit, CallFitsOpen, CallsNear, FitsBehind, LeavesNear}
 use Rattle.ext_one_report.proofs.OpenSteps.{AreBesideOpen}
 use Rattle.ext_one_report.proofs.Shared.{unshared}
-use Rattle.ext_one_report.proofs.SharedNodes.{some_or_none}
 use Rattle.ext_one_report.proofs.Closes.{ClosesLevel}
 use Rattle.ext_one_report.proofs.FullRuns.{setting_in}
 use Rattle.ext_one_report.proofs.Levels.{AreLevel, besides, outside}
@@ -60,7 +65,7 @@ use Rattle.ext_one_report.proofs.ClosePlain.{plain_seals_places}
 use Rattle.ext_one_report.proofs.LanesAlone.{computed_part, first_is_alone, first_is_shown, is_more, is_on_place, lanes_in, own_part, view_moves}
 use Rattle.ext_one_report.proofs.NodeCalls.{each_of}
 use Rattle.ext_one_report.proofs.NodePlaces.{beyond_own, level_fewer, or_either, or_first}
-use Rattle.ext_one_report.proofs.NodeTrees.{within_itself}
+use Rattle.ext_one_report.proofs.NodeTrees.{its_path, within_itself}
 use Rattle.ext_one_report.proofs.SharedClosesOpen.{computed_fewer, near_after, none_elsewhere, own_standing, stand_after}
 use Rattle.ext_one_report.proofs.SharedNodesBasis.{in_plan, run_tree}
 use Rattle.ext_one_report.proofs.SharedNodesPlaces.{still_parts, unshared_is}
@@ -91,6 +96,10 @@ module _ (plan : PlanText) (run : RunView) (locks : LocksView) (h : History) (to
 
     in_nodes : node < length plan.nodes
     in_nodes = within_nodes plan node path basis.read.runnable.tree its
+
+    -- what was computed above it is not open
+    apart : NoneOpenAbove plan (drop 1 path) open_at
+    apart = subst (λ l. NoneOpenAbove plan (drop 1 l) open_at) (sym (its_path plan basis.read.runnable.tree node path its)) begins.closed.none
 
     -- ---- its two parts
 
@@ -171,17 +180,18 @@ module _ (plan : PlanText) (run : RunView) (locks : LocksView) (h : History) (to
         let seals = (seals_leave node end.state).drawn in
         rooms.room plan run basis.read node path its is_test r.state holds (omega (arith, seals, drawn))
 
-    near : CallsNear its_run.outcomes end × LeavesNear run places open_at its_run.calls.lane r.state its_run.calls.left end.state
+    near : CallsNear its_run.outcomes end × (left : LeavesNear run places open_at its_run.calls.lane r.state its_run.calls.left end.state)
+        × Fills (IsFilledBy run its_run.calls.lane its_run.calls.left) open_at (still_open left.settled open_at) r.state (computed_in its_run.outcomes) end.computed
     near =
         let on = its_run.calls in
         let makes = test_made plan run locks node (Some its_run.held) path on.lane its_run.outcomes on.left on.change in
         let befores_are = rooms.befores_are plan run basis.read node path its is_test in
         test_ends_near run plan node path places open_at on.lane its_run.outcomes on.left r.state path_is beside
-        (subst (λ (calls : List Call). BeforesFit run plan path places open_at calls) befores_are (befores_fit plan run locks h touched changes changed shares basis node path its open_at begins.open_is))
+        (subst (λ (calls : List Call). BeforesFit run plan path places open_at calls) befores_are (befores_fit plan run locks h touched changes changed shares basis node path its open_at begins.open_is apart))
         (subst (λ (calls : List Call). FitsBehind run plan path places open_at calls (test_call node)) befores_are
-        (body_fits plan run locks h touched changes changed shares basis node path its open_at begins.open_is))
+        (body_fits plan run locks h touched changes changed shares basis node path its open_at begins.open_is apart))
         (rooms.all_after plan run basis.read node path its is_test (CallFitsOpen run plan path places open_at)
-        (after_fits plan run locks h touched changes changed shares basis node path its open_at begins.open_is)) room makes.0 makes.1
+        (after_fits plan run locks h touched changes changed shares basis node path its open_at begins.open_is apart)) room makes.0 makes.1
 
     abbrev settled : Places
     settled = near.1.settled
@@ -303,6 +313,54 @@ module _ (plan : PlanText) (run : RunView) (locks : LocksView) (h : History) (to
                   (is_on_place (cell_of run number context) event.act at) (sym (ap (λ (x : Event ℕ). x.lane) same) ∙ one.own_event)
             ]
 
+    -- ---- values that were filled
+
+    -- what its lanes fill at open places its calls do, and not the close
+    called_fill : (spot : Spot) → IsFilledIn run h before.first its_run.called spot → IsFilledBy run its_run.calls.lane its_run.calls.left spot
+    called_fill spot filled =
+        let on = its_run.calls in
+        let goes : LaneGoesOn on.lane on.left = calls_go setting (view_moves plan run) node (Some its_run.held) _ _ _ on.lane its_run.outcomes on.left on.change in
+        filled_by run h on.lane on.left on.rest seen_left spot goes.seen
+        (subst (λ (l : List PlanLane). IsFilledIn run h (on.lane ∷ on.rest) l spot) on.first_is (subst (λ (l : List PlanLane). IsFilledIn run h l its_run.called spot) on.first_was filled))
+
+    fill_called : (spot : Spot) → IsFilledBy run its_run.calls.lane its_run.calls.left spot → IsFilledIn run h before.first its_run.called spot
+    fill_called spot filled =
+        let on = its_run.calls in
+        subst (λ (l : List PlanLane). IsFilledIn run h l its_run.called spot) (sym on.first_was)
+        (subst (λ (l : List PlanLane). IsFilledIn run h (on.lane ∷ on.rest) l spot) (sym on.first_is) (filled_in run h on.lane on.left on.rest seen_left spot filled))
+
+    closed_fill : (spot : Spot) (v : ValueText) → open_at spot.0 spot.1 ≡ Some v → IsFilledIn run h its_run.called after.first spot → ⊥
+    closed_fill spot v is filled =
+        none_elsewhere plan run locks h basis.view basis.legal node its_run.calls.left its_run.calls.rest after.first its_run.faults closes begins.within
+        spot.0 filled.number filled.place spot.1 filled.event (elsewhere spot.0 spot.1 v is) filled.has filled.there (ap place_of filled.act)
+        (subst (λ (l : List PlanLane). IsMadeIn h filled.place l after.first) its_run.calls.first_is filled.made)
+
+    lanes_computed : computed_in its_run.outcomes ≡ computed_of ran
+    lanes_computed =
+        let one : computed_of (own ∷ []) ≡ computed_in its_run.outcomes + 0 = of_first own [] in
+        let is : computed_of (own ∷ []) ≡ computed_of ran = ap computed_of (sym its_run.ran_is) in
+        omega (arith, one, is)
+
+    plain_computed : end.computed ≡ computed_told ran (test_node_run plan node path r).results
+    plain_computed =
+        let results = with_result outcome r.results in
+        let n = in_nodes in
+        let long = begins.results in
+        let at : computed_at results node ≡ end.computed = computed_is results node outcome (set-there r.results node outcome (omega (arith, n, long))) in
+        let one : computed_told (own ∷ []) results ≡ computed_at results node + 0 = told_first own [] results in
+        let is : computed_told (own ∷ []) results ≡ computed_told ran results = ap (λ (l : List Ran). computed_told l results) (sym its_run.ran_is) in
+        omega (arith, at, one, is)
+
+    fills : Fills (IsFilledIn run h before.first after.first) open_at (still_open settled open_at) r.state (computed_of ran) (computed_told ran (test_node_run plan node path r).results)
+    fills =
+        fills_as (IsFilledBy run its_run.calls.lane its_run.calls.left) (IsFilledIn run h before.first after.first) open_at (still_open settled open_at) r.state
+        (computed_in its_run.outcomes) end.computed (computed_of ran) (computed_told ran (test_node_run plan node path r).results)
+        (λ spot v is filled. filled_first run h before.first its_run.called after.first closed_acts.goes spot (fill_called spot filled))
+        (λ spot v is filled. elim (filled_then run h before.first its_run.called after.first called_acts.goes spot filled) [
+          | inl early ↦ called_fill spot early
+          | inr late ↦ absurd (closed_fill spot v is late)
+        ]) lanes_computed plain_computed near.2
+
     test_near : EndsNear plan run locks h touched changes changed shares node open_at before ran after r (test_node_run plan node path r)
     test_near = record {
       settled = settled;
@@ -317,6 +375,7 @@ module _ (plan : PlanText) (run : RunView) (locks : LocksView) (h : History) (to
           sealed_slot node end.state sealed (plain_seals_places node end.state) context key (elsewhere context key v is) ∙ near.1.unchanged context key v off is;
       untouched = untouched;
       told = all_told;
+      fills = fills;
     }
 
   pub tests_end_near : TestsEndNear plan run locks h touched changes changed shares

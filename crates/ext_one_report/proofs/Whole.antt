@@ -6,6 +6,7 @@ use Rattle.std.proofs.lemmas.List.{length-map}
 use Rattle.std.proofs.lemmas.List.Elements.{Contains-get_or}
 use Rattle.std.proofs.lemmas.List.Sorted.{Contains-permutation}
 use Rattle.ext_history.proofs.Lists.{bools}
+use Rattle.ext_history.proofs.Once.{Once}
 use Rattle.ext_model.specs.declared.look.Fault.{Fault}
 use Rattle.ext_tree.specs.Keys.{KeepsKeys, KnownPlace}
 use Rattle.ext_lifecycle.specs.Results.{ResultOf}
@@ -17,13 +18,14 @@ use Rattle.ext_plan.specs.ReadPlans.{IsReadPlan}
 use Rattle.ext_store.specs.Stores.{StoreView, fresh_store_lane}
 use Rattle.ext_store.proofs.Fresh.{lanes_own}
 use Rattle.ext_tree.specs.Trees.{IsTree}
-use Rattle.ext_engine.specs.RunLaws.{IsOneEach}
+use Rattle.ext_engine.specs.RunLaws.{IsOneEach, nodes_of}
 use Rattle.ext_engine.specs.Meeting.{first_seen}
 use Rattle.ext_engine.specs.Order.{CallsGoOn, LaneGoesOn}
 use Rattle.ext_engine.specs.TreeRun.{TreeRun, TreeSetting, all_results, with_calls}
 use Rattle.ext_engine.proofs.Finer.{tree_finer}
 use Rattle.ext_engine.proofs.Going.{goes_met, goes_same, goes_sealed, goes_then, tree_goes}
 use Rattle.ext_engine.proofs.RunLaws.{one_result_each}
+use Rattle.ext_engine.proofs.Grown.{Grows, ran_once}
 use Rattle.ext_engine.proofs.Told.{grown}
 use Rattle.ext_one_report.specs.Changing.{NodesChangeOnly}
 use Rattle.ext_parallel.specs.declared.steps.stored_value.StoredValue.{StoredValue}
@@ -33,6 +35,7 @@ use Rattle.ext_parallel.specs.StoreCalls.{PlanLane}
 use Rattle.ext_parallel.proofs.Runnable.{tree_runnable}
 use Rattle.ext_one_report.proofs.PlanCells.{HaveChanged}
 use Rattle.ext_one_report.proofs.Going.{steps_go}
+use Rattle.ext_one_report.proofs.LanesApart.{AreApart, apart_after, fresh_apart}
 use Rattle.ext_one_report.proofs.Runs.{steps_change_only}
 use Rattle.ext_parallel.specs.Finding.{PlansGoOn}
 use Rattle.ext_one_report.proofs.MatchingWords.{IsRunView, RunView}
@@ -67,6 +70,12 @@ module _ (plan : PlanText) (lanes : ℕ) (results : List (ResultOf Fault)) (run 
 
   goes : AllZip LaneGoesOn run.first.first run.after.first
   goes = tree_goes (full_setting plan store run.locks (CallsFully plan store)) (full_moves plan store) 16 0 run.first run.ran run.after full
+
+  -- no two lanes have one number
+  pub lanes_apart : AreApart run.after.first
+  lanes_apart =
+      let fresh : AreApart run.first.first = subst AreApart (sym run.fresh) (fresh_apart StoredValue store.id.places store.id.fault_places store.id.keys store.id.cells 0 lanes) in
+      apart_after run.first.first run.after.first goes fresh
 
   -- there is a lane
   first_lane : 0 < length run.first.first
@@ -140,13 +149,23 @@ module _ (plan : PlanText) (lanes : ℕ) (results : List (ResultOf Fault)) (run 
 
   -- ---- results
 
+  tree_is : IsReadPlan plan → IsTree run.store.tree
+  tree_is read = subst (λ ids. IsTree ids) (sym run.store_is.tree) read.runnable.tree
+
+  -- which nodes have run
+  grows : IsReadPlan plan → Grows run.store.tree (suite_of plan) (λ node. ⊥) 16 0 run.ran
+  grows read =
+      let st = run.store in
+      let runnable = tree_runnable plan st run.locks run.store_is.tree (λ name there. Contains-permutation (lock_names plan.nodes) run.locks.names name run.locks_are.names there) read.runnable.tests in
+      grown (full_setting plan st run.locks (CallsFully plan st)) (tree_is read) runnable 16 0 run.first run.ran run.after full
+
   pub one_each : IsReadPlan plan → IsOneEach (suite_of plan) (λ node. ⊥) (length plan.nodes) run.ran results
   one_each read =
-      let st = run.store in
-      let t = full_setting plan st run.locks (CallsFully plan st) in
-      let tree = run.store_is.tree in
-      let is_tree = subst (λ ids. IsTree ids) (sym tree) read.runnable.tree in
-      let runnable = tree_runnable plan st run.locks tree (λ name there. Contains-permutation (lock_names plan.nodes) run.locks.names name run.locks_are.names there) read.runnable.tests in
-      let counted : length st.tree ≡ length plan.nodes = ap length tree ∙ length-map plan.nodes (λ n. n.id) in
-      let one = one_result_each st.tree (suite_of plan) (λ node. ⊥) is_tree 16 run.ran (grown t is_tree runnable 16 0 run.first run.ran run.after full) in
+      let tree = run.store.tree in
+      let counted : length tree ≡ length plan.nodes = ap length run.store_is.tree ∙ length-map plan.nodes (λ n. n.id) in
+      let one = one_result_each tree (suite_of plan) (λ node. ⊥) (tree_is read) 16 run.ran (grows read) in
       subst (λ r. IsOneEach (suite_of plan) (λ node. ⊥) (length plan.nodes) run.ran r) (sym run.results_are) (subst (λ n. IsOneEach (suite_of plan) (λ node. ⊥) n run.ran (all_results (suite_of plan) n run.ran)) counted one)
+
+  -- none of them has run twice
+  pub each_once : IsReadPlan plan → Once (nodes_of run.ran)
+  each_once read = ran_once run.store.tree (suite_of plan) (λ node. ⊥) (tree_is read) 16 0 run.ran (grows read)

@@ -29,7 +29,7 @@ use Rattle.ext_races.proofs.Lists.{contains_cases, contains_first, contains_late
 use Rattle.ext_races.proofs.Sides.{nodes_found, nodes_told}
 use Rattle.ext_races.proofs.TouchNodes.{touch_within}
 use Rattle.ext_races.specs.OneReports.{KeepsApart, ClosesTellOne}
-use Rattle.ext_one_report.specs.WorkedPlans.{AreSteps, ComputesAreNoRace, ComputesDoNot, LookAndPutDoNot, LooksKeepApart, OneByOneKeepsApart, OneTextTellsOne, OwnPutsKeepApart, PutsAboveDoNot, ReplacedDoesNotTellOne, TestsAreBeside, TestsAreRead, TwoContextsTellOne, TwoFaultsDoNotTellOne, TwoKeysKeepApart, WorkedHasKeys, WorkedHasNumbers, WorkedIsRead, WorkedKeepsApart, WorkedTellsOne, a, b, class_id, computing, container, root_id, test_of_class, tests_of_mode, two_tests, worked_plan}
+use Rattle.ext_one_report.specs.WorkedPlans.{AreSteps, ComputesAreNoRace, ComputesDoNot, LookAndPutDoNot, LooksBelowKeepApart, LooksKeepApart, OneByOneKeepsApart, OneTextTellsOne, OwnPutsKeepApart, PutsAboveDoNot, ReplacedDoesNotTellOne, TestsAreBeside, TestsAreRead, TwoContextsTellOne, TwoFaultsDoNotTellOne, TwoKeysKeepApart, WorkedHasKeys, WorkedHasNumbers, WorkedIsRead, WorkedKeepsApart, WorkedTellsOne, a, b, class_id, computing, container, root_id, test_of_class, tests_of_mode, two_tests, worked_plan}
 
 -- ---- tests of all pairs
 
@@ -92,6 +92,10 @@ own_puts_keep_apart text other = keeps_apart (two_tests [] (keyed words.Put a te
 pub looks_keep_apart : LooksKeepApart
 unfolding path_from
 looks_keep_apart text wanted other = keeps_apart (two_tests (keyed words.Put a text 0 ∷ []) (keyed words.Want a wanted 0 ∷ []) (keyed words.Want a other 0 ∷ [])) refl
+
+pub looks_below_keep_apart : LooksBelowKeepApart
+unfolding path_from
+looks_below_keep_apart text wanted other = keeps_apart (two_tests (keyed words.Compute a text 0 ∷ []) (keyed words.Want a wanted 0 ∷ []) (keyed words.Want a other 0 ∷ [])) refl
 
 pub two_keys_keep_apart : TwoKeysKeepApart
 unfolding path_from

@@ -2,6 +2,7 @@
 -- depend on the order of closes, each run on several lanes that lacks nothing reports the same as the plain run (JUnit 5
 -- User Guide, "Parallel Execution").
 use Rattle.std.specs.Prelude.{◌≡◌, ℕ, List, length, map, Some, slice_get}
+use Rattle.std.specs.List.{sum_by}
 use Rattle.ext_model.specs.declared.look.Fault.{Fault}
 use Rattle.ext_lifecycle.specs.FaultTexts.{NodeOutcome, fault_text}
 use Rattle.ext_lifecycle.specs.Results.{ResultOf, with_fault_told}
@@ -21,14 +22,16 @@ OneReport =
     → (run : ParallelRun plan lanes results) → LacksNothing plan lanes results run
     → map (with_fault_told fault_text) results ≡ plain_run plan
 
--- The reports are the same for each node, except for which shared values it computed and which it found.
+-- The reports are the same for each node, except for which shared values it computed and which it found. All nodes
+-- together have computed as many.
 pub record AreNearReports (shares : ℕ → Open) (here there : List NodeOutcome) : Type 0 where
   pub count : length here ≡ length there
+  pub computed : sum_by (λ outcome. outcome.computed) here ≡ sum_by (λ outcome. outcome.computed) there
   pub near : (node : ℕ) (one other : NodeOutcome) → slice_get here node ≡ Some one → slice_get there node ≡ Some other
       → AreToldNear (shares node) one other
 
 -- Each run of such a plan that lacks nothing reports of each node what the plain run does, with this exception. So all
--- lines of nodes in its report are the same.
+-- lines of its report are the same, that of sums with them.
 abbrev pub NearReport : Type 0
 NearReport =
     (plan : PlanText) (lanes : ℕ) (results : List (ResultOf Fault)) → IsReadPlan plan → HasNearReport plan

@@ -1,6 +1,6 @@
 -- Plans whose nodes compute the same value beside one another, which places they share, and what is reported of them
 -- (Javadoc `ExtensionContext.Store`, `getOrComputeIfAbsent`).
-use Rattle.std.specs.Prelude.{ℕ, ◌≡◌, Bool, ◌&&◌, ◌==◌, Option, None, find, option_map, ◌+◌, if◌then◌else◌}
+use Rattle.std.specs.Prelude.{ℕ, ◌≡◌, Bool, ◌&&◌, ◌||◌, ◌==◌, Option, None, find, option_map, ◌+◌}
 use Rattle.ext_tree.specs.Keys.{KeyValue}
 use Rattle.ext_plan.specs.Plans.{PlanText}
 use Rattle.ext_plan.specs.StoreKeys.{place_of_key}
@@ -31,16 +31,21 @@ abbrev pub is_beside_at : PlanText → ℕ → ℕ → KeyValue → TouchText �
 is_beside_at plan node context key touch = nodes_beside plan node touch.node && (touch.context == context)
     && (touch.key == place_of_key (keys_named plan) key)
 
--- The value that a compute gives.
-abbrev pub value_given : TouchText → ValueText
-value_given touch = record { text = touch.text; closeable = word_eq touch.word words.ComputeCloseable }
+-- The touch is of this place, by this node or one below it, and a node beside it touches the place too. One of both may
+-- change it.
+abbrev pub is_shared_at : PlanText → ℕ → ℕ → KeyValue → TouchText → Bool
+is_shared_at plan node context key touch = is_at plan node context key touch
+    && list_any (λ u. is_beside_at plan node context key u && (touch.changes || u.changes)) (touches_made plan)
 
--- The places that a node or the nodes below it may change, and that a node beside it touches, each with the value that
--- is given there first. In a plan whose nodes share values, all of them compute this value there.
+-- The value that a compute gives, or that a look-up finds behind one.
+abbrev pub value_given : TouchText → ValueText
+value_given touch = record { text = touch.text; closeable = word_eq touch.acts words.ComputeCloseable }
+
+-- The places that a node or the nodes below it touch, and that a node beside it touches, if one of them may change them,
+-- each with the value that is given there first. In a plan whose nodes share values, all of them compute this value there
+-- or find it.
 unfoldable pub shares_in : PlanText → ℕ → Open
-shares_in plan node context key =
-    if list_any (is_beside_at plan node context key) (touches_made plan)
-    then option_map value_given (find (may_change_at plan node context key) (touches_made plan)) else None
+shares_in plan node context key = option_map value_given (find (is_shared_at plan node context key) (touches_made plan))
 
 -- No place is shared.
 abbrev pub SharesNothing : Open → Type 0

@@ -1,8 +1,8 @@
--- Worked plans: which plans keep apart and have one text for failing closes, and which do not, with a class and two
--- tests. Each sentence is proved by `worked_plans`, most of them by computing (JUnit 5 User Guide, "Parallel
--- Execution"). The table in docs/PLANS.md, 'Races', has such plans. Context 0 is the root `[e:x]`, 1 the class `[c:A]`,
--- and 2 and 3 are its tests `[t:m]` and `[t:n]`. A step that ends with 1 acts one context up: a test's step on the
--- class.
+-- Worked plans: which plans keep apart, share values and have one text for failing closes, and which do not, with a class
+-- and two tests, or two such classes. Each sentence is proved by `worked_plans`, most of them by computing (JUnit 5 User
+-- Guide, "Parallel Execution"). The table in docs/PLANS.md, 'Races', has such plans. Context 0 is the root `[e:x]`, 1 the
+-- class `[c:A]`, and 2 and 3 are its tests `[t:m]` and `[t:n]`. A step that ends with 1 acts one context up: a test's
+-- step on the class, and a class's on the root.
 use Rattle.std.specs.Prelude.{ℕ, ◌≤◌, ◌<◌, All, codes, false, List, [], ◌∷◌, ◌++◌, length, Some, None, ◌≡◌}
 use Rattle.ext_lifecycle.specs.declared.mode.Mode.{Mode}
 use Rattle.ext_lifecycle.specs.declared.mode.Mode.TheVariants as modes
@@ -90,6 +90,12 @@ OwnPutsKeepApart = (text other : List ℕ)
 abbrev pub LooksKeepApart : Type 0
 LooksKeepApart = (text wanted other : List ℕ)
     → KeepsApart (two_tests (keyed words.Put a text 0 ∷ []) (keyed words.Want a wanted 0 ∷ [])
+    (keyed words.Want a other 0 ∷ []))
+
+-- So do tests that look at one that it computed there.
+abbrev pub LooksBelowKeepApart : Type 0
+LooksBelowKeepApart = (text wanted other : List ℕ)
+    → KeepsApart (two_tests (keyed words.Compute a text 0 ∷ []) (keyed words.Want a wanted 0 ∷ [])
     (keyed words.Want a other 0 ∷ []))
 
 -- Tests that put under two keys into the class's context keep apart.
@@ -222,3 +228,27 @@ SecondShares = (text : List ℕ)
 -- The class shares nothing there, since no node runs beside it.
 abbrev pub ClassSharesNone : Type 0
 ClassSharesNone = (text : List ℕ) → shares_in (computing text) 1 1 (key_of_step (computing text).keys a) ≡ None
+
+-- A concurrent class that makes these steps before all, with two concurrent tests that make these.
+abbrev pub class_of : List ℕ → List StepText → List StepText → List NodeText
+class_of name before body =
+    let id = root_id ++ (codes "c", name) ∷ [] in
+    record (container id (before ∷ [])) { mode = modes.Concurrent }
+    ∷ record (test_of_class modes.Concurrent [] body) { id = id ++ (codes "t", codes "m") ∷ [] }
+    ∷ record (test_of_class modes.Concurrent [] body) { id = id ++ (codes "t", codes "n") ∷ [] } ∷ []
+
+-- Two such classes that both compute a value in the root's context before all.
+abbrev pub computing_above : List ℕ → List StepText → PlanText
+computing_above text body = record (two_tests [] [] []) {
+  nodes = container root_id [] ∷ class_of (codes "A") (keyed words.Compute a text 1 ∷ []) body
+      ++ class_of (codes "B") (keyed words.Compute a text 1 ∷ []) body;
+}
+
+-- They share the value with their tests that look it up: one of both has computed it before.
+abbrev pub LooksBelowShareValues : Type 0
+LooksBelowShareValues = (text wanted : List ℕ) → SharesValues (computing_above text (keyed words.Want a wanted 0 ∷ []))
+
+-- But not if a step of the plan removes that key, even in a test's own context.
+abbrev pub RemovedDoNot : Type 0
+RemovedDoNot = (text wanted : List ℕ)
+    → ¬ SharesValues (computing_above text (keyed words.Want a wanted 0 ∷ keyed words.Remove a [] 0 ∷ []))

@@ -4,8 +4,8 @@
 //! `report_laws` proves it where closes tell no order, if
 //!
 //! - no node may change a place that a node running beside it touches, unless both compute the same
-//!   value there (`specs/OneReports` of `ext_races`), and then the counts of computed and found
-//!   values may differ (`specs/Shares`),
+//!   value there (`specs/OneReports` of `ext_races`), and then which node computed it and which
+//!   found it may differ, but not the totals (`specs/Shares`),
 //! - and no call and no close wants memory, a number, a key or a value (`specs/FullRuns`). The
 //!   results of a run tell that this is so (`told_lack_laws`).
 //!

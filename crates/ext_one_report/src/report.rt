@@ -7,9 +7,9 @@ ghost use Rattle.ext_one_report.specs.OneReport.{NearReport, OneReport};
 ///
 /// That is: nodes that may run beside one another touch no place that one of them may change, and
 /// closes tell no order (`one_report`). Where such nodes may also compute the same value in one
-/// place, all is the same but who computed it and who found it, and of a node that shares no value
-/// exactly the same (`near`). The nodes of a plan without races keep apart or share values, but for
-/// those that compute one fault (`apart`, `shares`).
+/// place, all is the same but who computed it and who found it: the totals are the same, and a node
+/// that shares no value has exactly the same (`near`). The nodes of a plan without races keep apart
+/// or share values, but for those that compute one fault (`apart`, `shares`).
 pub fn report_laws()
     ensures one_report { OneReport }
     ensures near { NearReport }

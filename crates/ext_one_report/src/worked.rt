@@ -1,11 +1,12 @@
 //! Worked plans.
-ghost use Rattle.ext_one_report.specs.WorkedPlans.{ComputesAreNoRace, ComputesDoNot, LookAndPutDoNot, LooksKeepApart, OneByOneKeepsApart, OneTextTellsOne, OwnPutsKeepApart, PutsAboveDoNot, ReplacedDoesNotTellOne, TestsAreBeside, TestsAreRead, TwoContextsTellOne, TwoFaultsDoNotTellOne, TwoKeysKeepApart, WorkedHasKeys, WorkedHasNumbers, WorkedIsRead, WorkedKeepsApart, WorkedTellsOne, ClassSharesNone, ComputesShareValues, FirstShares, LooksAfterDoNot, LooksBehindShareValues, SecondShares};
+ghost use Rattle.ext_one_report.specs.WorkedPlans.{ComputesAreNoRace, ComputesDoNot, LookAndPutDoNot, LooksBelowKeepApart, LooksKeepApart, OneByOneKeepsApart, OneTextTellsOne, OwnPutsKeepApart, PutsAboveDoNot, ReplacedDoesNotTellOne, TestsAreBeside, TestsAreRead, TwoContextsTellOne, TwoFaultsDoNotTellOne, TwoKeysKeepApart, WorkedHasKeys, WorkedHasNumbers, WorkedIsRead, WorkedKeepsApart, WorkedTellsOne, ClassSharesNone, ComputesShareValues, FirstShares, LooksAfterDoNot, LooksBehindShareValues, LooksBelowShareValues, RemovedDoNot, SecondShares};
 
 /// Proves which of some small plans keep apart and whose closes tell one text, and that one plan
 /// has all that `report_laws` asks. It does nothing when it runs.
 pub fn worked_plans()
     ensures own_puts_keep_apart { OwnPutsKeepApart }
     ensures looks_keep_apart { LooksKeepApart }
+    ensures looks_below_keep_apart { LooksBelowKeepApart }
     ensures two_keys_keep_apart { TwoKeysKeepApart }
     ensures one_by_one_keeps_apart { OneByOneKeepsApart }
     ensures puts_above_do_not { PutsAboveDoNot }
@@ -26,6 +27,8 @@ pub fn worked_plans()
     ensures computes_share { ComputesShareValues }
     ensures looks_behind_share { LooksBehindShareValues }
     ensures looks_after_do_not { LooksAfterDoNot }
+    ensures looks_below_share { LooksBelowShareValues }
+    ensures removed_do_not { RemovedDoNot }
     ensures first_shares { FirstShares }
     ensures second_shares { SecondShares }
     ensures class_shares_none { ClassSharesNone }

@@ -26,7 +26,8 @@ word_is = same_true the_type (search rules)
 
 pub touch_is : (t u : TouchText) → touch_eq t u ≡ true → t ≡ u
 touch_is t u h =
-    let h5 = both _ _ h in
+    let h6 = both _ _ h in
+    let h5 = both _ _ h6.0 in
     let h4 = both _ _ h5.0 in
     let h3 = both _ _ h4.0 in
     let h2 = both _ _ h3.0 in
@@ -36,8 +37,9 @@ touch_is t u h =
     let key = equal t.key u.key h2.1 in
     let word = word_is t.word u.word h3.1 in
     let changes = (booleans_Decides t.changes u.changes).0 h4.1 in
-    let text = (bytes_decides t.text u.text).0 h5.1 in
-    λ i. record { node = node i; context = context i; key = key i; word = word i; changes = changes i; text = text i }
+    let acts = word_is t.acts u.acts h5.1 in
+    let text = (bytes_decides t.text u.text).0 h6.1 in
+    λ i. record { node = node i; context = context i; key = key i; word = word i; changes = changes i; acts = acts i; text = text i }
 
 side_is : (a b : Side) → side_eq a b ≡ true → a ≡ b
 side_is a b h =

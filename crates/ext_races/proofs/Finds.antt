@@ -22,7 +22,7 @@ use Rattle.ext_races.specs.InnerMade.{made_views}
 use Rattle.ext_races.specs.MadeSteps.{MadeText, steps_made}
 use Rattle.ext_races.specs.Found.{HasRaces, IsWithin}
 use Rattle.ext_races.specs.Races.{AreRaces, IsRace}
-use Rattle.ext_races.specs.Touches.{TouchText, keys_named, numbers_drawn, touches_made, touches_of}
+use Rattle.ext_races.specs.Touches.{TouchText, keys_named, numbers_drawn, standing, touches_made, touches_of}
 use Rattle.ext_races.proofs.After.{views_all}
 use Rattle.ext_races.proofs.Exact.{are_races}
 use Rattle.ext_races.proofs.Within.{nodes_within}
@@ -46,10 +46,11 @@ module _ (plan : PlanText) (made : List MadeText) (steps : made ≡ steps_made p
 
   -- the groups have the plan's touches
   pub touches_in : (declared : List KeyText) (directory : List KeyValue) (ids : List Id) (groups : List (List TouchText)) → declared ≡ plan.keys → ids ≡ ids_of_nodes plan.nodes → directory ≡ keys_told declared made
-      → IsGrouped (length directory) (flat_map (touches_of ids declared directory) made) groups → IsGrouped (length directory) (touches_made plan) groups
+      → IsGrouped (length directory) (flat_map (touches_of ids declared directory (standing plan)) made) groups → IsGrouped (length directory) (touches_made plan) groups
   touches_in declared directory ids groups keys nodes is grouped =
-      let same = ap (λ i. flat_map (touches_of i declared directory) made) nodes ∙ ap (λ d. flat_map (touches_of (ids_of_nodes plan.nodes) d directory) made) keys
-      ∙ ap (λ k. flat_map (touches_of (ids_of_nodes plan.nodes) plan.keys k) made) (named_is declared directory keys is) ∙ ap (flat_map (touches_of (ids_of_nodes plan.nodes) plan.keys (keys_named plan))) steps in
+      let above = standing plan in
+      let same = ap (λ i. flat_map (touches_of i declared directory above) made) nodes ∙ ap (λ d. flat_map (touches_of (ids_of_nodes plan.nodes) d directory above) made) keys
+      ∙ ap (λ k. flat_map (touches_of (ids_of_nodes plan.nodes) plan.keys k above) made) (named_is declared directory keys is) ∙ ap (flat_map (touches_of (ids_of_nodes plan.nodes) plan.keys (keys_named plan) above)) steps in
       subst (λ touches. IsGrouped (length directory) touches groups) same grouped
 
 -- as many numbers are drawn as there are, or fewer

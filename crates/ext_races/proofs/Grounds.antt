@@ -24,7 +24,7 @@ use Rattle.ext_races.proofs.Equalities.{both, both_true, equal, word_is}
 use Rattle.ext_races.proofs.Free.{free_keeps_apart, race_free_shares_values}
 use Rattle.ext_races.proofs.Searches.{group_within}
 use Rattle.ext_races.proofs.Sides.{nodes_found, nodes_told}
-use Rattle.ext_races.proofs.TouchNodes.{touch_within}
+use Rattle.ext_races.proofs.TouchNodes.{acts_itself, touch_within}
 
 -- ---- words
 
@@ -50,8 +50,8 @@ each_word P a b c words.Compute is = a
 each_word P a b c words.ComputeCloseable is = b
 each_word P a b c words.ComputeFail is = c
 
-agree_computes : (t u : TouchText) → agree t u ≡ true → computes t.word ≡ true
-agree_computes t u agrees = (both u.changes (computes t.word) (both _ _ (both _ _ agrees).0).0).1
+agree_computes : (plan : PlanText) (t u : TouchText) → Contains (touches_made plan) t → t.changes ≡ true → agree t u ≡ true → computes t.word ≡ true
+agree_computes plan t u made changing agrees = ap computes (sym (acts_itself plan t made changing)) ∙ (both _ _ (both _ _ agrees).0).0
 
 -- ---- groups
 
@@ -139,7 +139,7 @@ module _ (plan : PlanText) (groups : List (List TouchText)) (keys : ℕ) (are : 
     none = λ t u one two beside changes at named agrees. elim (cases_Bool (gives_value t.word)) [
       | inl gives ↦ gives
       | inr fails ↦
-          let word = word_fails t.word (agree_computes t u agrees) fails in
+          let word = word_fails t.word (agree_computes plan t u one changes agrees) fails in
           absurd (is_found t u one two beside changes at named agrees (subst (λ w. AlikeIn plan w groups None) (sym word) none))
     ];
   }
@@ -162,7 +162,7 @@ module _ (plan : PlanText) (groups : List (List TouchText)) (keys : ℕ) (are : 
   none_agree : AlikeIn plan words.Compute groups None → AlikeIn plan words.ComputeCloseable groups None → AlikeIn plan words.ComputeFail groups None → NoneAgree plan
   none_agree values closeable fails = record {
     none = λ t u one two beside changes at named. false_from_ne_true (agree t u) (λ agrees.
-        is_found t u one two beside changes at named agrees (each_word (λ w. AlikeIn plan w groups None) values closeable fails t.word (agree_computes t u agrees)));
+        is_found t u one two beside changes at named agrees (each_word (λ w. AlikeIn plan w groups None) values closeable fails t.word (agree_computes plan t u one changes agrees)));
   }
 
   -- ---- what is proved

@@ -1,5 +1,7 @@
+pub mod Above
 pub mod After
 pub mod Calls
+pub mod Computes
 pub mod Equalities
 pub mod Exact
 pub mod Finds

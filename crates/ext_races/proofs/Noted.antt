@@ -31,23 +31,23 @@ both_agree : (f t u : TouchText) → agree f t ≡ true → agree f u ≡ true �
 both_agree f t u one two =
     let p = both _ _ one in
     let p2 = both _ _ p.0 in
-    let p3 = both _ _ p2.0 in
     let q = both _ _ two in
     let q2 = both _ _ q.0 in
-    let q3 = both _ _ q2.0 in
-    let word_t = word_is f.word t.word p2.1 in
-    let word_u = word_is f.word u.word q2.1 in
+    let word_t = word_is f.acts t.acts p2.1 in
     let text_t = (bytes_decides f.text t.text).0 p.1 in
     let text_u = (bytes_decides f.text u.text).0 q.1 in
     let text : t.text ≡ u.text = sym text_t ∙ text_u in
-    let computes_t : computes t.word ≡ true = ap computes (sym word_t) ∙ p3.1 in
-    let word : word_eq t.word u.word ≡ true = ap (λ w. word_eq w u.word) (sym word_t) ∙ q2.1 in
-    (both_true _ _ (both_true _ _ (both_true _ _ q3.0 computes_t) word) ((bytes_decides t.text u.text).1 text), text)
+    let computes_t : computes t.acts ≡ true = ap computes (sym word_t) ∙ p2.0 in
+    let word : word_eq t.acts u.acts ≡ true = ap (λ w. word_eq w u.acts) (sym word_t) ∙ q2.1 in
+    (both_true _ _ (both_true _ _ computes_t word) ((bytes_decides t.text u.text).1 text), text)
+
+alike_as : (f t : TouchText) (is : Bool) → computes f.acts ≡ is → alike f t ≡ true → (if is then agree f t else not f.changes && not t.changes) ≡ true
+alike_as f t is computed h = sym (ap (λ b. if b then agree f t else not f.changes && not t.changes) computed) ∙ h
 
 no_clash : (f t u : TouchText) → alike f t ≡ true → alike f u ≡ true → clashes t u ≡ true → ⊥
-no_clash f t u one two clash = elim (cases_Bool f.changes) [
-  | inl changes ↦
-      let are = both_agree f t u (rw changes at one) (rw changes at two) in
+no_clash f t u one two clash = elim (cases_Bool (computes f.acts)) [
+  | inl computed ↦
+      let are = both_agree f t u (alike_as f t true computed one) (alike_as f u true computed two) in
       let parts = both (t.changes && (t.context == u.context)) (if t.key == u.key then not (agree t u) else closes_differ t u) clash in
       elim (cases_Bool (t.key == u.key)) [
         | inl one_key ↦ let no : not (agree t u) ≡ true = rw one_key at parts.1 in absurd (true≢false (sym no ∙ ap not are.0))
@@ -56,9 +56,9 @@ no_clash f t u one two clash = elim (cases_Bool f.changes) [
             absurd (true≢false (sym (both _ _ differ).1 ∙ ap not ((bytes_decides t.text u.text).1 are.1)))
       ]
   | inr looks ↦
-      let still : not t.changes ≡ true = rw looks at one in
+      let neither : (not f.changes && not t.changes) ≡ true = alike_as f t false looks one in
       let parts = both t.changes (t.context == u.context) (both (t.changes && (t.context == u.context)) _ clash).0 in
-      absurd (true≢false (sym still ∙ ap not parts.0))
+      absurd (true≢false (sym (both _ _ neither).1 ∙ ap not parts.0))
 ]
 
 -- ---- at a container

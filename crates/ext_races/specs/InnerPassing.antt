@@ -5,15 +5,16 @@ use Rattle.std.specs.Prelude.{ℕ, ◌≡◌, ◌<◌, ◌⊎◌, Bool, true, fa
 use Rattle.std.specs.List.{list_any}
 use Rattle.ext_plan.specs.Plans.{PlanText}
 use Rattle.ext_plan.specs.PlanCalls.{concurrent_of}
+use Rattle.ext_plan.specs.StepWords.{computes}
 use Rattle.ext_races.specs.declared.passing.Passed.{Passed}
 use Rattle.ext_races.specs.Beside.{PassesBy, turns}
 use Rattle.ext_races.specs.Clashes.{agree}
 use Rattle.ext_races.specs.MadeSteps.{plan_path}
 use Rattle.ext_races.specs.Touches.{TouchText, touch_view}
 
--- Neither may change anything, or both compute with the same result.
+-- Each computes the same, or finds it; or the first does neither, and neither may change anything.
 abbrev pub alike : TouchText → TouchText → Bool
-alike t u = if t.changes then agree t u else not u.changes
+alike t u = if computes t.acts then agree t u else not t.changes && not u.changes
 
 -- ---- what is noted
 

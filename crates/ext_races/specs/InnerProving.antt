@@ -46,7 +46,7 @@ TextsIn keys contexts groups (Some texts) = (k : ℕ) × HasTwoTexts (group_at g
 
 -- ---- computes that agree
 
--- Both compute one place with this word and one text.
+-- The first computes one place with this word, and the second computes the same there or finds it.
 abbrev pub compute_alike : Word → TouchText → TouchText → Bool
 compute_alike word t u =
     t.changes && word_eq t.word word && (t.context == u.context) && (t.key == u.key) && agree t u

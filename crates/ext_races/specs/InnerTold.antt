@@ -23,7 +23,7 @@ race_eq a b = side_eq a.first b.first && side_eq a.second b.second && (a.context
 
 abbrev pub touch_eq : TouchText → TouchText → Bool
 touch_eq t u = (t.node == u.node) && (t.context == u.context) && (t.key == u.key) && word_eq t.word u.word
-    && beq t.changes u.changes && bytes_eq t.text u.text
+    && beq t.changes u.changes && word_eq t.acts u.acts && bytes_eq t.text u.text
 
 -- ---- races
 

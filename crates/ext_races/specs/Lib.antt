@@ -8,10 +8,12 @@ pub mod InnerNaming
 pub mod InnerPassing
 pub mod InnerProving
 pub mod InnerReach
+pub mod InnerStanding
 pub mod InnerTold
 pub mod MadeSteps
 pub mod OneReports
 pub mod Proving
+pub mod RaceJson
 pub mod RaceLines
 pub mod Races
 pub mod Touches

@@ -64,6 +64,10 @@ module _ (plan : PlanText) where
   abbrev pub calls_after : ℕ → List Call
   calls_after node = afters_of (registered plan) (is_some (test_of plan node)) node (plan_path node)
 
+  -- The steps of the callbacks before the body of a node.
+  abbrev pub steps_before : ℕ → List StepText
+  steps_before node = flat_map (steps_of_call plan) (calls_before node)
+
   -- The calls of a node. The body of a container has no steps.
   abbrev pub calls_of : ℕ → List Call
   calls_of node = calls_before node ++ test_call node ∷ [] ++ calls_after node

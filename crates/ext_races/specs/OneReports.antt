@@ -13,15 +13,15 @@ use Rattle.ext_races.specs.Touches.{TouchText, keys_named, numbers_drawn, touche
 
 -- ---- what nodes touch
 
--- No node may change a place that a node touches that may run beside it. Two nodes that compute the same in one place
--- do not keep apart, though they are no race.
+-- No node may change a place that a node touches that may run beside it. Two nodes that compute the same in one place,
+-- or one that computes it and one that finds it, do not keep apart, though they are no race.
 pub record KeepsApart (plan : PlanText) : Type 0 where
   pub apart : (first second : TouchText) → Contains (touches_made plan) first → Contains (touches_made plan) second
       → IsBeside plan first.node second.node → first.changes ≡ true
       → first.context ≡ second.context → first.key ≢ second.key
 
--- If nodes that may run beside one another touch one place that one of them may change, both compute the same value
--- there.
+-- If nodes that may run beside one another touch one place that one of them may change, that one computes a value there,
+-- and the other computes the same one or finds it.
 pub record SharesValues (plan : PlanText) : Type 0 where
   pub alike : (first second : TouchText) → Contains (touches_made plan) first → Contains (touches_made plan) second
       → IsBeside plan first.node second.node → first.changes ≡ true
@@ -37,8 +37,8 @@ pub record ClosesTellOne (plan : PlanText) : Type 0 where
 
 -- ---- plans without races
 
--- No two touches of one place agree, if the first may change it and their nodes may run beside one another. They would
--- be two computes of the same value.
+-- No two touches of one place agree, if the first may change it and their nodes may run beside one another. The second
+-- would compute the same there, or find it.
 pub record NoneAgree (plan : PlanText) : Type 0 where
   pub none : (first second : TouchText) → Contains (touches_made plan) first → Contains (touches_made plan) second
       → IsBeside plan first.node second.node → first.changes ≡ true
@@ -72,8 +72,8 @@ pub record HasOneReport (plan : PlanText) : Type 0 where
   pub keys : length (keys_named plan) ≤ plan.key_places
   pub numbers : numbers_drawn plan < most_numbers plan.size
 
--- What the second theorem asks of a plan whose nodes may compute the same value beside one another: if they touch one
--- place that one of them may change, both compute the same value there. The rest is as above.
+-- What the second theorem asks of a plan whose nodes may compute the same value beside one another, or find it: if they
+-- touch one place that one of them may change, each does so there. The rest is as above.
 pub record HasNearReport (plan : PlanText) : Type 0 where
   pub alike : SharesValues plan
   pub closes : ClosesTellOne plan

@@ -2,19 +2,21 @@
 -- and `none` look at it, and at the places of their key in all contexts above. A compute changes the place on which it
 -- acts and looks at those above (Javadoc `ExtensionContext.Store`, `put`, `get`, `remove` and `getOrComputeIfAbsent`).
 -- That a compute counts as a change, whatever it finds, is chosen here.
-use Rattle.std.specs.Prelude.{ℕ, Bool, false, ◌&&◌, List, [], ◌∷◌, drop, take, fold, map, Option, Some, None, if◌then◌else◌}
-use Rattle.std.specs.List.{flat_map, count_by}
+use Rattle.std.specs.Prelude.{ℕ, Bool, true, false, ◌&&◌, ◌||◌, ◌==◌, List, [], ◌∷◌, drop, take, fold, map, Option, Some, None, if◌then◌else◌}
+use Rattle.std.specs.List.{flat_map, count_by, list_any}
 use Rattle.ext_tree.specs.Keys.{KeyValue}
 use Rattle.ext_tree.specs.Traits.{key_eq}
 use Rattle.ext_tree.specs.Trees.{Id}
 use Rattle.ext_plan.specs.Plans.{KeyText, PlanText, StepText}
 use Rattle.ext_plan.specs.ReadPlans.{ids_of_nodes}
+use Rattle.ext_plan.specs.StepCalls.{start_of}
 use Rattle.ext_plan.specs.StoreKeys.{key_of_step, place_of_key, with_key}
 use Rattle.ext_plan.specs.declared.word.Word.{Word}
-use Rattle.ext_plan.specs.StepWords.{changes, gives_value, has_text, looks_along}
+use Rattle.ext_plan.specs.declared.word.Word.TheVariants as words
+use Rattle.ext_plan.specs.StepWords.{changes, gives_value, has_text, looks_along, word_eq}
 use Rattle.ext_races.specs.declared.touch.Touch.{Touch}
 use Rattle.ext_races.specs.Acts.{ActText, act_of, draws}
-use Rattle.ext_races.specs.MadeSteps.{MadeText, path_of, steps_made}
+use Rattle.ext_races.specs.MadeSteps.{MadeText, path_of, plan_path, steps_before, steps_made}
 
 -- ---- the keys that steps name
 
@@ -45,13 +47,16 @@ numbers_drawn plan = count_by (λ made. draws plan.keep_faults made.step) (steps
 -- ---- places
 
 -- A touch: the place of a key, by its number, in a context; by which node and with which word; whether the step may
--- change it; and its text, if that decides whether it races.
+-- change it; the word as which it counts; and the text, if that decides whether it races. A touch that may change its
+-- place counts as its own word. One that only looks counts as `want`, or as a compute whose value it finds there, with
+-- that compute's text.
 pub record TouchText : Type 0 where
   pub node : ℕ
   pub context : ℕ
   pub key : ℕ
   pub word : Word
   pub changes : Bool
+  pub acts : Word
   pub text : List ℕ
 
 abbrev pub touch_view : Touch → TouchText
@@ -61,6 +66,7 @@ touch_view t = record {
   key = t.key;
   word = t.word;
   changes = t.changes;
+  acts = t.acts;
   text = t.text.now;
 }
 
@@ -75,18 +81,82 @@ touch_of node key act change context = record {
   key = key;
   word = act.word;
   changes = change;
+  acts = if change then act.word else words.Want;
   text = text_if (change && has_text act.word) act.text;
 }
 
+-- ---- what was computed above
+
+-- A compute: the context on which the step acts, its word and its text.
+pub record ComputeText : Type 0 where
+  pub context : ℕ
+  pub word : Word
+  pub text : List ℕ
+
+module _ (declared : List KeyText) (key : KeyValue) where
+  -- The act computes a value of the key.
+  abbrev pub computes_key : Option ActText → Bool
+  computes_key None = false
+  computes_key (Some act) = gives_value act.word && key_eq (key_of_step declared act.key) key
+
+  -- It removes the key.
+  abbrev pub removes_key : Option ActText → Bool
+  removes_key None = false
+  removes_key (Some act) = word_eq act.word words.Remove && key_eq (key_of_step declared act.key) key
+
+  -- The first of these acts that computes the key, as a compute of the node with this path.
+  abbrev pub first_compute : List ℕ → List (Option ActText) → Option ComputeText
+  first_compute path [] = None
+  first_compute path (None ∷ more) = first_compute path more
+  first_compute path (Some act ∷ more) =
+      if computes_key (Some act)
+      then Some (record { context = start_of (drop act.up path); word = act.word; text = act.text })
+      else first_compute path more
+
+abbrev pub or_above : Option ComputeText → Option ComputeText → Option ComputeText
+or_above None above = above
+or_above (Some here) above = Some here
+
+module _ (plan : PlanText) where
+  -- The first compute of the key in the callbacks before all children of the nearest node that has one. Each of these
+  -- nodes is followed by those above it.
+  abbrev pub computed_above : KeyValue → List ℕ → Option ComputeText
+  computed_above key [] = None
+  computed_above key (node ∷ above) =
+      or_above (first_compute plan.keys key (node ∷ above) (map act_of (steps_before plan node))) (computed_above key above)
+
+  -- A step of the plan removes the key.
+  abbrev pub is_removed : KeyValue → Bool
+  is_removed key = list_any (λ made. removes_key plan.keys key (act_of made.step)) (steps_made plan)
+
+  -- The compute whose value stands when a node begins. By then these callbacks of the nodes above it have succeeded, so
+  -- a value stands in the context on which the compute acts, or above it. If no step removes the key, one stands there
+  -- until that context is closed.
+  abbrev pub standing : ℕ → KeyValue → Option ComputeText
+  standing node key = if is_removed key then None else computed_above key (drop 1 (plan_path plan node))
+
+-- How a look-up touches the place in a context, after this compute above its node.
+abbrev pub look_at : ℕ → ℕ → ActText → Option ComputeText → ℕ → TouchText
+look_at node key act None context = touch_of node key act false context
+look_at node key act (Some found) context =
+    if context == found.context
+    then record (touch_of node key act false context) { acts = found.word; text = found.text }
+    else touch_of node key act false context
+
+-- How an act touches the place in the context on which it acts.
+abbrev pub touch_first : ℕ → ℕ → ActText → Option ComputeText → ℕ → TouchText
+touch_first node key act found context =
+    if changes act.word then touch_of node key act true context else look_at node key act found context
+
 -- What an act touches above the context on which it acts.
-abbrev pub touches_above : ℕ → ℕ → ActText → List ℕ → List TouchText
-touches_above node key act above = if looks_along act.word then map (touch_of node key act false) above else []
+abbrev pub touches_above : ℕ → ℕ → ActText → Option ComputeText → List ℕ → List TouchText
+touches_above node key act found above = if looks_along act.word then map (look_at node key act found) above else []
 
 -- What an act touches from the context on which it acts.
-abbrev pub touches_along : ℕ → ℕ → ActText → List ℕ → List TouchText
-touches_along node key act [] = []
-touches_along node key act (context ∷ above) =
-    touch_of node key act (changes act.word) context ∷ touches_above node key act above
+abbrev pub touches_along : ℕ → ℕ → ActText → Option ComputeText → List ℕ → List TouchText
+touches_along node key act found [] = []
+touches_along node key act found (context ∷ above) =
+    touch_first node key act found context ∷ touches_above node key act found above
 
 -- ---- look-ups after a compute
 
@@ -97,12 +167,16 @@ touches_along node key act (context ∷ above) =
 -- computes the same. If the node itself removes the value in between, that clashes with the other's compute. A compute
 -- whose factory fails hides nothing: it leaves its place empty and succeeds, so another node's factory may still run
 -- after it.
+--
+-- A look-up of a key that its own node has not computed before finds what was computed above (`standing`). It touches
+-- the place on which that compute acts as if it computed the same there, but does not change it: so it clashes with all
+-- that may change that place, except computes of the same value. It looks at all other places as ever, since the value
+-- may stand above that place.
 module _ (declared : List KeyText) (key : KeyValue) where
   -- The part of the path below the context in which the act computes this key, if it does.
   abbrev pub below_act : List ℕ → Option ActText → List ℕ
   below_act path None = path
-  below_act path (Some act) = if gives_value act.word && key_eq (key_of_step declared act.key) key then take act.up path
-      else path
+  below_act path (Some act) = if computes_key declared key (Some act) then take act.up path else path
 
   -- The part of the path below all contexts in which these steps compute the key.
   abbrev pub below_computes : List ℕ → List StepText → List ℕ
@@ -115,18 +189,28 @@ reach declared before path act = if changes act.word then path
 
 -- ---- touches
 
--- The touches of an act by a node with this path, with these keys' numbers, after these steps.
-abbrev pub touches_of_act : List KeyText → List KeyValue → ℕ → List ℕ → List StepText → Option ActText → List TouchText
-touches_of_act declared keys node path before None = []
-touches_of_act declared keys node path before (Some act) =
-    touches_along node (place_of_key keys (key_of_step declared act.key)) act
+-- What an act after these steps finds of what was computed above: only a look-up does, if none of them computes its key.
+abbrev pub found_above : List KeyText → List StepText → (KeyValue → Option ComputeText) → ActText → Option ComputeText
+found_above declared before above act =
+    if changes act.word || list_any (λ step. computes_key declared (key_of_step declared act.key) (act_of step)) before
+    then None else above (key_of_step declared act.key)
+
+-- The touches of an act by a node with this path, with these keys' numbers, after these steps and what was computed above
+-- for each key.
+abbrev pub touches_of_act : List KeyText → List KeyValue → ℕ → List ℕ → List StepText → (KeyValue → Option ComputeText)
+    → Option ActText → List TouchText
+touches_of_act declared keys node path before above None = []
+touches_of_act declared keys node path before above (Some act) =
+    touches_along node (place_of_key keys (key_of_step declared act.key)) act (found_above declared before above act)
     (drop act.up (reach declared before path act))
 
--- The touches of one step that a run may make.
-abbrev pub touches_of : List Id → List KeyText → List KeyValue → MadeText → List TouchText
-touches_of ids declared keys made =
-    touches_of_act declared keys made.node (path_of ids made.node) made.before (act_of made.step)
+-- The touches of one step that a run may make, after what was computed above each node for each key.
+abbrev pub touches_of : List Id → List KeyText → List KeyValue → (ℕ → KeyValue → Option ComputeText) → MadeText
+    → List TouchText
+touches_of ids declared keys above made =
+    touches_of_act declared keys made.node (path_of ids made.node) made.before (above made.node) (act_of made.step)
 
 -- The touches of all steps of a plan.
 abbrev pub touches_made : PlanText → List TouchText
-touches_made plan = flat_map (touches_of (ids_of_nodes plan.nodes) plan.keys (keys_named plan)) (steps_made plan)
+touches_made plan =
+    flat_map (touches_of (ids_of_nodes plan.nodes) plan.keys (keys_named plan) (standing plan)) (steps_made plan)

@@ -11,6 +11,7 @@ use crate::groups::groups_of;
 use crate::made::steps_made;
 use crate::naming::{keys_named, numbers_drawn};
 use crate::proving::proved_of;
+use crate::standing::standing_of;
 use crate::telling::races_told;
 use crate::touch::Touch;
 use crate::{Found, Race};
@@ -20,9 +21,9 @@ use std::alloc::{AllocError, Global};
 
 /// Lists at most `most` races of a plan, without repetition, or reports a limit that its steps
 /// exceed. A race is of two nodes that may run beside one another, each with a step. Both steps
-/// touch one place that one of them may change, and do not compute the same result there; or both
-/// leave values in one context whose closes may fail with different texts. If fewer than `most`
-/// races are listed there are no others. Where `most` is at least 1 and the plan has no race,
+/// touch one place that one of them may change, and do not compute the same result there, or find
+/// it; or both leave values in one context whose closes may fail with different texts. If fewer
+/// than `most` races are listed there are no others. Where `most` is at least 1 and the plan has no race,
 /// `NoRaces` tells what is proved of its report; with `most` of 0 nothing is looked for.
 ///
 /// `TooManyKeys` reports that the steps name more keys than `Plan::key_places`, and otherwise
@@ -30,10 +31,11 @@ use std::alloc::{AllocError, Global};
 /// no one report, whatever its nodes touch.
 ///
 /// Takes memory for the steps that the plan may make, 24 bytes each, for what they touch, for each
-/// node, and for a list for each key that they name in each context; fails with `AllocError` only
-/// if that is refused. The time grows with the number of steps. At a place where nodes that may run
-/// beside one another don't all look or all compute the same, it grows with the number of pairs of
-/// touches, too, until `most` races are listed.
+/// node, for each key that its callbacks before all children compute, 40 bytes, and for a list for
+/// each key that the steps name in each context; fails with `AllocError` only if that is refused.
+/// The time grows with the number of steps. At a place where nodes that may run beside one another
+/// don't all look, or all compute the same or find it, it grows with the number of pairs of touches,
+/// too, until `most` races are listed.
 pub fn races<'p>(alloc: Global, plan: &'p Plan, most: usize) -> Result<Found<'p>, AllocError>
     requires { IsRunnablePlan (plan_view plan.now) }
     ensures { IfOk result (IsFound (plan_view plan.now) most) }
@@ -52,7 +54,8 @@ pub fn races<'p>(alloc: Global, plan: &'p Plan, most: usize) -> Result<Found<'p>
     if drawn > numbers {
         return Ok(Found::TooManyNumbers);
     }
-    let groups = groups_of(alloc, &keys, &directory, &tree, made.as_slice())?;
+    let standing = standing_of(alloc, &keys, &directory, plan, &tree, made.as_slice())?;
+    let groups = groups_of(alloc, &keys, &directory, &tree, &standing, made.as_slice())?;
     let keys = directory.len();
     let all_drawn = drawn == numbers;
     found_in(

@@ -3,14 +3,14 @@ ghost use Rattle.std.specs.Prelude.{◌≡◌, [], ◌∷◌, ◌++◌, ◌<◌,
 ghost use Rattle.std.specs.List.{flat_map};
 ghost use Rattle.std.proofs.Props.{props};
 ghost use Rattle.ext_lifecycle.specs.Callbacks.{test_call};
-ghost use Rattle.ext_tree.specs.Trees.{IsTree};
+ghost use Rattle.ext_tree.specs.Trees.{IsPathOf, IsTree};
 ghost use Rattle.ext_plan.specs.Plans.{plan_view, step_view};
 ghost use Rattle.ext_plan.specs.PlanCalls.{steps_of_call};
 ghost use Rattle.ext_plan.specs.ReadPlans.{CallbacksAreFew, ids_of_nodes};
 ghost use Rattle.ext_races.specs.InnerMade.{counted, made_views};
 ghost use Rattle.ext_races.specs.MadeSteps.{calls_after, calls_before, made_after, made_in_turn, made_of_node, path_of, steps_made};
 
-use ext_lifecycle::{Call, Callbacks, Kind, calls_round};
+use ext_lifecycle::{Call, Callbacks, Kind, befores_of, calls_round};
 use ext_model::ContextNo;
 use ext_plan::{Plan, Step};
 use ext_tree::Tree;
@@ -103,6 +103,28 @@ fn calls_of(
     Ok((calls, afters))
 }
 
+/// The callbacks before the body of a node.
+pub(crate) fn calls_before(
+    alloc: Global,
+    plan: &Plan,
+    tree: &Tree,
+    node: ContextNo,
+) -> Result<Vec<Call>, AllocError>
+    requires tree { tree.now ≡ ids_of_nodes (plan_view plan.now).nodes }
+    requires few { CallbacksAreFew (plan_view plan.now) }
+    requires node { node < length tree.now }
+    ensures { IfOk result (λ v. v.items ≡ calls_before (plan_view plan.now) node) }
+{
+    let callbacks = PlanCallbacks { plan };
+    befores_of(
+        alloc,
+        &callbacks,
+        plan.is_test(node),
+        node,
+        path_in(tree, node),
+    )
+}
+
 /// Adds the steps of calls of which each is made only if those before it were successful.
 fn push_in_turn<'p>(
     plan: &'p Plan,
@@ -139,6 +161,7 @@ fn push_each<'p>(
 /// The path from a node to the root; empty if the tree has no such node.
 pub(crate) fn path_in(tree: &Tree, node: ContextNo) -> &[ContextNo]
     ensures path { node < length tree.now → result.now ≡ path_of tree.now node }
+    ensures walk { node < length tree.now → IsPathOf tree.now node result.now }
     ensures few { length result.now ≤ 16 }
     ensures within { All (λ c. c < length tree.now) result.now }
 {

@@ -124,7 +124,8 @@ fn other_failing<'a, 'p>(
 
 // ---- computes that agree
 
-/// Tests whether nodes that may run beside one another compute the same value in one place.
+/// Tests whether of nodes that may run beside one another one computes a value, and the other the
+/// same one in that place, or finds it.
 fn shares_any<'p>(
     plan: &Plan,
     tree: &Tree,
@@ -141,8 +142,8 @@ fn shares_any<'p>(
     alike_in(plan, tree, groups, passed, Word::ComputeCloseable).is_some()
 }
 
-/// The first two computes of one place with this word and one text, by nodes that may run beside
-/// one another. What is noted in `passed` before does not matter.
+/// The first compute with this word that meets another of the same, or a look-up that finds it, by
+/// a node that may run beside its node. What is noted in `passed` before does not matter.
 fn alike_in<'p>(
     plan: &Plan,
     tree: &Tree,
@@ -163,7 +164,7 @@ fn alike_in<'p>(
     None
 }
 
-/// Two such computes of one group.
+/// The same in one group.
 fn alike_of<'p>(
     plan: &Plan,
     tree: &Tree,
@@ -227,8 +228,8 @@ fn computes_any(group: &[Touch<'_>], word: Word) -> bool
     group.iter().any(|touch| touch.word == word)
 }
 
-/// Tests whether a touch of the group computes the same as this one, by a node that may run beside
-/// its node.
+/// Tests whether this computes with the word, and a touch of the group computes the same or finds
+/// it, by a node that may run beside its node.
 fn has_alike(
     plan: &Plan,
     tree: &Tree,
@@ -255,7 +256,8 @@ fn any_alike(plan: &Plan, tree: &Tree, group: &[Touch<'_>], touch: &Touch<'_>, w
         .any(|other| are_alike(plan, tree, touch, other, word))
 }
 
-/// Tests whether both compute the same with this word, by nodes that may run beside one another.
+/// Tests whether one computes with this word, and the other the same, or finds it, by nodes that may
+/// run beside one another.
 fn are_alike(plan: &Plan, tree: &Tree, touch: &Touch<'_>, other: &Touch<'_>, word: Word) -> bool
     requires { tree.now ≡ ids_of_nodes (plan_view plan.now).nodes }
     ensures { result ≡ alike_beside (plan_view plan.now) word (touch_view touch.now) (touch_view other.now) }

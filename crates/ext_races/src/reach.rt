@@ -2,7 +2,7 @@
 ghost use Rattle.std.specs.Prelude.{◌≡◌, ◌<◌, IfOk, length, take, if◌then◌else◌};
 ghost use Rattle.ext_plan.specs.StepWords.{changes};
 ghost use Rattle.ext_races.specs.Acts.{act_view};
-ghost use Rattle.ext_races.specs.InnerReach.{AreWhole, below_at, noted};
+ghost use Rattle.ext_races.specs.InnerReach.{AreWhole, below_at, is_computed, noted};
 
 use ext_model::{ContextNo, KeyNo};
 use ext_plan::KeyedStep;
@@ -10,6 +10,9 @@ use std::alloc::{AllocError, Global};
 
 /// No path has more contexts.
 const LEVELS: usize = 16;
+
+/// More than any path has: no step computed the key.
+const NOWHERE: usize = 17;
 
 /// For each of so many keys how many contexts of a path a look-up touches: all of them. Takes memory
 /// for them.
@@ -19,7 +22,7 @@ pub(crate) fn whole_paths(alloc: Global, keys: usize) -> Result<Vec<usize>, Allo
 {
     let mut below = Vec::new(alloc);
     for _ in 0..keys {
-        below.push(LEVELS)?;
+        below.push(NOWHERE)?;
     }
     Ok(below)
 }
@@ -30,7 +33,7 @@ pub(crate) fn forget(below: &mut Vec<usize>)
     ensures whole { AreWhole below.new.items }
 {
     for key in 0..below.len() {
-        below[key] = LEVELS;
+        below[key] = NOWHERE;
     }
 }
 
@@ -56,9 +59,18 @@ pub(crate) fn note(below: &mut Vec<usize>, act: &KeyedStep<'_>, key: KeyNo)
     requires { key < length below.old.items }
     ensures { below.new.items ≡ noted below.old.items key (act_view act.now) }
 {
-    if act.word.gives_value() && act.up < below[key] {
-        below[key] = act.up;
+    let up = act.up.min(LEVELS);
+    if act.word.gives_value() && up < below[key] {
+        below[key] = up;
     }
+}
+
+/// Tests whether a step computed a value of the key with this number.
+pub(crate) fn is_computed(below: &[usize], key: KeyNo) -> bool
+    requires { key < length below.now }
+    ensures { result ≡ is_computed below.now key }
+{
+    below[key] < NOWHERE
 }
 
 /// The first `up` contexts of the path.

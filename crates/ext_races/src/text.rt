@@ -13,7 +13,7 @@ use ext_plan::{Plan, StepKey};
 use std::alloc::{AllocError, Global};
 
 /// How many races the text lists.
-const LINES: usize = 20;
+pub(crate) const LINES: usize = 20;
 
 /// Returns the text of what `races` found, in which each of the first 20 races has a line. Such a
 /// line is `put a of [engine:x]/[test:m] and want a of [engine:x]/[test:n] in [engine:x]`. The line
@@ -90,7 +90,7 @@ fn push_first(
 }
 
 /// The races that have lines: the first 20.
-fn first_of(races: &[Race]) -> &[Race]
+pub(crate) fn first_of(races: &[Race]) -> &[Race]
     ensures { result.now ≡ take line_limit races.now }
 {
     match races.get(..LINES) {
@@ -221,7 +221,7 @@ fn push_side(
 }
 
 /// The word by which a step first names the key of this number; empty if no step does.
-fn name_at<'a>(plan: &'a Plan, names: &[&'a StepKey], key: KeyNo) -> &'a str
+pub(crate) fn name_at<'a>(plan: &'a Plan, names: &[&'a StepKey], key: KeyNo) -> &'a str
     ensures { result.now ≡ name_if (plan_view plan.now) (slice_get names.now key) }
 {
     match names.get(key) {
@@ -244,7 +244,7 @@ fn name_of<'a>(plan: &'a Plan, key: &'a StepKey) -> &'a str
 }
 
 /// Adds the id of a node.
-fn push_id(text: &mut String, plan: &Plan, node: ContextNo) -> Result<(), AllocError>
+pub(crate) fn push_id(text: &mut String, plan: &Plan, node: ContextNo) -> Result<(), AllocError>
     ensures { OnOk result (string_bytes text.new ≡ string_bytes text.old ++ id_of_node (plan_view plan.now) node) }
 {
     match plan.nodes.get(node) {

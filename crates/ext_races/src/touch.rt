@@ -1,14 +1,17 @@
 //! How a step touches a place, and which two touches clash.
-ghost use Rattle.std.specs.Prelude.{◌≡◌};
+ghost use Rattle.std.specs.Prelude.{◌≡◌, ◌==◌, option_map, if◌then◌else◌};
 ghost use Rattle.ext_races.specs.Acts.{act_view};
-ghost use Rattle.ext_races.specs.Touches.{touch_of, touch_view};
+ghost use Rattle.ext_races.specs.InnerStanding.{compute_view};
+ghost use Rattle.ext_races.specs.Touches.{look_at, touch_first, touch_of, touch_view};
 
+use crate::standing::Compute;
 use crate::{Race, Side};
 use ext_model::{ContextNo, KeyNo};
 use ext_plan::{KeyedStep, Word};
 
-/// A touch: a step of a node touches a place. The text is kept only if it decides whether the step
-/// races.
+/// A touch: a step of a node touches a place, and counts there as the word `acts`. That is its own
+/// if it may change the place, and otherwise `want`, or that of a compute whose value it finds. The
+/// text is that of a factory or of a closeable value, if it decides whether the step races.
 #[derive(Clone, Copy, Debug)]
 pub(crate) struct Touch<'p> {
     pub node: ContextNo,
@@ -16,6 +19,7 @@ pub(crate) struct Touch<'p> {
     pub key: KeyNo,
     pub word: Word,
     pub changes: bool,
+    pub acts: Word,
     pub text: &'p str,
 }
 
@@ -34,14 +38,66 @@ pub(crate) fn touch_of<'p>(
     } else {
         ""
     };
+    let acts = if changes { act.word } else { Word::Want };
     Touch {
         node,
         context,
         key,
         word: act.word,
         changes,
+        acts,
         text,
     }
+}
+
+/// How a look-up touches the place in a context, if this was computed above its node.
+pub(crate) fn look_at<'p>(
+    node: ContextNo,
+    key: KeyNo,
+    act: &KeyedStep<'p>,
+    found: &Option<Compute<'p>>,
+    context: ContextNo,
+) -> Touch<'p>
+    ensures { touch_view result ≡ look_at node key (act_view act.now) (option_map compute_view found.now) context }
+{
+    let touch = touch_of(node, key, act, false, context);
+    match found {
+        Some(found) => with_found(touch, found),
+        None => touch,
+    }
+}
+
+/// A touch that counts as this compute, if it is of the context on which that acts.
+fn with_found<'p>(touch: Touch<'p>, found: &Compute<'p>) -> Touch<'p>
+    ensures { touch_view result ≡ (if touch.entry.context == found.now.context then record (touch_view touch.entry) { acts = found.now.word; text = found.now.text.now } else touch_view touch.entry) }
+{
+    if touch.context != found.context {
+        return touch;
+    }
+    Touch {
+        acts: found.word,
+        text: found.text,
+        ..touch
+    }
+}
+
+/// How an act touches the place in the context on which it acts, if this was computed above its
+/// node.
+pub(crate) fn touch_first<'p>(
+    node: ContextNo,
+    key: KeyNo,
+    act: &KeyedStep<'p>,
+    found: &Option<Compute<'p>>,
+    context: ContextNo,
+) -> Touch<'p>
+    ensures touch { touch_view result ≡ touch_first node key (act_view act.now) (option_map compute_view found.now) context }
+    ensures key { result.key ≡ key }
+    ensures context { result.context ≡ context }
+{
+    if act.word.changes() {
+        return touch_of(node, key, act, true, context);
+    }
+    look_at(node, key, act, found, context)
 }
 
 impl Touch<'_> {
@@ -60,6 +116,7 @@ impl Touch<'_> {
             && self.key == other.key
             && self.word == other.word
             && self.changes == other.changes
+            && self.acts == other.acts
             && self.text == other.text
     }
 
@@ -77,14 +134,16 @@ impl Touch<'_> {
             }
     }
 
-    /// Tests whether both compute one place with the same result, whichever factory runs.
+    /// Tests whether each computes one place, or finds what was computed there, with the same result
+    /// whichever factory runs.
     fn agrees(&self, other: &Touch<'_>) -> bool
         ensures { result ≡ agree (touch_view self.now) (touch_view other.now) }
     {
-        other.changes && self.word.computes() && self.word == other.word && self.text == other.text
+        self.acts.computes() && self.acts == other.acts && self.text == other.text
     }
 
-    /// Tests whether both compute one place with this word and one text.
+    /// Tests whether it computes one place with this word, and the other computes the same there or
+    /// finds it.
     pub(crate) fn computes_alike(&self, other: &Touch<'_>, word: Word) -> bool
         ensures { result ≡ compute_alike word (touch_view self.now) (touch_view other.now) }
     {
@@ -95,14 +154,15 @@ impl Touch<'_> {
             && self.agrees(other)
     }
 
-    /// Tests whether neither may change anything, or both compute with the same result.
+    /// Tests whether each computes the same, or finds it; or this does neither, and neither may
+    /// change anything.
     pub(crate) fn is_like(&self, other: &Self) -> bool
         ensures { result ≡ alike (touch_view self.now) (touch_view other.now) }
     {
-        if self.changes {
+        if self.acts.computes() {
             self.agrees(other)
         } else {
-            !other.changes
+            !self.changes && !other.changes
         }
     }
 

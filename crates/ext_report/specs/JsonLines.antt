@@ -5,8 +5,12 @@
 --
 -- with no space between tokens and a line feed after each object. The members come in this order. `fault` is null if
 -- the node has none, and a lack of memory is the fault `no memory`. The other values are those of the report's text
--- (`Report`). `print` of the kit's JSON says how a text is written, and a text reads back as it was. The format is not
--- from JUnit.
+-- (`Report`). `print` of the kit's JSON says how a text is written, and a text reads back as it was. The last line has
+-- the version of this form and the totals:
+--
+--     {"version":1,"totals":{"tests":1,"successful":0,"aborted":0,"failed":1,"skipped":0,"computed":0,"found":0,"closed":2,"close_faults":1}}
+--
+-- The format is not from JUnit.
 use Rattle.std.specs.Prelude.{ℕ, codes, List, [], ◌∷◌, ◌++◌, Option, Some, None}
 use Rattle.std.specs.List.{flat_map, slice_index_or}
 use Rattle.std.specs.Fmt.{decimal}
@@ -14,7 +18,9 @@ use Rattle.json.specs.Token.{Token, begin_object, end_object, key, string, numbe
 use Rattle.json.specs.Print.{print}
 use Rattle.ext_ids.specs.Grammar.{Pair, id_text}
 use Rattle.ext_lifecycle.specs.FaultTexts.{NodeOutcome}
-use Rattle.ext_report.specs.Report.{status_text}
+use Rattle.ext_report.specs.Report.{counts_of, status_text, sums_of}
+use Rattle.ext_report.specs.declared.totals.TestCounts.{TestCounts}
+use Rattle.ext_report.specs.declared.totals.NodeSums.{NodeSums}
 
 abbrev pub fault_token : Option (List ℕ) → Token
 fault_token None = null
@@ -47,3 +53,24 @@ json_line id r = print (node_object (id_text id) r) ++ codes "\n"
 -- The lines of the nodes, in the order of the list.
 abbrev pub json_lines : List (List Pair) → List NodeOutcome → List ℕ
 json_lines ids rs = flat_map (λ r. json_line (slice_index_or ids r.node []) r) rs
+
+-- How many tests there are, and how many ended in each way.
+unfoldable pub count_totals : TestCounts → List ℕ
+count_totals n =
+    codes "\"tests\":" ++ decimal n.tests ++ codes ",\"successful\":" ++ decimal n.successful
+    ++ codes ",\"aborted\":" ++ decimal n.aborted ++ codes ",\"failed\":" ++ decimal n.failed
+    ++ codes ",\"skipped\":" ++ decimal n.skipped
+
+-- The sums over all nodes.
+unfoldable pub sum_totals : NodeSums → List ℕ
+sum_totals n =
+    codes ",\"computed\":" ++ decimal n.computed ++ codes ",\"found\":" ++ decimal n.found
+    ++ codes ",\"closed\":" ++ decimal n.closed ++ codes ",\"close_faults\":" ++ decimal n.close_faults
+
+-- The last line.
+abbrev pub totals_line : List NodeOutcome → List ℕ
+totals_line rs =
+    codes "{\"version\":1,\"totals\":{" ++ count_totals (counts_of rs) ++ sum_totals (sums_of rs) ++ codes "}}\n"
+
+abbrev pub json_report : List (List Pair) → List NodeOutcome → List ℕ
+json_report ids rs = json_lines ids rs ++ totals_line rs

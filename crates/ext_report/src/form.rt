@@ -17,7 +17,7 @@ use std::alloc::{AllocError, Global};
 pub enum ReportForm {
     /// A line for each node, and two lines of totals: `report_text`.
     Text,
-    /// A JSON object for each node, on a line of its own: `json_report`.
+    /// A JSON object for each node, on a line of its own, and one with the totals: `json_report`.
     Json,
     /// A line for each node, indented further than that of its parent, and two lines of totals:
     /// `tree_report`.

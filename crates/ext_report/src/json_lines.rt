@@ -1,11 +1,12 @@
 //! The report of a run as JSON lines.
-ghost use Rattle.std.specs.Prelude.{◌≡◌, ◌<◌, ◌++◌, ◌∷◌, [], length, option_map, All, IfOk, OnOk};
+ghost use Rattle.std.specs.Prelude.{◌≡◌, ◌<◌, ◌++◌, ◌∷◌, [], length, option_map, string_bytes, All, IfOk, OnOk};
 ghost use Rattle.ext_lifecycle.specs.FaultTexts.{fault_text, result_view, results_view};
 ghost use Rattle.json.specs.Token.{boolean, key, string};
 ghost use Rattle.json.specs.Print.{print};
-ghost use Rattle.ext_report.specs.JsonLines.{count_member, count_members, ending_members, fault_token, json_line, json_lines, node_object};
+ghost use Rattle.ext_report.specs.JsonLines.{count_member, count_members, ending_members, fault_token, json_line, json_lines, json_report, node_object, totals_line};
 
 use crate::line::{fault_text, status_text};
+use crate::totals::{NodeSums, TestCounts};
 use ext_ids::UniqueId;
 use ext_lifecycle::NodeResult;
 use ext_model::Fault;
@@ -14,11 +15,14 @@ use json::Writer;
 use std::alloc::{AllocError, Global};
 
 /// Returns the report of results as JSON lines: an object for each result on its own line, in the
-/// order of the list. Each result is of a context of the tree. A context may have no result, or
-/// several.
+/// order of the list, and a last one with the totals. Each result is of a context of the tree. A
+/// context may have no result, or several.
 ///
 /// An object has the members `id`, `test`, `status`, `fault`, `more`, `computed`, `found`, `closed`
 /// and `close_faults`, in this order. `fault` is null if the result has none, whatever its status.
+/// The last object has `version`, which is 1, and `totals`: an object with `tests`, `successful`,
+/// `aborted`, `failed` and `skipped` of the tests, and `computed`, `found`, `closed` and
+/// `close_faults` of all nodes.
 ///
 /// Takes memory for the text, and fails with `AllocError` only if that is refused.
 pub fn json_report(
@@ -26,6 +30,17 @@ pub fn json_report(
     tree: &Tree,
     results: &[NodeResult],
 ) -> Result<Vec<u8>, AllocError>
+    requires in_tree { All (λ r. r.node < length tree.now) results.now }
+    ensures { IfOk result
+        (λ bytes. bytes.items ≡ json_report tree.now (results_view results.now)) }
+{
+    let mut lines = lines_of(alloc, tree, results)?;
+    let totals = totals_line(alloc, results)?;
+    lines.extend_from_slice(totals.as_bytes())?;
+    Ok(lines)
+}
+
+fn lines_of(alloc: Global, tree: &Tree, results: &[NodeResult]) -> Result<Vec<u8>, AllocError>
     requires in_tree { All (λ r. r.node < length tree.now) results.now }
     ensures { IfOk result
         (λ bytes. bytes.items ≡ json_lines tree.now (results_view results.now)) }
@@ -36,6 +51,17 @@ pub fn json_report(
         lines.extend_from_slice(line.as_slice())?;
     }
     Ok(lines)
+}
+
+fn totals_line(alloc: Global, results: &[NodeResult]) -> Result<String, AllocError>
+    ensures { IfOk result (λ line. string_bytes line ≡ totals_line (results_view results.now)) }
+{
+    let mut line = String::new(alloc);
+    line.push_str("{\"version\":1,\"totals\":{")?;
+    TestCounts::of(results).write_members_to(&mut line)?;
+    NodeSums::of(results).write_members_to(&mut line)?;
+    line.push_str("}}\n")?;
+    Ok(line)
 }
 
 fn line_of(alloc: Global, id: &UniqueId, node: &NodeResult) -> Result<Vec<u8>, AllocError>

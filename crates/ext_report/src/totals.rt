@@ -1,8 +1,9 @@
-//! The two lines of totals at the end of a report.
+//! The totals at the end of a report.
 ghost use Rattle.std.specs.Prelude.{◌≡◌, ◌++◌, string_bytes, OnOk};
 ghost use Rattle.std.specs.List.{count_by};
 ghost use Rattle.ext_lifecycle.specs.FaultTexts.{results_view};
 ghost use Rattle.ext_report.specs.Report.{tests_with, counts_of, sums_of, counts_line, sums_line};
+ghost use Rattle.ext_report.specs.JsonLines.{count_totals, sum_totals};
 
 use crate::is_status::is_status;
 use ext_lifecycle::{NodeResult, Status};
@@ -49,6 +50,24 @@ impl TestCounts {
             "tests {tests} successful {successful} aborted {aborted} failed {failed} skipped {skipped}\n"
         )
     }
+
+    /// Writes the members of the counts at the end of an object of JSON.
+    pub(crate) fn write_members_to(&self, text: &mut String) -> Result<(), AllocError>
+        ensures { OnOk result
+            (string_bytes text.new ≡ string_bytes text.old ++ count_totals self.now) }
+    {
+        let TestCounts {
+            tests,
+            successful,
+            aborted,
+            failed,
+            skipped,
+        } = self;
+        write!(
+            text,
+            "\"tests\":{tests},\"successful\":{successful},\"aborted\":{aborted},\"failed\":{failed},\"skipped\":{skipped}"
+        )
+    }
 }
 
 #[derive(Debug, Drop)]
@@ -88,6 +107,24 @@ impl NodeSums {
         write!(
             text,
             "computed {computed} found {found} closed {closed} close faults {close_faults}\n"
+        )
+    }
+
+    /// Writes the members of the sums at the end of an object of JSON that has members.
+    #[tactic(auto, unfolding(crate::specs::JsonLines::sum_totals))]
+    pub(crate) fn write_members_to(&self, text: &mut String) -> Result<(), AllocError>
+        ensures { OnOk result
+            (string_bytes text.new ≡ string_bytes text.old ++ sum_totals self.now) }
+    {
+        let NodeSums {
+            computed,
+            found,
+            closed,
+            close_faults,
+        } = self;
+        write!(
+            text,
+            ",\"computed\":{computed},\"found\":{found},\"closed\":{closed},\"close_faults\":{close_faults}"
         )
     }
 }

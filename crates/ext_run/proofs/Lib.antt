@@ -1,8 +1,9 @@
-pub mod ReadBytes
-pub mod Elements
-pub mod RunReports
 mod CheckCounts
-mod KeyLines
 mod Drawn
+pub mod Elements
 mod FaultGroups
+mod KeyLines
+pub mod NearForms
 mod OneReports
+pub mod ReadBytes
+pub mod RunReports

@@ -1,5 +1,5 @@
 -- What a run that lacked nothing gave, of a plan that has one report.
-use Rattle.std.proofs.Common.{◌≡◌, ℕ, Bool, true, false, List, Some, Result, Ok, Err, IfOk, refl, ap, sym, subst, ◌∙◌}
+use Rattle.std.proofs.Common.{◌≡◌, ℕ, Bool, true, false, List, map, Some, Result, Ok, Err, IfOk, refl, ap, sym, subst, ◌∙◌}
 use Rattle.ext_lifecycle.specs.FaultTexts.{NodeOutcome}
 use Rattle.ext_plain.specs.PlainRun.{plain_run}
 use Rattle.ext_parallel.specs.Lacking.{may_have_lacked}
@@ -10,11 +10,15 @@ use Rattle.ext_one_report.specs.OneReport.{AreNearReports}
 use Rattle.ext_one_report.specs.Shares.{AreToldNear, Open, shares_in}
 use Rattle.ext_one_report.proofs.Near.{near_report, one_report}
 use Rattle.ext_one_report.proofs.ToldLacks.{tells_lacks}
+use Rattle.ext_plan_reading.specs.ReadPlans.{ids_of_nodes}
+use Rattle.ext_report.specs.Report.{sums_of}
+use Rattle.ext_report.specs.declared.form.ReportForm.{ReportForm}
+use Rattle.ext_run.proofs.NearForms.{bare, bare_lists, failed_same, near_form, same_sums}
 use Rattle.ext_run.specs.declared.fault.RunFault.{RunFault}
 use Rattle.ext_run.specs.declared.options.Options.{Options}
 use Rattle.ext_run.specs.declared.runs.Output.{Output}
 use Rattle.ext_run.specs.InnerOutputs.{output_view}
-use Rattle.ext_run.specs.OneReports.{IsOneReport, ReportsOne, plain_report}
+use Rattle.ext_run.specs.OneReports.{IsOneReport, ReportsOne, plain_report, tells_each}
 use Rattle.ext_run.specs.Reports.{IsReportOf, IsRunBy, RunReport, run_report_of}
 
 -- ---- results
@@ -23,6 +27,7 @@ use Rattle.ext_run.specs.Reports.{IsReportOf, IsRunBy, RunReport, run_report_of}
 near_itself : (shares : ℕ → Open) (results : List NodeOutcome) → AreNearReports shares results results
 near_itself shares results = record {
   count = refl;
+  computed = refl;
   near = λ node one other is is_too.
       let both : Some one ≡ Some other = sym is ∙ is_too in
       let same : one ≡ other = cc both in
@@ -49,6 +54,22 @@ module _ (plan : PlanText) (lanes : ℕ) (results : List NodeOutcome) (lacked : 
       subst (λ here. AreNearReports (shares_in plan) here (plain_run plan)) (sym on.told)
       (near_report plan lanes on.ran read has on.run (tells_lacks plan lanes on.ran read on.run (ap may_have_lacked (sym on.told) ∙ spared run)))
 
+-- ---- forms that tell the sums alone
+
+module _ (shares : ℕ → Open) (here there : List NodeOutcome) (near : AreNearReports shares here there) where
+  same_but_counts : map bare here ≡ map bare there
+  same_but_counts = bare_lists here there near.count (λ node one other is also. (near.near node one other is also).same) (λ node one other is also. (near.near node one other is also).counts) near.computed
+
+  same_totals : sums_of here ≡ sums_of there
+  same_totals = same_sums here there near.count (λ node one other is also. (near.near node one other is also).same) (λ node one other is also. (near.near node one other is also).counts) near.computed
+
+  same_report : (form : ReportForm) (plan : PlanText) → tells_each form ≡ false → run_report_of form plan here false ≡ run_report_of form plan there false
+  same_report form plan off = λ i. record {
+    report = near_form here there same_but_counts same_totals form (ids_of_nodes plan.nodes) off i;
+    failed = failed_same here there same_but_counts i;
+    lacked = false;
+  }
+
 -- ---- what was given
 
 module _ (options : Options) (plan : PlanText) (given : RunReport) (read : IsReadPlan plan) (of : IsReportOf options plan given) (nothing : given.lacked ≡ false) where
@@ -63,6 +84,7 @@ module _ (options : Options) (plan : PlanText) (given : RunReport) (read : IsRea
     plain = λ plain. as_plain (plain_is plan options.lanes of.results given.lacked nothing read (subst (λ b. IsRunBy b options.lanes plan of.results given.lacked) plain of.run));
     one = λ has. as_plain (one_is plan options.lanes of.results given.lacked nothing read has options.plain of.run);
     near = λ has. record { results = of.results; near = near_is plan options.lanes of.results given.lacked nothing read has options.plain of.run; report_is = given_is };
+    sums = λ has off. given_is ∙ same_report (shares_in plan) of.results (plain_run plan) (near_is plan options.lanes of.results given.lacked nothing read has options.plain of.run) options.form plan off;
   }
 
 pub ReportsOne-read : (options : Options) (r : Result Output RunFault) (text : PlanText) (read : Result PlanText RunFault) → IsReadPlan text → IfOk r (λ o. IsReportOf options text (output_view o)) → read ≡ Ok text

@@ -11,10 +11,11 @@ ghost use Rattle.ext_run.specs.InnerOutputs.{ChecksAs};
 use crate::fault::RunFault;
 use crate::input::read_input;
 use crate::options::Summary;
+use crate::race_form::{RaceForm, races_as};
 use crate::runs::write_whole;
 use ext_model::Size;
 use ext_plan_reading::{Plan, PlanFault, PlanNode, read_plan_within};
-use ext_races::{Found, count_keys, races, races_text};
+use ext_races::{Found, count_keys, races};
 use std::alloc::{AllocError, Global};
 use std::io::{Read, Write};
 
@@ -56,8 +57,8 @@ pub fn check<I: Read, W: Write>(
 /// races has a line, and `and more` follows if there are others. If there are none, the first line
 /// begins with `no races`, and says whether `run` promises one report of the plan; if it does not,
 /// lines with the reasons follow. One line names the limit if the steps name more keys than there
-/// are places, or may draw more numbers than there are (`ext_races::races_text`). In the summary,
-/// `failed` tells whether there is a race or a limit is exceeded.
+/// are places, or may draw more numbers than there are (`ext_races::races_text`). As JSON one object
+/// tells the same. In the summary, `failed` tells whether there is a race or a limit is exceeded.
 ///
 /// It reads like `run`, and is refused like `check`.
 ///
@@ -69,9 +70,10 @@ pub fn check_races<I: Read, W: Write>(
     reader: &mut I,
     writer: &mut W,
     size: Size,
+    form: RaceForm,
 ) -> Result<Summary, RunFault>
     ensures written { IfOk result (λ summary. IfSome (I.remaining reader.old) (λ input. (text : List ℕ)
-        × IsRacesOf (plan_of_input size input) text summary.failed
+        × IsRacesOf form (plan_of_input size input) text summary.failed
         × Appends (W.contents writer.old) (W.contents writer.new) text)) }
     ensures unrun { IfOk result (λ summary. summary.lacked ≡ false) }
     ensures refused { IfErr result (λ fault. IfSome (I.remaining reader.old)
@@ -81,8 +83,8 @@ pub fn check_races<I: Read, W: Write>(
         × Consumes (I.remaining reader.old) (I.remaining reader.new) bytes }
 {
     let input = read_input(alloc, reader, size)?;
-    let (text, failed) = races_of(alloc, input.as_slice(), size)?;
-    write_whole(writer, text.as_bytes())?;
+    let (text, failed) = races_of(alloc, input.as_slice(), size, form)?;
+    write_whole(writer, text.as_slice())?;
     Ok(Summary {
         failed,
         lacked: false,
@@ -92,8 +94,13 @@ pub fn check_races<I: Read, W: Write>(
 /// The text of the races of the plan in these bytes, and whether there is one or a limit is
 /// exceeded.
 #[tactic(auto, unfolding(crate::specs::Reports::plan_of_bytes))]
-fn races_of(alloc: Global, input: &[u8], size: Size) -> Result<(String, bool), RunFault>
-    ensures told { IfOk result (λ told. IsRacesOf (plan_of_bytes size input.now) (string_bytes told.0) told.1) }
+fn races_of(
+    alloc: Global,
+    input: &[u8],
+    size: Size,
+    form: RaceForm,
+) -> Result<(Vec<u8>, bool), RunFault>
+    ensures told { IfOk result (λ told. IsRacesOf form (plan_of_bytes size input.now) told.0.items told.1) }
     ensures refused { IfErr result (λ fault. RefusedUnrun fault (plan_of_bytes size input.now)) }
     ensures unwritten { IfErr result (λ fault. fault ≢ RunFault.Write) }
 {
@@ -104,16 +111,16 @@ fn races_of(alloc: Global, input: &[u8], size: Size) -> Result<(String, bool), R
         Ok(plan) => plan,
         Err(fault) => return Err(RunFault::Plan(fault)),
     };
-    Ok(races_in(alloc, &plan)?)
+    Ok(races_in(alloc, &plan, form)?)
 }
 
 /// The text of a plan's races, and whether there is one or a limit is exceeded.
-fn races_in(alloc: Global, plan: &Plan) -> Result<(String, bool), AllocError>
+fn races_in(alloc: Global, plan: &Plan, form: RaceForm) -> Result<(Vec<u8>, bool), AllocError>
     requires { IsRunnablePlan (plan_view plan.now) }
-    ensures { IfOk result (λ told. TellsRaces (plan_view plan.now) (string_bytes told.0) told.1) }
+    ensures { IfOk result (λ told. TellsRaces form (plan_view plan.now) told.0.items told.1) }
 {
     let found = races(alloc, plan, RACES)?;
-    Ok((races_text(alloc, plan, &found)?, !is_free(&found)))
+    Ok((races_as(alloc, form, plan, &found)?, !is_free(&found)))
 }
 
 /// Tests whether the plan has no race and exceeds no limit.

@@ -43,8 +43,8 @@ struct Output {
 /// the only plain run that the plan has.
 ///
 /// If a plan has one report, as `check_races` tells, and `Summary::lacked` is false, what is written
-/// is the report of its plain run, byte by byte; or, if nodes beside one another compute the same
-/// value, it may differ from that only in who computed and who found it.
+/// is the report of its plain run, byte by byte; but where nodes beside one another compute the same
+/// value, the report in JSON may tell otherwise which of them computed it and which found it.
 ///
 /// It reads the input to its end, like `read_input`, and the first read that fails ends the run.
 /// The report is complete before its first byte is written, and at last the writer is flushed.

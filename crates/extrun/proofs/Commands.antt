@@ -7,7 +7,7 @@ use Rattle.clap.specs.declared.builder.command.Command.{Command}
 use Rattle.clap.specs.declared.builder.command.Command.TheViews.{out-Command}
 use Rattle.clap.specs.declared.builder.value_parser.ValueParser.{ValueParser}
 use Rattle.clap.proofs.OnLiterals.{clap_on_literals}
-use Rattle.extrun.specs.CommandLine.{IsCommandLine, check, command, id, program, run_of}
+use Rattle.extrun.specs.CommandLine.{IsCommandLine, check_of, command, id, program, run_of}
 
 -- a command of this name, which takes these and has no global argument
 pub record Takes (made : Command) (name : Text) (rules : List Rule) : Type 0 where
@@ -30,12 +30,16 @@ takes_more old new arg rule name rules before adds is local =
       local = adds.globals ∙ ap (λ globals. globals || arg.global) before.local ∙ local;
     }
 
-abbrev line_with : Shape → App
-line_with run = record { top = program; subs = run ∷ check ∷ id ∷ [] }
+abbrev line_with : Shape → Shape → App
+line_with run check = record { top = program; subs = run ∷ check ∷ id ∷ [] }
 
-is_simple_line : (store form color : ValueParser) → is_simple (line_with (run_of store form color)) ≡ true
+is_simple_line : (store form color races : ValueParser) → is_simple (line_with (run_of store form color) (check_of races)) ≡ true
 unfolding clap_on_literals
-is_simple_line store form color = refl
+is_simple_line store form color races = refl
 
 pub line_is_simple : (line : App) → IsCommandLine line → is_simple line ≡ true
-line_is_simple line is = ap is_simple (is.line_is ∙ ap line_with is.is_run.shape_is) ∙ is_simple_line is.is_run.store is.is_run.form is.is_run.color
+line_is_simple line is =
+    let run = is.is_run in
+    let check = is.is_check in
+    ap is_simple (is.line_is ∙ ap (λ shape. line_with shape is.check) run.shape_is ∙ ap (line_with (run_of run.store run.form run.color)) check.shape_is)
+    ∙ is_simple_line run.store run.form run.color check.form

@@ -79,10 +79,17 @@ pub record IsRun (shape : Shape) : Type 0 where
   pub colors : IsOneOf color (codes "auto" ∷ codes "always" ∷ codes "never" ∷ [])
   pub shape_is : shape ≡ run_of store form color
 
-abbrev pub check : Shape
-check = command (codes "check")
-    (plan_file ∷ flag (codes "tree") ∷ flag (codes "races") ∷ flag (codes "lint") ∷ flag (codes "all")
-    ∷ flag (codes "large") ∷ flag (codes "explain") ∷ flag (codes "brief") ∷ [])
+-- `check`, with these values for the form of races.
+abbrev pub check_of : ValueParser → Shape
+check_of form = command (codes "check")
+    (plan_file ∷ flag (codes "tree") ∷ flag (codes "races") ∷ free_option (codes "report") form ∷ flag (codes "lint")
+    ∷ flag (codes "all") ∷ flag (codes "large") ∷ flag (codes "explain") ∷ flag (codes "brief") ∷ [])
+
+-- The shape of `check`: the forms of races are `text` and `json`.
+pub record IsCheck (shape : Shape) : Type 0 where
+  pub form : ValueParser
+  pub forms : IsOneOf form (codes "text" ∷ codes "json" ∷ [])
+  pub shape_is : shape ≡ check_of form
 
 abbrev pub id : Shape
 id = command (codes "id")
@@ -95,7 +102,9 @@ program = record (new_app (codes "extrun")).top { has_version = true; is_leaf = 
 -- The program with its commands.
 pub record IsCommandLine (line : App) : Type 0 where
   pub run : Shape
+  pub check : Shape
   pub is_run : IsRun run
+  pub is_check : IsCheck check
   pub line_is : line ≡ record { top = program; subs = run ∷ check ∷ id ∷ [] }
 
 -- ---- what words ask for

@@ -1,8 +1,10 @@
 -- What the words of a command line ask for, by the rows that clap found: the texts under the name of each option. Texts
 -- are lists of bytes.
-use Rattle.std.specs.Prelude.{◌≡◌, ◌≢◌, ◌&&◌, ◌||◌, not, ℕ, Bool, true, false, codes, List, [], ◌∷◌, map, Option, Some, None, if◌then◌else◌, option_map, string_bytes, unwrap_or}
+use Rattle.std.specs.Prelude.{◌≡◌, ◌≢◌, ◌&&◌, ◌||◌, not, ℕ, Bool, true, false, codes, List, [], ◌∷◌, map, Option, Some, None, if◌then◌else◌, is_some, option_map, string_bytes, unwrap_or}
 use Rattle.clap.specs.Walk.{Row, Text, all_of, first_of, one_of}
 use Rattle.ext_model.specs.declared.size.Size.{Size}
+use Rattle.ext_run.specs.declared.race_form.RaceForm.{RaceForm}
+use Rattle.ext_run.specs.declared.race_form.RaceForm.TheVariants as forms
 use Rattle.extrun.specs.Flags.{IsFlag, IsSize}
 use Rattle.extrun.specs.RunWords.{AsksRun, wordless_run}
 use Rattle.extrun.specs.declared.command.Request.{Request}
@@ -14,22 +16,33 @@ use Rattle.extrun.specs.declared.command.Task.TheVariants as tasks
 abbrev pub checks_all : Bool → Size → Option Task
 checks_all other size = if other then None else Some (tasks.CheckAll size)
 
--- What `check` does by three of its flags: list the races of a plan of this size, draw it, or check it, with all faults
--- or the first. Each flag excludes the others.
-abbrev pub check_as : Bool → Bool → Bool → Size → Option Task
-check_as races tree all size =
+-- What `check` does by three of its flags: list the races of a plan of this size in this form, draw it, or check it,
+-- with all faults or the first. Each flag excludes the others.
+abbrev pub check_as : Bool → Bool → Bool → RaceForm → Size → Option Task
+check_as races tree all form size =
     if races && tree then None
     else if all then checks_all (races || tree) size
-    else if races then Some (tasks.CheckRaces size)
+    else if races then Some (tasks.CheckRaces size form)
     else if tree then Some (tasks.Draw size)
     else Some (tasks.Check size)
 
 -- The same by a fourth flag, which excludes the others: to note what is most likely a mistake.
-abbrev pub check_with : Bool → Bool → Bool → Bool → Size → Option Task
-check_with lint races tree all size =
-    if not lint then check_as races tree all size
+abbrev pub check_with : Bool → Bool → Bool → Bool → RaceForm → Size → Option Task
+check_with lint races tree all form size =
+    if not lint then check_as races tree all form size
     else if races || tree || all then None
     else Some (tasks.Lint size)
+
+-- The same where a form may be asked for, which is only that of races. Without one they are lines.
+abbrev pub check_in : Option RaceForm → Bool → Bool → Bool → Bool → Size → Option Task
+check_in form lint races tree all size =
+    if is_some form && not races then None else check_with lint races tree all (unwrap_or form forms.Text) size
+
+-- The form of races that the text after `--report` asks for, if there is one.
+pub record IsRaceForm (text : Option Text) (form : Option RaceForm) : Type 0 where
+  pub none : text ≡ None → form ≡ None
+  pub object : text ≡ Some (codes "json") → form ≡ Some forms.Json
+  pub lines : (t : Text) → text ≡ Some t → t ≢ codes "json" → form ≡ Some forms.Text
 
 -- To do such a task with the plan of the named file, or of standard input. It is explained why it is not done if
 -- `--explain` is set, and only then if `--brief` is.
@@ -49,20 +62,22 @@ abbrev pub AsksTask : List Row → Option Task → Request → Type 0
 AsksTask rows (Some task) request = AsksOfPlan rows (λ asked. asked ≡ task) request
 AsksTask rows None request = request ≡ requests.Refused
 
--- To list the plan's races if `--races` is set, to draw it if `--tree` is set, to note its mistakes if `--lint` is set,
--- and otherwise to check it, with all faults if `--all` is set.
+-- To list the plan's races if `--races` is set, in the form that `--report` asks for, to draw it if `--tree` is set, to
+-- note its mistakes if `--lint` is set, and otherwise to check it, with all faults if `--all` is set.
 pub record AsksCheck (rows : List Row) (request : Request) : Type 0 where
   pub races : Bool
   pub tree : Bool
   pub all : Bool
   pub lint : Bool
+  pub form : Option RaceForm
   pub size : Size
   pub told : IsFlag (one_of (codes "races") rows) races
   pub drawn : IsFlag (one_of (codes "tree") rows) tree
   pub whole : IsFlag (one_of (codes "all") rows) all
   pub noted : IsFlag (one_of (codes "lint") rows) lint
+  pub written : IsRaceForm (first_of (codes "report") rows) form
   pub asked : IsSize rows size
-  pub asks : AsksTask rows (check_with lint races tree all size) request
+  pub asks : AsksTask rows (check_in form lint races tree all size) request
 
 -- ---- ids
 

@@ -79,7 +79,7 @@ AsksRun rows (tasks.Run options asked color told) = AsksRunBy rows options asked
 AsksRun rows (tasks.Check size) = ⊥
 AsksRun rows (tasks.CheckAll size) = ⊥
 AsksRun rows (tasks.Draw size) = ⊥
-AsksRun rows (tasks.CheckRaces size) = ⊥
+AsksRun rows (tasks.CheckRaces size form) = ⊥
 AsksRun rows (tasks.Lint size) = ⊥
 
 -- The task asks for colours, also where standard output is no terminal.
@@ -90,7 +90,7 @@ asks_for_color (tasks.Run options asked colors.Never told) = false
 asks_for_color (tasks.Check size) = false
 asks_for_color (tasks.CheckAll size) = false
 asks_for_color (tasks.Draw size) = false
-asks_for_color (tasks.CheckRaces size) = false
+asks_for_color (tasks.CheckRaces size form) = false
 asks_for_color (tasks.Lint size) = false
 
 -- Without a command: a run on four lanes, over the store for several threads, of a plan of usual size.

@@ -33,7 +33,8 @@ IsOneReported options input summary Written =
     IsReportWritten (ReportsOne options (plan_of_input options.size input)) summary Written
 
 -- The task was done with the plan of this input. What was written is the report of a run with exactly these options,
--- the line of the plan's counts, its drawing, its races or its notes; then the summary says whether there is one.
+-- the line of the plan's counts, its drawing, its races in this form or its notes; then the summary says whether there
+-- is one.
 abbrev pub IsDone : Task → List ℕ → Summary → (List ℕ → Type 0) → Type 0
 IsDone (tasks.Run options asked color told) input summary Written =
     AsksLanes options → IsReported options input summary Written
@@ -43,8 +44,8 @@ IsDone (tasks.CheckAll size) input summary Written = (line : List ℕ) × IsCoun
     × Written line
 IsDone (tasks.Draw size) input summary Written = (text : List ℕ) × IsTextOf drawing_of (plan_of_input size input) text
     × Written text
-IsDone (tasks.CheckRaces size) input summary Written = (text : List ℕ)
-    × IsRacesOf (plan_of_input size input) text summary.failed × Written text
+IsDone (tasks.CheckRaces size form) input summary Written = (text : List ℕ)
+    × IsRacesOf form (plan_of_input size input) text summary.failed × Written text
 IsDone (tasks.Lint size) input summary Written = (text : List ℕ)
     × IsNotesOf (plan_of_input size input) text summary.failed × Written text
 
@@ -55,7 +56,7 @@ IsOneDone (tasks.Run options asked color told) input summary Written =
 IsOneDone (tasks.Check size) input summary Written = Unit {0}
 IsOneDone (tasks.CheckAll size) input summary Written = Unit {0}
 IsOneDone (tasks.Draw size) input summary Written = Unit {0}
-IsOneDone (tasks.CheckRaces size) input summary Written = Unit {0}
+IsOneDone (tasks.CheckRaces size form) input summary Written = Unit {0}
 IsOneDone (tasks.Lint size) input summary Written = Unit {0}
 
 -- Why a run with exactly these options has no report. An input that is too long, a refused plan and a refused run are
@@ -69,5 +70,5 @@ IsUndone (tasks.Run options asked color told) input fault = AsksLanes options �
 IsUndone (tasks.Check size) input fault = RefusedUnrun fault (plan_of_input size input)
 IsUndone (tasks.CheckAll size) input fault = RefusedUnrun fault (plan_of_input size input)
 IsUndone (tasks.Draw size) input fault = RefusedUnrun fault (plan_of_input size input)
-IsUndone (tasks.CheckRaces size) input fault = RefusedUnrun fault (plan_of_input size input)
+IsUndone (tasks.CheckRaces size form) input fault = RefusedUnrun fault (plan_of_input size input)
 IsUndone (tasks.Lint size) input fault = RefusedUnrun fault (plan_of_input size input)

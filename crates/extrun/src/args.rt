@@ -62,6 +62,20 @@ pub(crate) fn report_option<'a>(alloc: Global) -> Arg<'a>
         .value_parser(["text", "json", "junit"].as_slice())
 }
 
+/// The option `--report` of the command `check`.
+pub(crate) fn race_report_option<'a>(alloc: Global) -> Arg<'a>
+    ensures rule { (value : ValueParser) × IsOneOf value (codes "text" ∷ codes "json" ∷ [])
+        × (rule_of result ≡ line.free_option (codes "report") value) }
+    ensures local { result.global ≡ false }
+{
+    Arg::new(alloc, "report")
+        .long("report")
+        .value_name("FORM")
+        .help("How --races writes them: `text` by lines, `json` as one object; without it by lines")
+        .action(ArgAction::Set)
+        .value_parser(["text", "json"].as_slice())
+}
+
 pub(crate) fn color_option<'a>(alloc: Global) -> Arg<'a>
     ensures rule { (value : ValueParser) × IsOneOf value (codes "auto" ∷ codes "always" ∷ codes "never" ∷ [])
         × (rule_of result ≡ line.option (codes "color") value (codes "auto")) }

@@ -1,5 +1,5 @@
 //! The command line, over clap.
-ghost use Rattle.std.specs.Prelude.{◌≡◌, ◌↔◌, ◌||◌, codes, List, map, true, false, option_map, string_bytes, Some, Ok, IfOk, IsTrue};
+ghost use Rattle.std.specs.Prelude.{◌≡◌, ◌≢◌, ◌↔◌, ◌||◌, codes, List, map, true, false, option_map, string_bytes, Some, Ok, IfOk, IsTrue};
 ghost use Rattle.clap.specs.Matches.{found_of, first_value, one_text};
 ghost use Rattle.clap.specs.Words.{app_of, shape_of, with_subcommand};
 ghost use Rattle.clap.specs.declared.builder.command.Command.TheViews.{out-Command};
@@ -7,21 +7,21 @@ ghost use Rattle.clap.specs.declared.builder.command.Command.{Command};
 ghost use Rattle.clap.specs.Simple.{subcommand_rows_of};
 ghost use Rattle.clap.specs.Walk.{rows_of};
 ghost use Rattle.extrun.specs.CommandLine as line;
-ghost use Rattle.extrun.specs.CommandLine.{AsksBy, AsksNothing, IsCommandLine, IsRun};
-ghost use Rattle.extrun.specs.CommandWords.{AsksCheck, AsksCommand, AsksFor, AsksId, AsksOfPlan, AsksOfTexts, IsMakingOf, check_as, check_with, checks_all};
+ghost use Rattle.extrun.specs.CommandLine.{AsksBy, AsksNothing, IsCheck, IsCommandLine, IsRun};
+ghost use Rattle.extrun.specs.CommandWords.{AsksCheck, AsksCommand, AsksFor, AsksId, AsksOfPlan, AsksOfTexts, IsMakingOf, IsRaceForm, check_as, check_in, check_with, checks_all};
 ghost use Rattle.extrun.specs.Flags.{IsFlag, IsSize, size_of};
 ghost use Rattle.extrun.specs.RunWords.{AreOptions, AsksBeside, AsksForm, AsksRun, IsColor, IsForm, IsLaneCount, color_choice, form_of, wordless_run};
 
 use crate::args::{
     all_flag, brief_flag, color_option, draw_flag, durations_flag, explain_flag, explain_id_flag,
     failures_flag, id_texts, lanes_option, large_flag, lint_flag, make_flag, plan_file,
-    progress_flag, races_flag, report_option, report_tree_flag, store_option,
+    progress_flag, race_report_option, races_flag, report_option, report_tree_flag, store_option,
 };
 use crate::color::ColorChoice;
 use crate::help::{AFTER_HELP, VERSION};
 use clap::error::ErrorKind;
 use clap::{ArgMatches, Command, Error};
-use ext_run::{Options, ReportForm, Size};
+use ext_run::{Options, RaceForm, ReportForm, Size};
 use std::alloc::{AllocError, Global};
 use std::io;
 use std::rt::Env;
@@ -76,8 +76,11 @@ pub(crate) enum Task {
     CheckAll(Size),
     /// Draws its nodes as a tree, if it is no larger than this.
     Draw(Size),
-    /// Writes its races, if it is no larger than this.
-    CheckRaces(Size),
+    /// Writes its races in this form, if it is no larger than this.
+    CheckRaces {
+        size: Size,
+        form: RaceForm,
+    },
     /// Writes its notes, if it is no larger than this.
     Lint(Size),
 }
@@ -101,7 +104,7 @@ impl Task {
         match self {
             Task::Run { options, .. } => options.size,
             Task::Check(size) | Task::CheckAll(size) => size,
-            Task::Draw(size) | Task::CheckRaces(size) | Task::Lint(size) => size,
+            Task::Draw(size) | Task::CheckRaces { size, .. } | Task::Lint(size) => size,
         }
     }
 }
@@ -111,7 +114,8 @@ impl Task {
 /// - `run`, with `--lanes` of 1 to 16, `--store plain` or `cells`, `--report text`, `json` or
 ///   `junit` or else `--tree`, `--color` of `auto`, `always` or `never`, `--progress`,
 ///   `--durations` and `--failures`;
-/// - `check`, with `--races`, `--tree`, `--all` or `--lint`;
+/// - `check`, with `--races`, and then `--report text` or `json`, or with `--tree`, `--all` or
+///   `--lint`;
 /// - `id`, with one text, or with `--make` and parts.
 ///
 /// `run` and `check` take a file and `--large`, and all take `--explain` and `--brief`. No word at all is `run` on 4 lanes
@@ -286,19 +290,75 @@ fn check_request<R: AllocGlobal + Eprint>(
     let tree = is_set(words, "tree");
     let all = is_set(words, "all");
     let lint = is_set(words, "lint");
-    match check_with(lint, races, tree, all, size_in(words)) {
+    let form = race_form_in(words);
+    match check_in(form, lint, races, tree, all, size_in(words)) {
         Some(task) => plan_request(rt.alloc(), task, words),
-        None => Ok(mistake(rt, clash_with(lint, races, tree))),
+        None => Ok(mistake(rt, clash_in(form, lint, races, tree))),
+    }
+}
+
+/// The form of races by `--report`, if it is given.
+fn race_form_in(words: &ArgMatches<'_>) -> Option<RaceForm>
+    ensures { IsRaceForm (first_value (found_of words.now) (codes "report")) result }
+{
+    match words.get_str("report") {
+        None => None,
+        Some(form) => Some(race_form_of(form)),
+    }
+}
+
+fn race_form_of(form: &str) -> RaceForm
+    ensures object { form.now ≡ codes "json" → result ≡ RaceForm.Json }
+    ensures lines { form.now ≢ codes "json" → result ≡ RaceForm.Text }
+{
+    if form == "json" {
+        RaceForm::Json
+    } else {
+        RaceForm::Text
+    }
+}
+
+/// The task of `check` for a plan of this size by these flags. A form goes with `--races` alone.
+fn check_in(
+    form: Option<RaceForm>,
+    lint: bool,
+    races: bool,
+    tree: bool,
+    all: bool,
+    size: Size,
+) -> Option<Task>
+    ensures { result ≡ check_in form lint races tree all size }
+{
+    if form.is_some() && !races {
+        return None;
+    }
+    check_with(lint, races, tree, all, form.unwrap_or(RaceForm::Text), size)
+}
+
+/// Says which two words of `check` exclude each other, or that `--races` is missing for
+/// `--report`.
+fn clash_in(form: Option<RaceForm>, lint: bool, races: bool, tree: bool) -> &'static str {
+    if form.is_some() && !races {
+        "the argument '--report' cannot be used without '--races'"
+    } else {
+        clash_with(lint, races, tree)
     }
 }
 
 /// The task of `check` for a plan of this size: with `--lint`, which excludes the other flags, to
 /// note mistakes, and else by these flags.
-fn check_with(lint: bool, races: bool, tree: bool, all: bool, size: Size) -> Option<Task>
-    ensures { result ≡ check_with lint races tree all size }
+fn check_with(
+    lint: bool,
+    races: bool,
+    tree: bool,
+    all: bool,
+    form: RaceForm,
+    size: Size,
+) -> Option<Task>
+    ensures { result ≡ check_with lint races tree all form size }
 {
     if !lint {
-        return check_as(races, tree, all, size);
+        return check_as(races, tree, all, form, size);
     }
     if races || tree || all {
         None
@@ -320,11 +380,11 @@ fn clash_with(lint: bool, races: bool, tree: bool) -> &'static str {
     }
 }
 
-/// The task of `check` for a plan of this size: with `--races` to write the plan's races, with
-/// `--tree` to draw it, else to count, with `--all` to print all faults. Each flag excludes the
-/// others.
-fn check_as(races: bool, tree: bool, all: bool, size: Size) -> Option<Task>
-    ensures { result ≡ check_as races tree all size }
+/// The task of `check` for a plan of this size: with `--races` to write the plan's races in this
+/// form, with `--tree` to draw it, else to count, with `--all` to print all faults. Each flag
+/// excludes the others.
+fn check_as(races: bool, tree: bool, all: bool, form: RaceForm, size: Size) -> Option<Task>
+    ensures { result ≡ check_as races tree all form size }
 {
     if races && tree {
         return None;
@@ -333,7 +393,7 @@ fn check_as(races: bool, tree: bool, all: bool, size: Size) -> Option<Task>
         return checks_all(races || tree, size);
     }
     if races {
-        return Some(Task::CheckRaces(size));
+        return Some(Task::CheckRaces { size, form });
     }
     if tree {
         Some(Task::Draw(size))
@@ -610,14 +670,14 @@ fn run_command<'a>(alloc: Global) -> Result<Command<'a>, AllocError>
 }
 
 fn check_command<'a>(alloc: Global) -> Result<Command<'a>, AllocError>
-    ensures shape { IfOk result (λ command. shape_of command ≡ line.check) }
-    ensures local { IfOk result (λ command. (out-Command command).has_globals ≡ false) }
+    ensures { IfOk result (λ command. IsCheck (shape_of command) × ((out-Command command).has_globals ≡ false)) }
 {
     Command::new(alloc, "check")
         .about("Reads a plan and says how many nodes, tests and keys it has, without running it")
         .arg(plan_file(alloc))?
         .arg(draw_flag(alloc))?
         .arg(races_flag(alloc))?
+        .arg(race_report_option(alloc))?
         .arg(lint_flag(alloc))?
         .arg(all_flag(alloc))?
         .arg(large_flag(alloc))?

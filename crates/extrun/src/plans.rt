@@ -200,7 +200,9 @@ fn outcome_of_task<R: Threads + Wait + Sync + Clock + AllocGlobal + Eprint, W: W
             draw(rt.alloc(), &mut reader, writer, size)?;
             Ok(Summary::done())
         }
-        Task::CheckRaces(size) => check_races(rt.alloc(), &mut reader, writer, size),
+        Task::CheckRaces { size, form } => {
+            check_races(rt.alloc(), &mut reader, writer, size, form)
+        }
         Task::Lint(size) => check_lint(rt.alloc(), &mut reader, writer, size),
     }
 }

@@ -1,7 +1,7 @@
 //! Worked plans: which of them race, and where; and plans that may draw too many numbers.
 use ext_model::Size;
 use ext_plan_reading::read_plan_within;
-use ext_races::{races, races_text};
+use ext_races::{races, races_json, races_text};
 use std::alloc::{AllocError, Global};
 
 /// A root, a class A with the tests m and n and a class B with the test k, each concurrent.
@@ -20,7 +20,7 @@ const ONE: &str = "no races: one report\n";
 const NEAR: &str = "no races: one report but for computed and found\n";
 
 /// The fields of these six nodes, and what is told of the plan's races.
-const PLANS: [([&str; 6], &str); 27] = [
+const PLANS: [([&str; 6], &str); 32] = [
     // each test puts into its own context
     (
         [
@@ -346,7 +346,74 @@ const PLANS: [([&str; 6], &str); 27] = [
         ],
         "put a of [e:x]/[c:A]/[t:m] and want a of [e:x]/[c:A]/[t:n] in [e:x]/[c:A]\n",
     ),
+    // one finds what the class computed, where the other computes the same
+    (
+        [
+            "",
+            "before_all = [['compute a x']]",
+            "test = ['want a x']",
+            "test = ['compute a x up 1']",
+            "",
+            "test = []",
+        ],
+        NEAR,
+    ),
+    // the other computes another value
+    (
+        [
+            "",
+            "before_all = [['compute a x']]",
+            "test = ['want a x']",
+            "test = ['compute a y up 1']",
+            "",
+            "test = []",
+        ],
+        "want a of [e:x]/[c:A]/[t:m] and compute a of [e:x]/[c:A]/[t:n] in [e:x]/[c:A]\n",
+    ),
+    // a step removes the key, if only elsewhere
+    (
+        [
+            "",
+            "before_all = [['compute a x']]",
+            "test = ['want a x']",
+            "test = ['compute a x up 1']",
+            "",
+            "test = ['remove a']",
+        ],
+        "want a of [e:x]/[c:A]/[t:m] and compute a of [e:x]/[c:A]/[t:n] in [e:x]/[c:A]\n",
+    ),
+    // a callback after a class runs even if that before it failed
+    (
+        [
+            "",
+            "before_all = [['compute a x up 1']]\nafter_all = [['want a x']]",
+            "test = []",
+            "test = []",
+            "before_all = [['compute a x up 1']]",
+            "test = []",
+        ],
+        "want a of [e:x]/[c:A] and compute a of [e:x]/[c:B] in [e:x]\n",
+    ),
+    // what the class computed may stand in the root
+    (
+        [
+            "",
+            "before_all = [['compute a x']]",
+            "test = ['want a x']",
+            "test = []",
+            "",
+            "test = ['compute a x up 2']",
+        ],
+        "compute a of [e:x]/[c:A] and compute a of [e:x]/[c:B]/[t:k] in [e:x]\nwant a of [e:x]/[c:A]/[t:m] and compute a of [e:x]/[c:B]/[t:k] in [e:x]\n",
+    ),
 ];
+
+/// What is told of a plan's races: by lines, and as JSON without its line feed.
+#[derive(Drop)]
+struct Told {
+    lines: String,
+    object: Vec<u8>,
+}
 
 /// Tests `races`, `races_text`, `Word::text`, `Word::changes`, `Word::looks_along`,
 /// `Word::computes`, `Word::gives_value`, `Word::leaves_closeable` and `Word::has_text`.
@@ -354,28 +421,97 @@ const PLANS: [([&str; 6], &str); 27] = [
 fn races_of_worked_plans(rt: HostRuntime) -> Result<(), AllocError> {
     for (fields, wanted) in PLANS {
         let told = told_of(rt.alloc(), &fields)?;
-        assert_eq!(rt; told.as_str(), wanted);
+        assert_eq!(rt; told.lines.as_str(), wanted);
     }
     Ok(())
 }
 
 /// What is told of a plan of these fields.
-fn told_of(alloc: Global, fields: &[&str; 6]) -> Result<String, AllocError> {
+fn told_of(alloc: Global, fields: &[&str; 6]) -> Result<Told, AllocError> {
+    let text = plan_text(alloc, fields)?;
+    told_of_plan(alloc, text.as_str(), Size::Usual)
+}
+
+/// The plan of these fields.
+fn plan_text(alloc: Global, fields: &[&str; 6]) -> Result<String, AllocError> {
     let mut text = String::new(alloc);
     for (head, more) in HEADS.iter().zip(fields.iter()) {
         text.push_str(head)?;
         text.push_str(more)?;
         text.push_str("\n")?;
     }
-    text_of(alloc, text.as_str(), Size::Usual)
+    Ok(text)
 }
 
 /// What is told of the races of this plan, which is so large at most.
-fn text_of(alloc: Global, text: &str, size: Size) -> Result<String, AllocError> {
+fn told_of_plan(alloc: Global, text: &str, size: Size) -> Result<Told, AllocError> {
     match read_plan_within(alloc, text, size) {
-        Ok(plan) => races_text(alloc, &plan, &races(alloc, &plan, 21)?),
-        Err(_) => String::from_str(alloc, "refused"),
+        Ok(plan) => {
+            let found = races(alloc, &plan, 21)?;
+            let mut object = races_json(alloc, &plan, &found)?;
+            let _ = object.pop();
+            Ok(Told {
+                lines: races_text(alloc, &plan, &found)?,
+                object,
+            })
+        }
+        Err(_) => Ok(Told {
+            lines: String::from_str(alloc, "refused")?,
+            object: Vec::new(alloc),
+        }),
     }
+}
+
+/// The fields of the six nodes, and the JSON that tells of the plan's races.
+const OBJECTS: [([&str; 6], &str); 4] = [
+    // a key with a mark that has to be escaped
+    (
+        [
+            "",
+            "",
+            "test = ['put a\"b x up 1']",
+            "test = ['want a\"b x']",
+            "",
+            "test = []",
+        ],
+        r#"{"races":[{"first":{"node":"[e:x]/[c:A]/[t:m]","word":"put","key":"a\"b"},"second":{"node":"[e:x]/[c:A]/[t:n]","word":"want","key":"a\"b"},"context":"[e:x]/[c:A]"}],"more":false,"proved":null,"gaps":null,"limit":null}"#,
+    ),
+    (
+        ["", "", "test = ['put a x']", "test = []", "", "test = []"],
+        r#"{"races":[],"more":false,"proved":"one report","gaps":null,"limit":null}"#,
+    ),
+    (
+        [
+            "",
+            "",
+            "test = ['compute a x up 1']",
+            "test = ['compute a x up 1']",
+            "",
+            "test = []",
+        ],
+        r#"{"races":[],"more":false,"proved":"one report but for computed and found","gaps":null,"limit":null}"#,
+    ),
+    (
+        [
+            "",
+            "",
+            "test = ['computefail a x up 1']",
+            "test = ['computefail a x up 1']",
+            "before_all = [['put! a bad1', 'put! b bad2']]",
+            "test = []",
+        ],
+        r#"{"races":[],"more":false,"proved":"nothing","gaps":{"closes":{"first":"bad1","second":"bad2","context":"[e:x]/[c:B]"},"fails":{"first":{"node":"[e:x]/[c:A]/[t:m]","word":"computefail","key":"a"},"second":{"node":"[e:x]/[c:A]/[t:n]","word":"computefail","key":"a"},"context":"[e:x]/[c:A]"},"numbers":null},"limit":null}"#,
+    ),
+];
+
+/// Tests `races_json`.
+#[test]
+fn races_as_json(rt: HostRuntime) -> Result<(), AllocError> {
+    for (fields, wanted) in &OBJECTS {
+        let told = told_of(rt.alloc(), fields)?;
+        assert_eq!(rt; told.object.as_slice(), wanted.as_bytes());
+    }
+    Ok(())
 }
 
 /// A plan of 255 tests, before each of which so many steps put.
@@ -392,29 +528,37 @@ fn plan_of_puts(alloc: Global, count: u32) -> Result<String, AllocError> {
     Ok(text)
 }
 
-/// How many steps put and how large their plan may be, with what is told of its races.
-const PUTS: [(u32, Size, &str); 4] = [
-    (256, Size::Usual, ONE),
+/// The JSON of plans without races that have one report.
+const ONE_OBJECT: &str =
+    r#"{"races":[],"more":false,"proved":"one report","gaps":null,"limit":null}"#;
+
+/// How many steps put and how large their plan may be, with what is told of its races by lines and
+/// as JSON.
+const PUTS: [(u32, Size, &str, &str); 4] = [
+    (256, Size::Usual, ONE, ONE_OBJECT),
     (
         257,
         Size::Usual,
         "no races: one report is not proved\nas many numbers as there are: 65535\n",
+        r#"{"races":[],"more":false,"proved":"nothing","gaps":{"closes":null,"fails":null,"numbers":65535},"limit":null}"#,
     ),
     (
         258,
         Size::Usual,
         "the steps may draw more than 65535 numbers\n",
+        r#"{"races":null,"more":null,"proved":null,"gaps":null,"limit":{"of":"numbers","most":65535}}"#,
     ),
-    (258, Size::Large, ONE),
+    (258, Size::Large, ONE, ONE_OBJECT),
 ];
 
-/// Tests `races` and `races_text`.
+/// Tests `races`, `races_text` and `races_json`.
 #[test]
 fn numbers_are_few_for_the_size(rt: HostRuntime) -> Result<(), AllocError> {
-    for (count, size, wanted) in &PUTS {
+    for (count, size, wanted, object) in &PUTS {
         let plan = plan_of_puts(rt.alloc(), *count)?;
-        let told = text_of(rt.alloc(), plan.as_str(), *size)?;
-        assert_eq!(rt; told.as_str(), *wanted);
+        let told = told_of_plan(rt.alloc(), plan.as_str(), *size)?;
+        assert_eq!(rt; told.lines.as_str(), *wanted);
+        assert_eq!(rt; told.object.as_slice(), object.as_bytes());
     }
     Ok(())
 }

@@ -1,11 +1,12 @@
-use Rattle.ext_one_report.proofs.WorkedSharing.{class_shares_none, computes_share_values, first_shares, looks_after_do_not, looks_behind_share_values, second_shares}
-use Rattle.ext_one_report.proofs.WorkedPlans.{own_puts_keep_apart, looks_keep_apart, two_keys_keep_apart, one_by_one_keeps_apart, puts_above_do_not, look_and_put_do_not, computes_are_no_race, computes_do_not, two_faults_do_not_tell_one, replaced_does_not_tell_one, one_text_tells_one, two_contexts_tell_one, worked_keeps_apart, worked_tells_one, worked_has_keys, worked_has_numbers, worked_is_read, tests_are_beside, tests_are_read}
+use Rattle.ext_one_report.proofs.WorkedSharing.{class_shares_none, computes_share_values, first_shares, looks_after_do_not, looks_behind_share_values, looks_below_share_values, removed_do_not, second_shares}
+use Rattle.ext_one_report.proofs.WorkedPlans.{own_puts_keep_apart, looks_keep_apart, looks_below_keep_apart, two_keys_keep_apart, one_by_one_keeps_apart, puts_above_do_not, look_and_put_do_not, computes_are_no_race, computes_do_not, two_faults_do_not_tell_one, replaced_does_not_tell_one, one_text_tells_one, two_contexts_tell_one, worked_keeps_apart, worked_tells_one, worked_has_keys, worked_has_numbers, worked_is_read, tests_are_beside, tests_are_read}
 use Rattle.ext_one_report.proofs.worked.worked_plans.Goals as goal
 
 pub returns : goal.returns
 returns c = record {
   own_puts_keep_apart = own_puts_keep_apart;
   looks_keep_apart = looks_keep_apart;
+  looks_below_keep_apart = looks_below_keep_apart;
   two_keys_keep_apart = two_keys_keep_apart;
   one_by_one_keeps_apart = one_by_one_keeps_apart;
   puts_above_do_not = puts_above_do_not;
@@ -26,6 +27,8 @@ returns c = record {
   computes_share = computes_share_values;
   looks_behind_share = looks_behind_share_values;
   looks_after_do_not = looks_after_do_not;
+  looks_below_share = looks_below_share_values;
+  removed_do_not = removed_do_not;
   first_shares = first_shares;
   second_shares = second_shares;
   class_shares_none = class_shares_none;

@@ -7,20 +7,32 @@ use Rattle.ext_races.specs.Acts.{draws}
 use Rattle.ext_races.specs.InnerGroups.{IsGrouped, groups_view}
 use Rattle.ext_races.specs.InnerNaming.{keys_told}
 use Rattle.ext_races.specs.InnerMade.{made_view, made_views}
-use Rattle.ext_races.specs.Touches.{numbers_drawn, touches_made}
+use Rattle.ext_races.specs.Touches.{numbers_drawn, standing, touches_made}
 use Rattle.ext_races.proofs.After.{drawn_same, keys_same}
 use Rattle.ext_races.proofs.Finds.{all_or_fewer, drawn_is, named_is, nodes_in, touches_in, within_limits}
 use Rattle.ext_races.proofs.finding.races.Goals as goal
 
+pub standing_of-requires-clause-plan : goal.standing_of-requires-clause-plan
+standing_of-requires-clause-plan c = c.requires
+
+pub standing_of-requires-clause-tree : goal.standing_of-requires-clause-tree
+standing_of-requires-clause-tree c = c.in_ok-tree.ensures
+
+pub standing_of-requires-clause-keys : goal.standing_of-requires-clause-keys
+standing_of-requires-clause-keys c = c.of-keys.ensures ∙ ap keys_view c.as_slice.ensures.value
+
+pub standing_of-requires-clause-made : goal.standing_of-requires-clause-made
+standing_of-requires-clause-made c = ap (made_views []) c.as_slice-5.ensures.value ∙ c.in_ok-made.ensures
+
 pub groups_of-requires-clause-nodes : goal.groups_of-requires-clause-nodes
 groups_of-requires-clause-nodes c =
-    subst (All (λ m. m.node < length c.in_ok-tree.tree)) (sym c.as_slice-5.ensures.value) (nodes_in (plan_view c.args.plan.now) c.in_ok-made.made.items c.in_ok-tree.tree c.in_ok-made.ensures c.in_ok-tree.ensures)
+    subst (All (λ m. m.node < length c.in_ok-tree.tree)) (sym c.as_slice-6.ensures.value) (nodes_in (plan_view c.args.plan.now) c.in_ok-made.made.items c.in_ok-tree.tree c.in_ok-made.ensures c.in_ok-tree.ensures)
 
 pub found_in-requires-clause-count : goal.found_in-requires-clause-count
 found_in-requires-clause-count c =
     let ok = c.in_ok-groups.groups.ok in
     let long : length c.in_ok-groups.groups.items ≡ vec_len c.in_ok-groups.groups = omega (arith, ok) in
-    ap length c.as_slice-6.ensures.value ∙ long ∙ c.in_ok-groups.ensures.count ∙ ap (λ keys. length c.in_ok-tree.tree * (keys + 1)) (sym c.len-keys.ensures.count)
+    ap length c.as_slice-7.ensures.value ∙ long ∙ c.in_ok-groups.ensures.count ∙ ap (λ keys. length c.in_ok-tree.tree * (keys + 1)) (sym c.len-keys.ensures.count)
 
 pub found_in-requires-clause-groups : goal.found_in-requires-clause-groups
 found_in-requires-clause-groups c =
@@ -29,9 +41,9 @@ found_in-requires-clause-groups c =
     let keys = c.of-keys.ensures ∙ ap keys_view c.as_slice.ensures.value in
     let named = c.in-Ok.ensures.keys ∙ ap (λ xs. keys_told (keys_in c.of-keys.result) (map made_view xs)) c.as_slice-3.ensures.value ∙ keys_same (keys_in c.of-keys.result) [] [] made in
     let are = touches_in plan (made_views [] made) c.in_ok-made.ensures (keys_in c.of-keys.result) c.in-Ok.named.0 c.in_ok-tree.tree (groups_view c.in_ok-groups.groups.items) keys c.in_ok-tree.ensures named
-    (rw (← c.as_slice-5.ensures.value) c.in_ok-groups.ensures.groups) in
-    subst (λ n. IsGrouped n (touches_made plan) (groups_view c.as_slice-6.result.now)) (sym c.len-keys.ensures.count)
-    (subst (λ groups. IsGrouped (length c.in-Ok.named.0) (touches_made plan) (groups_view groups)) (sym c.as_slice-6.ensures.value) are)
+    (rw (← c.as_slice-6.ensures.value) (c.in_ok-groups.ensures.groups (standing plan) c.in_ok-standing.ensures)) in
+    subst (λ n. IsGrouped n (touches_made plan) (groups_view c.as_slice-7.result.now)) (sym c.len-keys.ensures.count)
+    (subst (λ groups. IsGrouped (length c.in-Ok.named.0) (touches_made plan) (groups_view groups)) (sym c.as_slice-7.ensures.value) are)
 
 pub found_in-requires-clause-within : goal.found_in-requires-clause-within
 found_in-requires-clause-within c =

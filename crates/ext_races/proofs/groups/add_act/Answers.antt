@@ -1,8 +1,10 @@
 use Rattle.std.proofs.Common.{suc, ◌∷◌, [], ◌∙◌, ap, sym, subst, arith, All, vec_len}
+use Rattle.std.specs.Prelude.{option_map}
 use Rattle.std.proofs.lemmas.List.{length-map}
 use Rattle.ext_races.specs.Acts.{act_view}
 use Rattle.ext_races.specs.InnerGroups.{HasGroups, IsAdded, group_view, groups_view}
-use Rattle.ext_races.specs.Touches.{touch_of, touch_view, touches_above, touches_along}
+use Rattle.ext_races.specs.InnerStanding.{compute_view}
+use Rattle.ext_races.specs.Touches.{touch_view, touches_above, touches_along}
 use Rattle.ext_races.proofs.Grouped.{added_more}
 use Rattle.ext_races.proofs.groups.add_act.Goals as goal
 
@@ -20,9 +22,9 @@ add_above-requires-clause-path c = λ k d less.
 pub returns-in_ok-add_above-in-Some : goal.returns-in_ok-add_above-in-Some
 returns-in_ok-add_above-in-Some c =
     let act = act_view c.args.act.now in
+    let found = option_map compute_view c.args.found.now in
     let first = groups_view c.args.groups.now.items in
     let after = groups_view c.add_above.new.groups.items in
-    let above = touches_above c.args.node c.args.key act c.in-Some.above.now in
-    let all = added_more c.args.keys (touch_view c.touch_of-touch.result ∷ []) above first (groups_view c.add.new.groups.items) after c.in_ok-add-in-Some.ensures c.in_ok-add_above-in-Some.ensures in
-    let touch = c.touch_of-touch.ensures ∙ ap (λ b. touch_of c.args.node c.args.key act b c.in-Some.context.now) c.changes.ensures in
-    subst (λ touches. IsAdded c.args.keys touches first after) (ap (λ t. t ∷ above) touch ∙ ap (touches_along c.args.node c.args.key act) (sym c.in-Some.ensures.cases.0)) all
+    let above = touches_above c.args.node c.args.key act found c.in-Some.above.now in
+    let all = added_more c.args.keys (touch_view c.touch_first-touch.result ∷ []) above first (groups_view c.add.new.groups.items) after c.in_ok-add-in-Some.ensures c.in_ok-add_above-in-Some.ensures in
+    subst (λ touches. IsAdded c.args.keys touches first after) (ap (λ t. t ∷ above) c.touch_first-touch.ensures.touch ∙ ap (touches_along c.args.node c.args.key act found) (sym c.in-Some.ensures.cases.0)) all

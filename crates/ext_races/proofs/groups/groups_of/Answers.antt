@@ -1,9 +1,9 @@
-use Rattle.std.proofs.Common.{◌≡◌, ◌+◌, ◌*◌, ◌<◌, ◌∷◌, ◌++◌, [], ◌∙◌, ap, sym, subst, arith, length, take, append-nil}
+use Rattle.std.proofs.Common.{◌≡◌, ◌+◌, ◌*◌, ◌<◌, ◌∷◌, ◌++◌, [], ◌∙◌, ap, sym, subst, arith, length, take, append-nil, refl}
 use Rattle.std.specs.List.{flat_map}
 use Rattle.std.proofs.lemmas.Grind.{flat_map-append}
-use Rattle.std.proofs.lemmas.List.{length-map, take_all}
+use Rattle.std.proofs.lemmas.List.{take_all}
 use Rattle.ext_plan.specs.StepCalls.{keys_in}
-use Rattle.ext_races.specs.InnerGroups.{IsAdded, group_view, groups_view}
+use Rattle.ext_races.specs.InnerGroups.{IsAdded, groups_view}
 use Rattle.ext_races.specs.InnerMade.{left_after, made_behind, made_views}
 use Rattle.ext_races.specs.InnerReach.{Tells}
 use Rattle.ext_races.specs.Touches.{touches_of}
@@ -15,7 +15,8 @@ use Rattle.ext_races.proofs.groups.groups_of.Goals as goal
 
 pub loop-step-init : goal.loop-step-init
 loop-step-init c = record {
-  added = added_none (length c.args.directory.now) (groups_view c.in_ok-groups.groups.items);
+  count = refl;
+  added = λ above tells. added_none (length c.args.directory.now) (groups_view c.in_ok-groups.groups.items);
   tells = whole_tells (keys_in c.args.keys.now) c.args.directory.now c.in_ok-below.below.items (c.in_ok-below.ensures.count ∙ c.len-3.ensures.count) c.in_ok-below.ensures.whole;
 }
 
@@ -30,17 +31,12 @@ add_step-requires-clause-node c = subst (λ m. m.node < length c.args.tree.now) 
 
 pub add_step-requires-clause-count : goal.add_step-requires-clause-count
 add_step-requires-clause-count c =
-    let so_far = c.loop-step.invariant.added.count in
-    let start = length-map c.in_ok-groups.groups.items group_view in
-    let now = length-map c.loop-step.groups.items group_view in
-    let start_ok = c.in_ok-groups.groups.ok in
-    let now_ok = c.loop-step.groups.ok in
+    let so_far = c.loop-step.invariant.count in
     let made = c.in_ok-groups.ensures.count ∙ ap (λ contexts. contexts * (c.len-2.result + 1)) c.len.ensures.count ∙ ap (λ keys. length c.args.tree.now * (keys + 1)) c.len-2.ensures.count in
-    omega (arith, so_far, start, now, start_ok, now_ok, made)
+    omega (arith, so_far, made)
 
 pub loop-step-preserved : goal.loop-step-preserved
 loop-step-preserved c =
-    let touches = touches_of c.args.tree.now (keys_in c.args.keys.now) c.args.directory.now in
     let made = c.args.made.now in
     let i = c.loop-step.step-index in
     let first = groups_view c.in_ok-groups.groups.items in
@@ -48,31 +44,30 @@ loop-step-preserved c =
     let so_far = made_views [] (take i made) in
     let left = left_after [] (take i made) in
     let one = made_behind left c.step-item.result in
-    let all = added_more (length c.args.directory.now) (flat_map touches so_far) (touches one) first (groups_view c.loop-step.groups.items) after c.loop-step.invariant.added
-    (c.in_ok-add_step.ensures.added left c.loop-step.invariant.tells) in
-    let same = ap (flat_map touches) (views_more made i c.step-item.result (omega arith) c.step-item.is) ∙ flat_map-append touches so_far (one ∷ []) ∙ ap (λ ts. flat_map touches so_far ++ ts) (append-nil (touches one)) in
     record {
-      added = subst (λ ts. IsAdded (length c.args.directory.now) ts first after) (sym same) all;
+      count = c.in_ok-add_step.ensures.count ∙ c.loop-step.invariant.count;
+      added = λ above stands_so.
+          let touches = touches_of c.args.tree.now (keys_in c.args.keys.now) c.args.directory.now above in
+          let all = added_more (length c.args.directory.now) (flat_map touches so_far) (touches one) first (groups_view c.loop-step.groups.items) after (c.loop-step.invariant.added above stands_so)
+          (c.in_ok-add_step.ensures.added left above c.loop-step.invariant.tells stands_so) in
+          let same = ap (flat_map touches) (views_more made i c.step-item.result (omega arith) c.step-item.is) ∙ flat_map-append touches so_far (one ∷ []) ∙ ap (λ ts. flat_map touches so_far ++ ts) (append-nil (touches one)) in
+          subst (λ ts. IsAdded (length c.args.directory.now) ts first after) (sym same) all;
       tells = subst (λ before. Tells (keys_in c.args.keys.now) c.args.directory.now before c.add_step.new.below.items) (sym (left_more_at made i c.step-item.result (omega arith) c.step-item.is))
           (c.in_ok-add_step.ensures.tells left c.loop-step.invariant.tells);
     }
 
 pub returns-clause-count : goal.returns-clause-count
 returns-clause-count c =
-    let so_far = c.loop-step.invariant.added.count in
-    let start = length-map c.in_ok-groups.groups.items group_view in
-    let now = length-map c.loop-step.groups.items group_view in
-    let start_ok = c.in_ok-groups.groups.ok in
-    let now_ok = c.loop-step.groups.ok in
+    let so_far = c.loop-step.invariant.count in
     let made = c.in_ok-groups.ensures.count ∙ ap (λ contexts. contexts * (c.len-2.result + 1)) c.len.ensures.count ∙ ap (λ keys. length c.args.tree.now * (keys + 1)) c.len-2.ensures.count in
-    omega (arith, so_far, start, now, start_ok, now_ok, made)
+    omega (arith, so_far, made)
 
 pub returns-clause-groups : goal.returns-clause-groups
-returns-clause-groups c =
-    let touches = touches_of c.args.tree.now (keys_in c.args.keys.now) c.args.directory.now in
+returns-clause-groups c = λ above stands_so.
+    let touches = touches_of c.args.tree.now (keys_in c.args.keys.now) c.args.directory.now above in
     let made = c.args.made.now in
     let first = groups_view c.in_ok-groups.groups.items in
     let after = groups_view c.loop-step.groups.items in
     let past = c.loop-step-test.false in
     let whole : take c.loop-step.step-index made ≡ made = take_all c.loop-step.step-index made past in
-    grouped (length c.args.directory.now) (flat_map touches (made_views [] made)) first after c.in_ok-groups.ensures.empty (subst (λ m. IsAdded (length c.args.directory.now) (flat_map touches (made_views [] m)) first after) whole c.loop-step.invariant.added)
+    grouped (length c.args.directory.now) (flat_map touches (made_views [] made)) first after c.in_ok-groups.ensures.empty (subst (λ m. IsAdded (length c.args.directory.now) (flat_map touches (made_views [] m)) first after) whole (c.loop-step.invariant.added above stands_so))

@@ -5,5 +5,5 @@ use Rattle.ext_races.proofs.reach.forget.Given as goal
 abbrev pub invariant-loop-key : goal.invariant-loop-key
 invariant-loop-key l = record {
   count : length l.below.items ≡ length l.fn.below.items;
-  whole : (k : ℕ) → k < l.key → below_at l.below.items k ≡ 16;
+  whole : (k : ℕ) → k < l.key → below_at l.below.items k ≡ 17;
 }

@@ -2,7 +2,7 @@ use Rattle.std.proofs.Common.{◌++◌, ◌∙◌, ap, sym, rules}
 use Rattle.ext_lifecycle.specs.FaultTexts.{result_view}
 use Rattle.ext_report.specs.JsonLines.{json_line}
 use Rattle.ext_report.proofs.Lines.{lines-more}
-use Rattle.ext_report.proofs.json_lines.json_report.Goals as goal
+use Rattle.ext_report.proofs.json_lines.lines_of.Goals as goal
 
 pub loop-node-preserved : goal.loop-node-preserved
 loop-node-preserved c =

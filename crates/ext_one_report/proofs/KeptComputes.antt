@@ -1,0 +1,214 @@
+-- In a plain run a step that computes a value and succeeds leaves something where it computes, or found it there or above; and so does a call with such a step.
+-- Javadoc `ExtensionContext.Store`, `getOrComputeIfAbsent`; what a step does stands in [ext_plain StepRuns].
+use Rattle.std.proofs.Common.{◌≡◌, ◌<◌, ◌⊎◌, ℕ, zero, suc, inl, inr, Bool, true, false, true≢false, not, List, [], ◌∷◌, drop, length, Option, None, Some, is_some, refl, ap, sym, subst, ◌∙◌, arith}
+use Rattle.std.specs.Prelude.{All, Contains, ◌&&◌}
+use Rattle.std.proofs.lemmas.List.{length-drop}
+use Rattle.std.proofs.lemmas.List.Elements.{All-weaker}
+use Rattle.ext_history.proofs.Lists.{bools, contains_cons, contains_later, contains_none}
+use Rattle.ext_model.specs.declared.event.Act.TheVariants.{Claim, Fill, Abandon}
+use Rattle.ext_model.specs.declared.look.Look.{Look}
+use Rattle.ext_model.specs.declared.look.Look.TheVariants as look
+use Rattle.ext_model.specs.Plain.{Place, under}
+use Rattle.ext_model.proofs.Lookups.{empty_path}
+use Rattle.ext_tree.specs.Keys.{KeyValue}
+use Rattle.ext_tree.specs.Trees.{Id, IsPathOf}
+use Rattle.ext_lifecycle.specs.Endings.{aborted, failed, is_successful, successful}
+use Rattle.ext_lifecycle.specs.FaultTexts.{VerdictText}
+use Rattle.ext_plan.specs.declared.reason.Reason.{Reason}
+use Rattle.ext_plan.specs.declared.word.Word.{Word}
+use Rattle.ext_plan.specs.declared.word.Word.TheVariants as words
+use Rattle.ext_plan.specs.Plans.{KeyText, PlanText, StepKeyText, StepText, abort, fail, keyed}
+use Rattle.ext_plan.specs.ReadPlans.{NodesAreTree, ids_of_nodes}
+use Rattle.ext_plan.specs.StepCalls.{label_of, start_of}
+use Rattle.ext_plan.specs.StepWords.{gives_value, word_text}
+use Rattle.ext_plan.specs.StoreKeys.{is_there, key_of_step, place_of_key}
+use Rattle.ext_plan.specs.Values.{ValueText}
+use Rattle.ext_plan.proofs.KeyLists.{place_last}
+use Rattle.ext_races.specs.Acts.{ActText}
+use Rattle.ext_races.specs.MadeSteps.{MadeText, calls_after, calls_before, calls_of, made_after, made_by, made_in_turn, made_of_node, parent_in, path_from, plan_path, steps_before, steps_made}
+use Rattle.ext_races.specs.MadeSteps as made_steps
+use Rattle.ext_races.proofs.Paths.{path_is}
+use Rattle.ext_plain.specs.ValueStates.{Memory, Numbering, ValueState, after_act, enough, found_later, full, keep_value, known, next, next_found, next_number, numbering_of, why_refused, with_number}
+use Rattle.ext_plain.specs.StepRuns.{StepEnd, and_then, compute_looked, compute_numbered, factory_gave, found_along, next_step, number_by, numbered_by, or_refused, step_by, step_run, steps_run, unless_ended}
+use Rattle.ext_plain.proofs.Lacking.{does_or_lacks}
+use Rattle.ext_plain.proofs.Numberings.{known_is, next_is, there_then}
+use Rattle.ext_plain.proofs.Seals.{filled_here}
+use Rattle.ext_plain.proofs.Stepping.{steps_run-cons}
+use Rattle.ext_one_report.proofs.Calls.{path_above}
+use Rattle.ext_one_report.proofs.ComputedAbove.{ComputesAt, all_clear, clear_is}
+use Rattle.ext_one_report.proofs.FrameNodes.{within_path}
+use Rattle.ext_one_report.proofs.Matching.{plain_there}
+use Rattle.ext_one_report.proofs.MatchingWords.{plain_slot}
+use Rattle.ext_one_report.proofs.KeptSteps.{Keeps, Spares, compute_kept, steps_keep}
+
+-- ---- a path with something on it
+
+pub clear_kept : (key : KeyValue) (s t : ValueState) → Keeps key s t → (path : List ℕ) → all_clear s path key ≡ false → all_clear t path key ≡ false
+clear_kept key s t keeps [] off = absurd (true≢false off)
+clear_kept key s t keeps (context ∷ path) off = elim (bools (is_some (plain_slot s context key))) [
+  | inl some ↦ ap (λ b. not b && all_clear t path key) (keeps context some)
+  | inr none ↦
+      let above : all_clear s path key ≡ false = sym (ap (λ b. not b && all_clear s path key) none) ∙ off in
+      and_off (not (is_some (plain_slot t context key))) (all_clear t path key) (clear_kept key s t keeps path above)
+]
+  where
+    and_off : (a b : Bool) → b ≡ false → (a && b) ≡ false
+    and_off true b is = is
+    and_off false b is = refl
+
+-- ---- a step that computes a value
+
+-- something stands on the path, or in its first context, which is the root's where the path has none
+abbrev Left : KeyValue → List ℕ → ValueState → Type 0
+Left key path s = (all_clear s path key ≡ false) ⊎ (is_some (plain_slot s (start_of path) key) ≡ true)
+
+-- what succeeds was not refused
+or_passed : (Q : StepEnd → Type 0) (name label : List ℕ) (why : Option Reason) (s : ValueState) (goes : StepEnd) → (why ≡ None → is_successful goes.verdict ≡ true → Q goes)
+    → is_successful (or_refused name label why s goes).verdict ≡ true → Q (or_refused name label why s goes)
+or_passed Q name label None s goes each good = each refl good
+or_passed Q name label (Some why) s goes each good = absurd (cc good)
+
+module _ (key : KeyValue) (name label path : List ℕ) (value : ValueText) where
+  -- once its key has its number
+  module _ (s : ValueState) (there : is_there s.keys key ≡ true) where
+    abbrev its_number : ℕ
+    its_number = place_of_key s.keys key
+
+    abbrev its_place : Place
+    its_place = (start_of path, its_number)
+
+    abbrev end_by : Look → StepEnd
+    end_by found = compute_looked name label its_place value s found
+
+    abbrev Own : StepEnd → Type 0
+    Own end = is_some (plain_slot end.state (start_of path) key) ≡ true
+
+    claim_left : is_successful (end_by look.Absent).verdict ≡ true → Own (end_by look.Absent)
+    claim_left =
+        let claimed = after_act (Claim its_place) s in
+        let kept = keep_value value claimed in
+        or_passed Own name label (why_refused (Claim its_place) s) s (factory_gave name label its_place value claimed)
+        (λ won. or_passed Own name label (why_refused (next_number claimed) claimed) (after_act (Abandon its_place) claimed) _
+        (λ room good. ap is_some (plain_there (after_act (Fill its_place kept.store.drawn) kept) (start_of path) key there ∙ filled_here its_place value s won)))
+
+    absent_left : (found : Look) → found ≡ look.Absent → is_successful (end_by found).verdict ≡ true → Own (end_by found)
+    absent_left found is = subst (λ f. is_successful (end_by f).verdict ≡ true → Own (end_by f)) (sym is) claim_left
+
+    numbered_left : is_successful (compute_numbered enough name label path value its_number s).verdict ≡ true → Left key path (compute_numbered enough name label path value its_number s).state
+    numbered_left good = elim (bools (all_clear s path key)) [
+      | inl clear ↦
+          let none : All (λ c. under s.store its_number c ≡ None) path =
+          All-weaker (λ c. plain_slot s c key ≡ None) (λ c. under s.store its_number c ≡ None) (λ c is. sym (plain_there s c key there) ∙ is) path (clear_is s path key clear) in
+          inr (absent_left (found_along its_number path s) (empty_path (under s.store its_number) path none) good)
+      | inr off ↦ inl (clear_kept key s (compute_numbered enough name label path value its_number s).state (compute_kept key s its_place name label value (found_along its_number path s)) path off)
+    ]
+
+  value_left : (s : ValueState) → (let end = numbered_by enough name label key (compute_numbered enough name label path value) s in is_successful end.verdict ≡ true → Left key path end.state)
+  value_left s = by_number s (numbering_of s.places s.keys key) refl
+    where
+      by_place : (t : ValueState) (number : ℕ) → is_there t.keys key ≡ true → number ≡ place_of_key t.keys key → is_successful (compute_numbered enough name label path value number t).verdict ≡ true
+          → Left key path (compute_numbered enough name label path value number t).state
+      by_place t number there is = subst (λ n. is_successful (compute_numbered enough name label path value n t).verdict ≡ true → Left key path (compute_numbered enough name label path value n t).state) (sym is) (numbered_left t there)
+
+      by_number : (t : ValueState) (numbering : Numbering) → numbering_of t.places t.keys key ≡ numbering
+          → (let end = number_by enough name label key (compute_numbered enough name label path value) t numbering in is_successful end.verdict ≡ true → Left key path end.state)
+      by_number t (known number) is = let has = known_is t.places t.keys key number is in by_place t number has.there has.place
+      by_number t (next number) is =
+          let new = next_is t.places t.keys key number is in
+          by_place (with_number key t) number (there_then t.keys key new.there) (new.place ∙ sym (place_last t.keys key new.there))
+      by_number t full is = λ good. absurd (cc good)
+
+module _ (declared : List KeyText) (path : List ℕ) where
+  word_left : (word : Word) (key_text : StepKeyText) (text : List ℕ) (up : ℕ) (s : ValueState) → gives_value word ≡ true
+      → (let end = step_run declared path (keyed word key_text text up) s in is_successful end.verdict ≡ true → Left (key_of_step declared key_text) (drop up path) end.state)
+  word_left words.Put key_text text up s gives = absurd (cc gives)
+  word_left words.PutCloseable key_text text up s gives = absurd (cc gives)
+  word_left words.Want key_text text up s gives = absurd (cc gives)
+  word_left words.None key_text text up s gives = absurd (cc gives)
+  word_left words.Remove key_text text up s gives = absurd (cc gives)
+  word_left words.Compute key_text text up s gives = value_left (key_of_step declared key_text) (word_text words.Compute) (label_of declared key_text) (drop up path) (record { text = text; closeable = false }) s
+  word_left words.ComputeCloseable key_text text up s gives = value_left (key_of_step declared key_text) (word_text words.ComputeCloseable) (label_of declared key_text) (drop up path) (record { text = text; closeable = true }) s
+  word_left words.ComputeFail key_text text up s gives = absurd (cc gives)
+
+  -- whatever it finds of memory
+  found_left : (found : Memory) (word : Word) (key_text : StepKeyText) (text : List ℕ) (up : ℕ) (s : ValueState) → gives_value word ≡ true
+      → (let end = step_by declared found path (keyed word key_text text up) s in is_successful end.verdict ≡ true → Left (key_of_step declared key_text) (drop up path) end.state)
+  found_left found word key_text text up s gives good = elim (does_or_lacks declared found path (keyed word key_text text up) s) [
+    | inl same ↦
+        subst (λ (end : StepEnd). Left (key_of_step declared key_text) (drop up path) end.state) (sym same)
+        (word_left word key_text text up s gives (ap (λ (end : StepEnd). is_successful end.verdict) (sym same) ∙ good))
+    | inr lacks ↦ absurd (true≢false (sym good ∙ ap is_successful lacks))
+  ]
+
+-- ---- what succeeds among the steps of a call
+
+-- what was not ended by its first step went on
+gone_on : (v : VerdictText) (first : StepEnd) (go_on : ValueState → StepEnd) → first.verdict ≡ v → is_successful (unless_ended v first go_on).verdict ≡ true
+    → (is_successful first.verdict ≡ true) × (unless_ended v first go_on ≡ and_then first (go_on first.state))
+gone_on successful first go_on is good = (ap is_successful is, refl)
+gone_on (aborted text) first go_on is good = absurd (true≢false (sym good ∙ ap is_successful is))
+gone_on (failed text) first go_on is good = absurd (true≢false (sym good ∙ ap is_successful is))
+
+-- something stands on a path behind a step that succeeds, wherever it runs
+abbrev pub Leaves : List KeyText → List ℕ → KeyValue → List ℕ → StepText → Type 0
+Leaves declared path key along step = (s : ValueState) → is_successful (next_step declared path step s).verdict ≡ true → all_clear (next_step declared path step s).state along key ≡ false
+
+module _ (key : KeyValue) (declared : List KeyText) (path along : List ℕ) where
+  -- so it does behind a call with that step that succeeds
+  pub steps_left : (steps : List StepText) (step : StepText) (s : ValueState) → ((other : StepText) → Contains steps other → Spares declared key other) → Contains steps step → Leaves declared path key along step
+      → is_successful (steps_run declared path steps s).verdict ≡ true → all_clear (steps_run declared path steps s).state along key ≡ false
+  steps_left [] step s spare there leaves good = absurd (contains_none step there)
+  steps_left (first ∷ more) step s spare there leaves good =
+      let one = next_step declared path first s in
+      let whole = steps_run-cons declared path first more s in
+      let went = gone_on one.verdict one (steps_run declared path more) refl (ap (λ (end : StepEnd). is_successful end.verdict) (sym whole) ∙ good) in
+      let all : steps_run declared path (first ∷ more) s ≡ and_then one (steps_run declared path more one.state) = whole ∙ went.1 in
+      let spare_more : (other : StepText) → Contains more other → Spares declared key other = λ other later. spare other (contains_later first more other later) in
+      let good_more : is_successful (steps_run declared path more one.state).verdict ≡ true = ap (λ (end : StepEnd). is_successful end.verdict) (sym all) ∙ good in
+      subst (λ (end : StepEnd). all_clear end.state along key ≡ false) (sym all) (elim (contains_cons first more step there) [
+        | inl same ↦
+            clear_kept key one.state (steps_run declared path more one.state).state (steps_keep key declared path more one.state spare_more) along
+            (subst (λ other. Leaves declared path key along other) (sym same) leaves s went.0)
+        | inr later ↦ steps_left more step one.state spare_more later leaves good_more
+      ])
+
+-- ---- where a step computes is on the path of its node
+
+first_some : (s : ValueState) (context : ℕ) (above : List ℕ) (key : KeyValue) → is_some (plain_slot s context key) ≡ true → all_clear s (context ∷ above) key ≡ false
+first_some s context above key is = ap (λ b. not b && all_clear s above key) is
+
+-- the path of a context begins with it
+own_first : (ids : List Id) (n context : ℕ) (s : ValueState) (key : KeyValue) → 0 < n → is_some (plain_slot s context key) ≡ true → all_clear s (path_from ids n context) key ≡ false
+unfolding path_from
+own_first ids zero context s key some is = absurd (omega (arith, some))
+own_first ids (suc n) context s key some is = first_some s context (made_steps.path_above (path_from ids n) (parent_in ids context)) key is
+
+some_on : (s : ValueState) (path : List ℕ) (key : KeyValue) → all_clear s path key ≡ false → 0 < length path
+some_on s [] key off = absurd (true≢false off)
+some_on s (context ∷ path) key off = omega arith
+
+left_above : (plan : PlanText) → NodesAreTree plan → (node : ℕ) (path : List ℕ) (up : ℕ) (s : ValueState) (key : KeyValue) → IsPathOf (ids_of_nodes plan.nodes) node path → Left key (drop up path) s
+    → all_clear s (plan_path plan (start_of (drop up path))) key ≡ false
+left_above plan tree node path up s key is (inl off) =
+    let ids = ids_of_nodes plan.nodes in
+    let long = length-drop up path in
+    let some = some_on s (drop up path) key off in
+    let its : IsPathOf ids (start_of (drop up path)) (drop up path) = path_above ids path node up is (omega (arith, long, some)) in
+    subst (λ p. all_clear s p key ≡ false) (path_is ids tree (start_of (drop up path)) (drop up path) (within_path ids (start_of (drop up path)) (drop up path) tree its) its) off
+left_above plan tree node path up s key is (inr own) = own_first (ids_of_nodes plan.nodes) (length (ids_of_nodes plan.nodes)) (start_of (drop up path)) s key tree.first.some own
+
+-- a step that computes and succeeds leaves something there or above
+pub computes_leave : (plan : PlanText) → NodesAreTree plan → (node : ℕ) (path : List ℕ) (step : StepText) (context : ℕ) (key : KeyValue) → IsPathOf (ids_of_nodes plan.nodes) node path → ComputesAt plan path step context key
+    → Leaves plan.keys path key (plan_path plan context) step
+computes_leave plan tree node path (keyed word key_text text up) context key is computes s good =
+    let act : ActText = record { word = word; key = key_text; text = text; up = up } in
+    let same : act ≡ computes.act = cc computes.is in
+    let gives : gives_value word ≡ true = ap (λ (a : ActText). gives_value a.word) same ∙ computes.gives in
+    let at : start_of (drop up path) ≡ context = ap (λ (a : ActText). start_of (drop a.up path)) same ∙ computes.at in
+    let its : key_of_step plan.keys key_text ≡ key = ap (λ (a : ActText). key_of_step plan.keys a.key) same ∙ computes.named in
+    let t : ValueState = record s { memory = found_later s.memory } in
+    let after = (next_step plan.keys path (keyed word key_text text up) s).state in
+    let left : Left (key_of_step plan.keys key_text) (drop up path) after = found_left plan.keys path (next_found s.memory) word key_text text up t gives good in
+    subst (λ c. all_clear after (plan_path plan c) key ≡ false) at (left_above plan tree node path up after key is (subst (λ k. Left k (drop up path) after) its left))
+computes_leave plan tree node path (fail text) context key is computes s good = absurd (cc computes.is)
+computes_leave plan tree node path (abort text) context key is computes s good = absurd (cc computes.is)

@@ -1,0 +1,397 @@
+//! A plan's races as JSON.
+ghost use Rattle.std.specs.Prelude.{◌≡◌, ◌++◌, ◌∷◌, [], codes, length, nat_lt, take, IfOk, OnOk};
+ghost use Rattle.std.specs.Fmt.{decimal};
+ghost use Rattle.std.specs.List.{flat_map};
+ghost use Rattle.json.specs.Token.{begin_array, end_array, key, number, string};
+ghost use Rattle.json.specs.Print.{print};
+ghost use Rattle.ext_plan.specs.Plans.{plan_view};
+ghost use Rattle.ext_races.specs.RaceLines.{id_of_node, line_limit};
+ghost use Rattle.ext_races.specs.RaceJson.{closes_value, fails_value, found_json, found_object, gaps_object, gaps_value, id_member, limit_object, limit_value, more_value, numbers_value, proved_members, proved_value, proved_word, race_members, race_object, races_array, races_value, reasons_value, side_object, text_member, texts_object};
+
+use crate::text::{LINES, first_of, name_at, push_id};
+use crate::{Found, Gaps, Proved, Race, Side, TwoTexts};
+use ext_model::ContextNo;
+use ext_plan::{Plan, StepKey};
+use json::Writer;
+use std::alloc::{AllocError, Global};
+
+/// Returns what `races` found as an object of JSON on a line, as UTF-8 bytes. Its members are
+/// `races`, `more`, `proved`, `gaps` and `limit`, in this order. They tell what `races_text` does:
+/// the first 20 races and whether there are more; if there are none, what is proved of the plan's
+/// report, and if that is nothing, the reasons; or the limit that the plan exceeds, and then the
+/// others are null.
+///
+/// Takes memory for the text, and fails with `AllocError` only if that is refused.
+pub fn races_json(alloc: Global, plan: &Plan, found: &Found<'_>) -> Result<Vec<u8>, AllocError>
+    ensures { IfOk result (λ bytes. bytes.items ≡ found_json (plan_view plan.now) found.now) }
+{
+    let mut object = object_of(alloc, plan, found)?;
+    object.push(b'\n')?;
+    Ok(object)
+}
+
+#[tactic(auto, unfolding(crate::specs::RaceJson::found_object))]
+fn object_of(alloc: Global, plan: &Plan, found: &Found<'_>) -> Result<Vec<u8>, AllocError>
+    ensures { IfOk result (λ text. text.items ≡ print (found_object (plan_view plan.now) found.now)) }
+{
+    let mut writer = Writer::new(Vec::new(alloc));
+    writer.begin_object()?;
+    write_race_members(&mut writer, alloc, plan, found)?;
+    write_proved_members(&mut writer, alloc, plan, found)?;
+    writer.key("limit")?;
+    write_limit(&mut writer, plan, found)?;
+    writer.end_object()?;
+    Ok(writer.into_inner())
+}
+
+/// Writes the members that tell of races.
+fn write_race_members(
+    writer: &mut Writer,
+    alloc: Global,
+    plan: &Plan,
+    found: &Found<'_>,
+) -> Result<(), AllocError>
+    ensures before { OnOk result (writer.new.before ≡ writer.old.before) }
+    ensures tokens { OnOk result
+        (writer.new.tokens ≡ writer.old.tokens ++ race_members (plan_view plan.now) found.now) }
+{
+    writer.key("races")?;
+    write_races(writer, alloc, plan, found)?;
+    writer.key("more")?;
+    write_more(writer, found)
+}
+
+fn write_races(
+    writer: &mut Writer,
+    alloc: Global,
+    plan: &Plan,
+    found: &Found<'_>,
+) -> Result<(), AllocError>
+    ensures before { OnOk result (writer.new.before ≡ writer.old.before) }
+    ensures tokens { OnOk result
+        (writer.new.tokens ≡ writer.old.tokens ++ races_value (plan_view plan.now) found.now) }
+{
+    match found {
+        Found::TooManyKeys | Found::TooManyNumbers => writer.null(),
+        Found::Races { races, names } => {
+            write_array(writer, alloc, plan, races.as_slice(), names.as_slice())
+        }
+        Found::NoRaces { .. } => write_empty(writer),
+    }
+}
+
+fn write_empty(writer: &mut Writer) -> Result<(), AllocError>
+    ensures before { OnOk result (writer.new.before ≡ writer.old.before) }
+    ensures tokens { OnOk result (writer.new.tokens ≡ writer.old.tokens ++ begin_array ∷ end_array ∷ []) }
+{
+    writer.begin_array()?;
+    writer.end_array()
+}
+
+fn write_array(
+    writer: &mut Writer,
+    alloc: Global,
+    plan: &Plan,
+    races: &[Race],
+    names: &[&StepKey],
+) -> Result<(), AllocError>
+    ensures before { OnOk result (writer.new.before ≡ writer.old.before) }
+    ensures tokens { OnOk result
+        (writer.new.tokens ≡ writer.old.tokens ++ races_array (plan_view plan.now) names.now races.now) }
+{
+    writer.begin_array()?;
+    write_first(writer, alloc, plan, races, names)?;
+    writer.end_array()
+}
+
+/// Writes the objects of the first 20 of these races.
+fn write_first(
+    writer: &mut Writer,
+    alloc: Global,
+    plan: &Plan,
+    races: &[Race],
+    names: &[&StepKey],
+) -> Result<(), AllocError>
+    ensures before { OnOk result (writer.new.before ≡ writer.old.before) }
+    ensures tokens { OnOk result
+        (writer.new.tokens ≡ writer.old.tokens ++ flat_map (race_object (plan_view plan.now) names.now) (take line_limit races.now)) }
+{
+    let first = first_of(races);
+    for race in first {
+        write_race(writer, alloc, plan, race, names)?;
+    }
+    Ok(())
+}
+
+#[tactic(auto, unfolding(crate::specs::RaceJson::race_object))]
+fn write_race(
+    writer: &mut Writer,
+    alloc: Global,
+    plan: &Plan,
+    race: &Race,
+    names: &[&StepKey],
+) -> Result<(), AllocError>
+    ensures before { OnOk result (writer.new.before ≡ writer.old.before) }
+    ensures tokens { OnOk result
+        (writer.new.tokens ≡ writer.old.tokens ++ race_object (plan_view plan.now) names.now race.now) }
+{
+    writer.begin_object()?;
+    writer.key("first")?;
+    write_side(writer, alloc, plan, &race.first, names)?;
+    writer.key("second")?;
+    write_side(writer, alloc, plan, &race.second, names)?;
+    write_id(writer, alloc, plan, "context", race.context)?;
+    writer.end_object()
+}
+
+/// Writes a step's node, word and key.
+#[tactic(auto, unfolding(crate::specs::RaceJson::side_object))]
+fn write_side(
+    writer: &mut Writer,
+    alloc: Global,
+    plan: &Plan,
+    side: &Side,
+    names: &[&StepKey],
+) -> Result<(), AllocError>
+    ensures before { OnOk result (writer.new.before ≡ writer.old.before) }
+    ensures tokens { OnOk result
+        (writer.new.tokens ≡ writer.old.tokens ++ side_object (plan_view plan.now) names.now side.now) }
+{
+    writer.begin_object()?;
+    write_id(writer, alloc, plan, "node", side.node)?;
+    write_text(writer, "word", side.word.text())?;
+    write_text(writer, "key", name_at(plan, names, side.key))?;
+    writer.end_object()
+}
+
+/// Writes whether there are more races.
+fn write_more(writer: &mut Writer, found: &Found<'_>) -> Result<(), AllocError>
+    ensures before { OnOk result (writer.new.before ≡ writer.old.before) }
+    ensures tokens { OnOk result (writer.new.tokens ≡ writer.old.tokens ++ more_value found.now ∷ []) }
+{
+    match found {
+        Found::TooManyKeys | Found::TooManyNumbers => writer.null(),
+        Found::Races { races, .. } => writer.boolean(has_more(races.as_slice())),
+        Found::NoRaces { .. } => writer.boolean(false),
+    }
+}
+
+/// Tests whether there are more races than are written.
+fn has_more(races: &[Race]) -> bool
+    ensures { result ≡ nat_lt line_limit (length races.now) }
+{
+    races.len() > LINES
+}
+
+/// Writes the members that tell what is proved.
+fn write_proved_members(
+    writer: &mut Writer,
+    alloc: Global,
+    plan: &Plan,
+    found: &Found<'_>,
+) -> Result<(), AllocError>
+    ensures before { OnOk result (writer.new.before ≡ writer.old.before) }
+    ensures tokens { OnOk result
+        (writer.new.tokens ≡ writer.old.tokens ++ proved_members (plan_view plan.now) found.now) }
+{
+    writer.key("proved")?;
+    write_proved(writer, found)?;
+    writer.key("gaps")?;
+    write_gaps(writer, alloc, plan, found)
+}
+
+fn write_proved(writer: &mut Writer, found: &Found<'_>) -> Result<(), AllocError>
+    ensures before { OnOk result (writer.new.before ≡ writer.old.before) }
+    ensures tokens { OnOk result (writer.new.tokens ≡ writer.old.tokens ++ proved_value found.now ∷ []) }
+{
+    match found {
+        Found::NoRaces { proved, .. } => writer.string(word_of(proved)),
+        Found::Races { .. } | Found::TooManyKeys | Found::TooManyNumbers => writer.null(),
+    }
+}
+
+/// What is proved, in words.
+fn word_of(proved: &Proved<'_>) -> &'static str
+    ensures { result.now ≡ proved_word proved.now }
+{
+    match proved {
+        Proved::OneReport => "one report",
+        Proved::NearReport => "one report but for computed and found",
+        Proved::Neither(_) => "nothing",
+    }
+}
+
+/// Writes why nothing is proved of a plan without races, if that is so.
+fn write_gaps(
+    writer: &mut Writer,
+    alloc: Global,
+    plan: &Plan,
+    found: &Found<'_>,
+) -> Result<(), AllocError>
+    ensures before { OnOk result (writer.new.before ≡ writer.old.before) }
+    ensures tokens { OnOk result
+        (writer.new.tokens ≡ writer.old.tokens ++ gaps_value (plan_view plan.now) found.now) }
+{
+    match found {
+        Found::NoRaces { proved, names } => {
+            write_reasons(writer, alloc, plan, proved, names.as_slice())
+        }
+        Found::Races { .. } | Found::TooManyKeys | Found::TooManyNumbers => writer.null(),
+    }
+}
+
+fn write_reasons(
+    writer: &mut Writer,
+    alloc: Global,
+    plan: &Plan,
+    proved: &Proved<'_>,
+    names: &[&StepKey],
+) -> Result<(), AllocError>
+    ensures before { OnOk result (writer.new.before ≡ writer.old.before) }
+    ensures tokens { OnOk result
+        (writer.new.tokens ≡ writer.old.tokens ++ reasons_value (plan_view plan.now) names.now proved.now) }
+{
+    match proved {
+        Proved::OneReport | Proved::NearReport => writer.null(),
+        Proved::Neither(gaps) => write_each(writer, alloc, plan, gaps, names),
+    }
+}
+
+/// Writes the reasons, each with a member for its kind.
+#[tactic(auto, unfolding(crate::specs::RaceJson::gaps_object))]
+fn write_each(
+    writer: &mut Writer,
+    alloc: Global,
+    plan: &Plan,
+    gaps: &Gaps<'_>,
+    names: &[&StepKey],
+) -> Result<(), AllocError>
+    ensures before { OnOk result (writer.new.before ≡ writer.old.before) }
+    ensures tokens { OnOk result
+        (writer.new.tokens ≡ writer.old.tokens ++ gaps_object (plan_view plan.now) names.now gaps.now) }
+{
+    writer.begin_object()?;
+    writer.key("closes")?;
+    write_closes(writer, alloc, plan, &gaps.closes)?;
+    writer.key("fails")?;
+    write_fails(writer, alloc, plan, &gaps.fails, names)?;
+    writer.key("numbers")?;
+    write_numbers(writer, plan, gaps.numbers)?;
+    writer.end_object()
+}
+
+/// Writes the texts of closes, or null if there are not two.
+fn write_closes(
+    writer: &mut Writer,
+    alloc: Global,
+    plan: &Plan,
+    closes: &Option<TwoTexts<'_>>,
+) -> Result<(), AllocError>
+    ensures before { OnOk result (writer.new.before ≡ writer.old.before) }
+    ensures tokens { OnOk result
+        (writer.new.tokens ≡ writer.old.tokens ++ closes_value (plan_view plan.now) closes.now) }
+{
+    match closes {
+        None => writer.null(),
+        Some(texts) => write_texts(writer, alloc, plan, texts),
+    }
+}
+
+fn write_texts(
+    writer: &mut Writer,
+    alloc: Global,
+    plan: &Plan,
+    texts: &TwoTexts<'_>,
+) -> Result<(), AllocError>
+    ensures before { OnOk result (writer.new.before ≡ writer.old.before) }
+    ensures tokens { OnOk result
+        (writer.new.tokens ≡ writer.old.tokens ++ texts_object (plan_view plan.now) texts.now) }
+{
+    writer.begin_object()?;
+    write_text(writer, "first", texts.first)?;
+    write_text(writer, "second", texts.second)?;
+    write_id(writer, alloc, plan, "context", texts.context)?;
+    writer.end_object()
+}
+
+/// Writes the computes that fail alike, or null if there are none.
+fn write_fails(
+    writer: &mut Writer,
+    alloc: Global,
+    plan: &Plan,
+    fails: &Option<Race>,
+    names: &[&StepKey],
+) -> Result<(), AllocError>
+    ensures before { OnOk result (writer.new.before ≡ writer.old.before) }
+    ensures tokens { OnOk result
+        (writer.new.tokens ≡ writer.old.tokens ++ fails_value (plan_view plan.now) names.now fails.now) }
+{
+    match fails {
+        None => writer.null(),
+        Some(fails) => write_race(writer, alloc, plan, fails, names),
+    }
+}
+
+/// Writes how many numbers there are, or null if the steps do not draw as many.
+fn write_numbers(writer: &mut Writer, plan: &Plan, drawn: bool) -> Result<(), AllocError>
+    ensures before { OnOk result (writer.new.before ≡ writer.old.before) }
+    ensures tokens { OnOk result
+        (writer.new.tokens ≡ writer.old.tokens ++ numbers_value (plan_view plan.now) drawn ∷ []) }
+{
+    if drawn {
+        writer.u64(u64::from(plan.size.numbers()))
+    } else {
+        writer.null()
+    }
+}
+
+/// Writes the limit that the plan exceeds, or null if there is none.
+fn write_limit(writer: &mut Writer, plan: &Plan, found: &Found<'_>) -> Result<(), AllocError>
+    ensures before { OnOk result (writer.new.before ≡ writer.old.before) }
+    ensures tokens { OnOk result
+        (writer.new.tokens ≡ writer.old.tokens ++ limit_value (plan_view plan.now) found.now) }
+{
+    match found {
+        Found::TooManyKeys => write_most(writer, "keys", plan.key_places as u64),
+        Found::TooManyNumbers => write_most(writer, "numbers", u64::from(plan.size.numbers())),
+        Found::Races { .. } | Found::NoRaces { .. } => writer.null(),
+    }
+}
+
+/// Writes a limit: what it counts, and how many there are at most.
+fn write_most(writer: &mut Writer, counted: &str, most: u64) -> Result<(), AllocError>
+    ensures before { OnOk result (writer.new.before ≡ writer.old.before) }
+    ensures tokens { OnOk result (writer.new.tokens ≡ writer.old.tokens ++ limit_object counted.now most) }
+{
+    writer.begin_object()?;
+    write_text(writer, "of", counted)?;
+    writer.key("most")?;
+    writer.u64(most)?;
+    writer.end_object()
+}
+
+/// Writes a member whose value is the id of a node.
+fn write_id(
+    writer: &mut Writer,
+    alloc: Global,
+    plan: &Plan,
+    name: &str,
+    node: ContextNo,
+) -> Result<(), AllocError>
+    ensures before { OnOk result (writer.new.before ≡ writer.old.before) }
+    ensures tokens { OnOk result
+        (writer.new.tokens ≡ writer.old.tokens ++ id_member (plan_view plan.now) name.now node) }
+{
+    let mut id = String::new(alloc);
+    push_id(&mut id, plan, node)?;
+    write_text(writer, name, id.as_str())
+}
+
+/// Writes a member whose value is a text.
+fn write_text(writer: &mut Writer, name: &str, text: &str) -> Result<(), AllocError>
+    ensures before { OnOk result (writer.new.before ≡ writer.old.before) }
+    ensures tokens { OnOk result (writer.new.tokens ≡ writer.old.tokens ++ text_member name.now text.now) }
+{
+    writer.key(name)?;
+    writer.string(text)
+}
