@@ -87,7 +87,7 @@ def races(cases):
         "compute there, one of them something else": (alike + other, f"{pairs}and more\n"),
         "change one place, one after another": (one_place(65_535, ["put a x up 1"], "same_thread"), one),
         "do so in a class beside others": (one_place(65_534, ["put a x up 1"], "same_thread", 'mode = "concurrent"\n'), one),
-        "compute in a class that removes at its end": (one_place(32_000, ["compute a x up 1"], above=a_class), near),
+        "compute in a class that removes at its end": (one_place(65_534, ["compute a x up 1"], above=a_class), near),
         "put at one place": (one_place(65_535, ["put a x up 1"]), "".join(f"put a of [a:b]/[c:1] and put a of [a:b]/[c:{number}] in [a:b]\n" for number in range(2, 22)) + "and more\n"),
     }
     for name, (plan, wanted) in plans.items():

@@ -8,7 +8,6 @@ use Rattle.std.specs.Str.{bytes_eq}
 use Rattle.std.specs.Cmp.Lexicographic.{bytes_decides}
 use Rattle.std.proofs.lemmas.Bool.{both_ways, cases_Bool, cases_eq, not-true}
 use Rattle.ext_plan.specs.Plans.{PlanText}
-use Rattle.ext_plan.specs.StepWords.{word_eq}
 use Rattle.ext_plan.specs.declared.word.Word.{Word}
 use Rattle.ext_plan.specs.declared.word.Word.TheVariants as words
 use Rattle.ext_races.specs.declared.passing.Passed.{Passed}
@@ -18,7 +17,7 @@ use Rattle.ext_races.specs.declared.touch.Touch.{Touch}
 use Rattle.ext_races.specs.Beside.{nodes_beside}
 use Rattle.ext_races.specs.InnerGroups.{close_group_of, group_at, groups_view}
 use Rattle.ext_races.specs.InnerPassing.{AreNoted}
-use Rattle.ext_races.specs.InnerProving.{AlikeIn, AlikeOf, AreAlike, NoneAlike, SharesIn, TellsOne, TextsIn, TextsOf, alike_beside, compute_alike, fails_else, fails_in, has_alike}
+use Rattle.ext_races.specs.InnerProving.{AlikeIn, AlikeOf, AreAlike, NoneAlike, SharesIn, TellsOne, TextsIn, TextsOf, alike_beside, compute_alike, computes_with, fails_else, fails_in, has_alike}
 use Rattle.ext_races.specs.Proving.{HasTwoTexts}
 use Rattle.ext_races.specs.Races.{race_of}
 use Rattle.ext_races.specs.Touches.{TouchText, touch_view}
@@ -117,7 +116,7 @@ module _ (context : ℕ) (group : List Touch) where
 
 module _ (plan : PlanText) (word : Word) (group : List Touch) where
   -- no touch computes with the word
-  pub none_compute : list_any (λ t. word_eq t.word word) group ≡ false → NoneAlike plan word (map touch_view group)
+  pub none_compute : list_any (λ t. computes_with word (touch_view t)) group ≡ false → NoneAlike plan word (map touch_view group)
   none_compute none = record {
     none = λ t u t_in u_in alike.
         let at = contains-map_back touch_view group t t_in in
@@ -125,8 +124,7 @@ module _ (plan : PlanText) (word : Word) (group : List Touch) where
         let p = both _ _ parts.0 in
         let q = both _ _ p.0 in
         let r = both _ _ q.0 in
-        let s = both t.changes (word_eq t.word word) r.0 in
-        both_ways (list_any (λ t. word_eq t.word word) group) none (any_where (λ t. word_eq t.word word) group at.0 at.1 (ap (λ v. word_eq v.word word) at.2 ∙ s.1));
+        both_ways (list_any (λ t. computes_with word (touch_view t)) group) none (any_where (λ t. computes_with word (touch_view t)) group at.0 at.1 (ap (computes_with word) at.2 ∙ r.0));
   }
 
   module _ (passed : List (Option Passed)) (noted : AreNoted plan passed (map touch_view group)) where
@@ -137,10 +135,9 @@ module _ (plan : PlanText) (word : Word) (group : List Touch) where
         let p = both _ _ parts.0 in
         let q = both _ _ p.0 in
         let r = both _ _ q.0 in
-        let s = both t.changes (word_eq t.word word) r.0 in
         let meet = meets_where plan passed (map touch_view group) noted false t u t_in u_in (λ so. absurd cc) parts.1 in
         let any = any_where (λ v. alike_beside plan word t (touch_view v)) group at.0 at.1 (ap (alike_beside plan word t) at.2 ∙ alike) in
-        both_true _ _ (both_true _ _ s.1 meet) any
+        both_true _ _ (both_true _ _ r.0 meet) any
 
     -- no touch has one
     pub none_alike : find (λ t. has_alike plan word passed group (touch_view t)) group ≡ None → NoneAlike plan word (map touch_view group)

@@ -46,10 +46,13 @@ TextsIn keys contexts groups (Some texts) = (k : ℕ) × HasTwoTexts (group_at g
 
 -- ---- computes that agree
 
+-- The touch computes its place with this word.
+abbrev pub computes_with : Word → TouchText → Bool
+computes_with word t = t.changes && word_eq t.word word
+
 -- The first computes one place with this word, and the second computes the same there or finds it.
 abbrev pub compute_alike : Word → TouchText → TouchText → Bool
-compute_alike word t u =
-    t.changes && word_eq t.word word && (t.context == u.context) && (t.key == u.key) && agree t u
+compute_alike word t u = computes_with word t && (t.context == u.context) && (t.key == u.key) && agree t u
 
 -- So do two nodes that may run beside one another.
 abbrev pub alike_beside : PlanText → Word → TouchText → TouchText → Bool
@@ -57,7 +60,7 @@ alike_beside plan word t u = compute_alike word t u && nodes_beside plan t.node 
 
 -- So does a touch of this group, which may meet others by what is noted.
 abbrev pub has_alike : PlanText → Word → List (Option Passed) → List Touch → TouchText → Bool
-has_alike plan word passed group t = word_eq t.word word && may_meet plan passed false t.node
+has_alike plan word passed group t = computes_with word t && may_meet plan passed false t.node
     && list_any (λ u. alike_beside plan word t (touch_view u)) group
 
 module _ (plan : PlanText) (word : Word) where

@@ -4,10 +4,9 @@ ghost use Rattle.std.specs.List.{list_any};
 ghost use Rattle.ext_model.specs.Sizes.{most_numbers};
 ghost use Rattle.ext_plan.specs.Plans.{plan_view};
 ghost use Rattle.ext_plan.specs.ReadPlans.{ids_of_nodes};
-ghost use Rattle.ext_plan.specs.StepWords.{word_eq};
 ghost use Rattle.ext_races.specs.declared.race.Race.{Race};
 ghost use Rattle.ext_races.specs.InnerGroups.{HasGroups, IsGrouped, close_group_of, group_at, groups_view};
-ghost use Rattle.ext_races.specs.InnerProving.{AlikeIn, AlikeOf, SharesIn, TextsIn, TextsOf, alike_beside, fails_else, fails_in, has_alike};
+ghost use Rattle.ext_races.specs.InnerProving.{AlikeIn, AlikeOf, SharesIn, TextsIn, TextsOf, alike_beside, computes_with, fails_else, fails_in, has_alike};
 ghost use Rattle.ext_races.specs.Proving.{IsProved};
 ghost use Rattle.ext_races.specs.Races.{IsRace};
 ghost use Rattle.ext_races.specs.Touches.{keys_named, numbers_drawn, touch_view, touches_made};
@@ -223,9 +222,9 @@ fn other_alike<'a, 'p>(
 
 /// Tests whether a touch of the group computes with this word.
 fn computes_any(group: &[Touch<'_>], word: Word) -> bool
-    ensures { result ≡ list_any (λ t. word_eq t.word word) group.now }
+    ensures { result ≡ list_any (λ t. computes_with word (touch_view t)) group.now }
 {
-    group.iter().any(|touch| touch.word == word)
+    group.iter().any(|touch| touch.computes_with(word))
 }
 
 /// Tests whether this computes with the word, and a touch of the group computes the same or finds
@@ -241,7 +240,7 @@ fn has_alike(
     requires { tree.now ≡ ids_of_nodes (plan_view plan.now).nodes }
     ensures { result ≡ has_alike (plan_view plan.now) word passed.now group.now (touch_view touch.now) }
 {
-    touch.word == word
+    touch.computes_with(word)
         && may_meet(plan, tree, passed, touch.node, false)
         && any_alike(plan, tree, group, touch, word)
 }
