@@ -220,6 +220,7 @@ def escapes(program):
         (["run", "--store", "plain", "--tree"], PLAN),
         (["run", "--store", "plain", "--report", "text"], PLAN),
         (["run", "--store", "plain", "--tree", "--failures"], PLAN),
+        (["run", "--store", "plain", "--report", "json", "--failures"], PLAN),
         (["check", "--tree"], RACING),
         (["check", "--races"], RACING),
         (["check", "--lint"], RACING),

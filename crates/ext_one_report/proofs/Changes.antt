@@ -1,6 +1,7 @@
 -- Changes on a lane that is alone on the place that they change end as those of a plain run.
-use Rattle.std.proofs.Common.{◌≡◌, ◌≢◌, ℕ, suc, ◌+◌, append-nil, inl, inr, Bool, true, false, List, [], ◌∷◌, ◌++◌, drop, length, refl, ap, sym, subst, ◌∙◌, add-one, Option, None, Some}
+use Rattle.std.proofs.Common.{◌≡◌, ◌≢◌, ◌⊎◌, ℕ, suc, ◌+◌, append-nil, inl, inr, Bool, true, false, List, [], ◌∷◌, ◌++◌, drop, length, refl, ap, sym, subst, ◌∙◌, add-one, Option, None, Some}
 use Rattle.std.specs.Prelude.{Result, Ok, Err, codes}
+use mathlib.Core.List.{IsPrefix}
 use Rattle.ext_history.specs.Histories.{seen_by}
 use Rattle.ext_history.proofs.Composed.{answer_first, same_number, seen_goes_on, seen_is_point}
 use Rattle.ext_model.specs.declared.event.Act.{Act}
@@ -209,6 +210,37 @@ module _ (run : RunView) (places : Places) (view : IsRunView run) (name label : 
             absurd (has_room name label reasons.Exhausted o tt finds (subst (λ r. EndsPut name label r o) is ends))
       ]
 
+  -- what a put leaves: a last event and the same in the plain run, or both as they were
+  abbrev pub PutLeaves : ℕ → Type 0
+  PutLeaves kept =
+      ((p : History) × (seen_by b.cells.view ≡ p ++ by a.cells.view.number (Put (cell_of run number context) kept) ∷ [])
+      × ((act_ends name label (Put (context, place_of_key t.keys key) t.store.drawn) t).state ≡ after_event any_lane (Put (context, place_of_key t.keys key) t.store.drawn) t))
+      ⊎ (Calls a.cells.cells.limits a.cells.view b.cells.view [] × ((act_ends name label (Put (context, place_of_key t.keys key) t.store.drawn) t).state ≡ t))
+
+  pub puts_leave : (kept : ℕ) (result : Result (Option ℕ) (ℕ × Refusal)) → Puts run.store context number kept a.cells b.cells result → EndsPut name label result o → PutLeaves kept
+  unfolding store_core.Puts
+  puts_leave kept result made ends =
+      let cell : ℕ = cell_of run number context in
+      let act' : Act Place = Put (context, place_of_key t.keys key) t.store.drawn in
+      let met = made.replied (put_decided kept result ends) in
+      let p : History = met.point.0 in
+      let here : Matches run places p t = matches_to run places a.cells.view b.cells.view alone p t (answer_first met.calls p met.point.1) matches in
+      let old : Bool = is_worn (version_of p cell) in
+      let result_of : Reply → Result (Option ℕ) (ℕ × Refusal) = λ r. with_kept kept (result_at context r) in
+      elim (put_change run.meaning (plain_meaning t.values) ((state_after p).slots cell) (t.store.slots (context, place_of_key t.keys key)) old (matched_there p here)) [
+        | both_happen m n x y ↦
+            let is : result ≡ Ok m = met.point.2 ∙ ap result_of x in
+            let at = subst (λ r. IsAnswerPoint a.cells.view b.cells.view (put_acts cell kept r) p) is met.point.1 in
+            inl (p, at.1, ap (λ (end : StepEnd). end.state) (end_by name label act' t (Happens n) y))
+        | both_closed x y ↦
+            let is : result ≡ Err (kept, refusal.Closed context) = met.point.2 ∙ ap result_of x in
+            let calls = subst (λ r. Calls a.cells.cells.limits a.cells.view b.cells.view (put_acts cell kept r)) is met.calls in
+            inr (calls, ap (λ (end : StepEnd). end.state) (end_by name label act' t (Refuses events.Closed) y))
+        | worn x ↦
+            let is : result ≡ Err (kept, refusal.Exhausted) = met.point.2 ∙ ap result_of x in
+            absurd (has_room name label reasons.Exhausted o tt finds (subst (λ r. EndsPut name label r o) is ends))
+      ]
+
 -- the events of a put that was not refused because others were in the way
 put_calls : (store : StoreView) (context key number : ℕ) (a b : Lane) (result : Result (Option ℕ) (ℕ × Refusal)) → Puts store context key number a b result → result ≢ Err (number, refusal.Contended)
     → Calls a.cells.limits a.view b.view (put_acts (cell_in store key context) number result)
@@ -284,6 +316,59 @@ module _ (run : RunView) (keys : List KeyText) (path : List ℕ) (places : Place
   put_ends_alike (inr lost) = absurd (not_kept lost.why lost.ends)
   put_ends_alike (inl made) = elim made.stores [
     | inl (number, has, there) ↦ stored made number has there
+    | inr (why, refused_key, (same, ends)) ↦ absurd (key_found name (label_of keys key) o made.between b (key_of_step keys key) why both.finds refused_key ends)
+  ]
+
+  -- what it leaves: the value is kept, and then put at the place of its key or not
+  pub record PutLeft : Type 0 where
+    pub kept : ℕ
+    pub between : PlanLane
+    pub drew : Calls a.cells.cells.limits a.cells.view between.cells.view (Keep kept ∷ [])
+    pub goes : IsPrefix (seen_by between.cells.view) (seen_by b.cells.view)
+    pub number : ℕ
+    pub has : HasNumberIn run (key_of_step keys key) number
+    pub named : IsNamed places (key_of_step keys key) (keep_value v s)
+    pub leaves : ((p : History) × (seen_by b.cells.view ≡ p ++ by between.cells.view.number (Put (cell_of run number (start_of (drop up path))) kept) ∷ [])
+        × (put_end.state ≡ after_event any_lane (Put (start_of (drop up path), place_of_key named.state.keys (key_of_step keys key)) named.state.store.drawn) named.state))
+        ⊎ (Calls between.cells.cells.limits between.cells.view b.cells.view [] × (put_end.state ≡ named.state))
+
+  stored_left : (made : PutsKept run.store (call_of keys path name key up) v a o b) (number : ℕ) → IsKeyNumber b.keys (key_of_step keys key) number
+      → StoresThere run.store (start_of (drop up path)) number name (label_of keys key) made.kept made.between o b → PutLeft
+  stored_left made number has there =
+      let m = made.between in
+      let drew = made.keeps.drawn.calls in
+      let put_so = put_calls run.store (start_of (drop up path)) number made.kept m.cells b.cells there.result there.puts
+      (decided_by there.result there.ends made.kept) in
+      let first : IsAlone run places a.cells.view m.cells.view = alone_first run places a.cells.view m.cells.view b.cells.view (seen_goes_on put_so) both.alone in
+      let later : IsAlone run places m.cells.view b.cells.view = alone_later run places a.cells.view m.cells.view b.cells.view (seen_goes_on drew) (same_number drew) both.alone in
+      let before : Matches run places (seen_by a.cells.view) it.state = it.matches run (seen_by a.cells.view) (values_keep_matches run places (seen_by a.cells.view) v s both.matches) in
+      let between : Matches run places (seen_by m.cells.view) it.state =
+      matches_after run places a.cells.view m.cells.view first (by a.cells.view.number (Keep made.kept) ∷ []) (seen_by m.cells.view) it.state (seen_goes_on drew) ([], append-nil (seen_by m.cells.view)) drew.own_events
+      (record { quiet = λ context other n here is. refl }) before in
+      let has_in : HasNumberIn run (key_of_step keys key) number = number_stays b.keys run.numbering (key_of_step keys key) number both.lane.keys has in
+      let end_is : put_end.state ≡ (act_ends name (label_of keys key) (Put (start_of (drop up path), place_of_key it.state.keys (key_of_step keys key)) it.state.store.drawn) it.state).state = ap (λ (end : StepEnd). end.state) goes in
+      record {
+        kept = made.kept;
+        between = m;
+        drew = drew;
+        goes = seen_goes_on put_so;
+        number = number;
+        has = has_in;
+        named = it;
+        leaves = elim (puts_leave run places both.view name (label_of keys key) (start_of (drop up path)) (key_of_step keys key) number m b o it.state within has_in it.there later both.finds between it.numbered
+            made.kept there.result there.puts there.ends) [
+              | inl event ↦ inl (event.0, event.1, end_is ∙ event.2)
+              | inr none ↦ inr (none.0, end_is ∙ none.1)
+            ];
+      }
+    where
+      decided_by : (result : Result (Option ℕ) (ℕ × Refusal)) → EndsPut name (label_of keys key) result o → (kept : ℕ) → result ≢ Err (kept, refusal.Contended)
+      decided_by result ends kept is = subst (λ r. EndsPut name (label_of keys key) r o) is ends
+
+  pub put_left : StepPuts run.store (call_of keys path name key up) v a o b → PutLeft
+  put_left (inr lost) = absurd (not_kept lost.why lost.ends)
+  put_left (inl made) = elim made.stores [
+    | inl (number, has, there) ↦ stored_left made number has there
     | inr (why, refused_key, (same, ends)) ↦ absurd (key_found name (label_of keys key) o made.between b (key_of_step keys key) why both.finds refused_key ends)
   ]
 

@@ -6,6 +6,7 @@ use Rattle.std.proofs.lemmas.List.Elements.{All-contains, All-head}
 use Rattle.std.proofs.lemmas.List.Sorted.{IsPermutation-map, IsPermutation-sym}
 use Rattle.ext_history.specs.Histories.{seen_by}
 use Rattle.ext_model.specs.declared.look.Fault.{Fault}
+use Rattle.ext_model.specs.Closed.{first_of}
 use Rattle.ext_model.specs.Closing.{remaining}
 use Rattle.ext_model.specs.History.{History, slots_in, IsLegal}
 use Rattle.ext_model.specs.Plain.{Place}
@@ -34,7 +35,7 @@ use Rattle.ext_one_report.proofs.Rooms.{GaveFew}
 use Rattle.ext_one_report.proofs.StandingsWords.{AreMatched}
 use Rattle.ext_one_report.proofs.StepsWords.{IsLaneIn}
 use Rattle.ext_one_report.proofs.CallLists.{told_alike}
-use Rattle.ext_one_report.proofs.OfPlan.{IsOfPlan}
+use Rattle.ext_one_report.proofs.OfPlan.{IsOfPlan, plan_leaves}
 use Rattle.ext_one_report.specs.Shares.{Open}
 use Rattle.ext_one_report.proofs.Closes.{ClosesEndLevel, IsClosedAlone, SealsCells, SealsPlaces}
 use Rattle.ext_one_report.proofs.FullRuns.{setting_in}
@@ -45,10 +46,12 @@ use Rattle.ext_one_report.proofs.CloseFaults.{closeable, closeables_are, closes_
 use Rattle.ext_one_report.proofs.CloseLists.{there_of}
 use Rattle.ext_one_report.proofs.ClosePlain.{plain_seals_places}
 use Rattle.ext_one_report.proofs.CloseResults.{results_tell_no_order}
-use Rattle.ext_one_report.proofs.CloseSame.{same_remaining}
-use Rattle.ext_one_report.proofs.Matching.{number_within}
+use Rattle.ext_one_report.proofs.CloseSame.{same_first, same_remaining}
+use Rattle.ext_one_report.proofs.Matching.{matches_at_fewer, number_within, numbered_at_fewer}
 use Rattle.ext_one_report.proofs.StoreCells.{cell_apart}
-use Rattle.ext_one_report.proofs.OfPlanEnds.{ends_tell_one, seals_of}
+use Rattle.ext_one_report.proofs.OfPlanEnds.{seals_of}
+use Rattle.ext_one_report.proofs.Orders.{AreInOrder, Orders}
+use Rattle.ext_one_report.proofs.OrdersBounds.{orders_kept}
 
 both_true : (a b : Bool) → a && b ≡ true → (a ≡ true) × (b ≡ true)
 both_true true b is = (refl, is)
@@ -173,6 +176,20 @@ module _ (plan : PlanText) (run : RunView) (locks : LocksView) (h : History) (to
           subst (λ l. IsPermutation l (faults_of_closes s.places node (seal_keys s.places node s))) (sym lanes_told)
           (subst (λ l. IsPermutation (map close_fault a) l) (sym plain_told) (IsPermutation-map close_fault a b same_values))
 
+      -- and the first that fails tells the same
+      same_told : AreInOrder run node (seen_by lane.cells.view) s → (text other : List ℕ) → first_of (map (option_map fault_text) faults) ≡ Some text
+          → first_of (faults_of_closes s.places node (seal_keys s.places node s)) ≡ Some other → text ≡ other
+      same_told ordered text other first second =
+          let lanes = lanes_seal in
+          let in_tree : node < length run.store.tree = subst (λ (n : ℕ). node < n) (sym (ap length close.basis.tree ∙ length-map plan.nodes (λ (n : NodeText). n.id))) close.inside in
+          same_first run close.basis.view node in_tree (seen_by lane.cells.view) (first_seen after) s (seal_keys s.places node s) (keys_named plan) (most_numbers plan.size)
+          (λ key number has. level.matches.slots node key number (close.all key) has) (λ key number has free. lanes.sealed key number has free)
+          (λ key none. level.matches.unnumbered node key (close.all key) none) (plain_seals_places node s) level.gave
+          (λ number past. level.numbered.beyond node some_key number (close.all some_key) past) seen_in
+          (λ i j number a b. ap (λ (p : Place). p.1) (level.of_plan.once (node, i) (node, j) number a b)) ordered text other
+          (ap (λ l. first_of (map close_fault (there_of (λ number. closeable (run.meaning.values number)) l))) seen_left ∙ (ap first_of (sym lanes_told) ∙ first))
+          (ap first_of (sym plain_told) ∙ second)
+
   -- ---- the end of a node
 
   -- at the places in other contexts the same stands after it
@@ -222,16 +239,27 @@ module _ (plan : PlanText) (run : RunView) (locks : LocksView) (h : History) (to
       of_plan = of_plan;
     }
 
+  -- and numbers stay in their order at the places in other contexts
+  pub close_orders : (node : ℕ) (places : Places) (lane : PlanLane) (rest : List PlanLane) (faults : List (Option Fault)) (after : List PlanLane) → IsClosedAlone plan run locks h touched changes changed shares node places lane rest faults after
+      → (s : ValueState) → AreLevel plan run places (first_seen (lane ∷ rest)) s → Orders run (besides node places) (first_seen (lane ∷ rest)) (first_seen after) s (seal_keys s.places node s)
+  close_orders node places lane rest faults after close s level =
+      let lanes = lanes_seal node places lane rest faults after close in
+      orders_kept run (besides node places) (seen_by lane.cells.view) (first_seen after) s (seal_keys s.places node s)
+      (matches_at_fewer run places (besides node places) (seen_by lane.cells.view) s (λ context key is. (both_true (places context key) (not (context == node)) is).0) level.matches)
+      (numbered_at_fewer places (besides node places) s (λ context key is. (both_true (places context key) (not (context == node)) is).0) level.numbered)
+      (λ context key number is has. let both = both_true (places context key) (not (context == node)) is in lanes.others context number key (not_one context node both.1) both.0 has)
+      (λ context key is. let both = both_true (places context key) (not (context == node)) is in sealed_slot node s (seal_keys s.places node s) (plain_seals_places node s) context key (not_one context node both.1))
+
   pub closes_end_level : ClosesEndLevel plan run locks h touched changes changed shares
-  closes_end_level node is_test places lane rest outcomes faults after end close level alike =
+  closes_end_level node is_test places lane rest outcomes faults after end close level ordered alike =
       let s = end.state in
       let t = seal_keys s.places node s in
       let lanes = lanes_seal node places lane rest faults after close in
       let texts = same_texts node places lane rest faults after close s level in
       let plain = faults_of_closes s.places node t in
       record {
-        level = level_besides node places (seen_by lane.cells.view) (first_seen after) s t (plain_seals_places node s) lanes level (seals_of plan s.places node s level.of_plan);
+        level = level_besides node places (seen_by lane.cells.view) (first_seen after) s t (plain_seals_places node s) lanes level (seals_of (plan_leaves plan) s.places node s level.of_plan);
         told = told_alike run places node is_test outcomes lane end faults alike
             ∙ sym (results_tell_no_order node is_test end.calls end.computed end.found plain (map (option_map fault_text) faults)
-            (IsPermutation-sym (map (option_map fault_text) faults) plain texts) (ends_tell_one plan node s close.basis.closes level.of_plan));
+            (IsPermutation-sym (map (option_map fault_text) faults) plain texts) (λ a b first second. sym (same_told node places lane rest faults after close s level ordered b a second first)));
       }

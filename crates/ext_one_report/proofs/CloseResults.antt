@@ -1,4 +1,4 @@
--- The result of a node does not tell in which order the closes of its context came, where all that fail have one text.
+-- The result of a node does not tell in which order the closes of its context came, but for the first that fails.
 use Rattle.std.proofs.Common.{◌≡◌, ℕ, inl, inr, Bool, List, [], ◌∷◌, ◌++◌, map, Contains, Option, None, Some, refl, ap, sym, subst, ◌∙◌}
 use Rattle.std.specs.Prelude.{IsPermutation, cond, is_some, not}
 use Rattle.std.proofs.lemmas.List.Sorted.{Contains-permutation, IsPermutation-sym, IsPermutation-append_right, IsPermutation-map, length_permutation, sum_by-IsPermutation}
@@ -49,7 +49,8 @@ module _ {F : Type 0} where
   ]
   none_failed (Some other ∷ closes) fault there none = absurd (cc none)
 
-  first_by : (closes others : List (Option F)) → ((one other : F) → Contains closes (Some one) → Contains closes (Some other) → one ≡ other) → IsPermutation closes others
+  -- where the first is the same if there is one in both, it is the same
+  first_by : (closes others : List (Option F)) → ((one other : F) → first_of closes ≡ Some one → first_of others ≡ Some other → one ≡ other) → IsPermutation closes others
       → (a b : Option F) → first_of closes ≡ a → first_of others ≡ b → a ≡ b
   first_by closes others one moved None None first second = refl
   first_by closes others one moved None (Some b) first second =
@@ -57,12 +58,12 @@ module _ {F : Type 0} where
   first_by closes others one moved (Some a) None first second =
       absurd (none_failed others a (Contains-permutation closes others (Some a) moved (first_among closes a first)) second)
   first_by closes others one moved (Some a) (Some b) first second =
-      ap Some (one a b (first_among closes a first) (Contains-permutation others closes (Some b) (IsPermutation-sym closes others moved) (first_among others b second)))
+      ap Some (one a b first second)
 
   -- ---- results
 
   module _ (node : ℕ) (is_test : Bool) (calls : List (Ending F)) (computed found : ℕ) (closes others : List (Option F)) (moved : IsPermutation closes others)
-      (one : (a b : F) → Contains closes (Some a) → Contains closes (Some b) → a ≡ b) where
+      (one : (a b : F) → first_of closes ≡ Some a → first_of others ≡ Some b → a ≡ b) where
     fault_is : first_fault (calls ++ map close_ending closes) ≡ first_fault (calls ++ map close_ending others)
     fault_is =
         let same : first_of closes ≡ first_of others = first_by closes others one moved (first_of closes) (first_of others) refl refl in

@@ -1,12 +1,15 @@
 -- What the seals of a context keep is the same in a run on several lanes and in the plain run, where the same stood there.
-use Rattle.std.proofs.Common.{◌≡◌, ◌≢◌, ◌<◌, ◌≤◌, ◌⊎◌, ◌+◌, ◌*◌, ℕ, zero, suc, true, inl, inr, List, [], ◌∷◌, length, Option, None, Some, refl, ap, sym, subst, ◌∙◌, arith}
+use Rattle.std.proofs.Common.{◌≡◌, ◌≢◌, ◌<◌, ◌≤◌, ◌⊎◌, ◌+◌, ◌*◌, ℕ, zero, suc, true, true≢false, inl, inr, List, [], ◌∷◌, length, map, bytes_eq, Contains, Option, None, Some, refl, ap, sym, subst, ◌∙◌, arith}
 use Rattle.std.specs.Prelude.{IsPermutation}
 use Rattle.std.proofs.lemmas.Bool.{cases_lt, cases_order}
 use Rattle.std.proofs.lemmas.List.Sorted.{IsPermutation-sym, IsPermutation-trans}
+use Rattle.std.proofs.lemmas.Slice.Eq.{bytes_eq-Decides}
 use Rattle.ext_history.proofs.Lists.{bools}
 use Rattle.ext_model.specs.declared.slot.Slot.{Slot}
 use Rattle.ext_model.specs.declared.slot.Slot.TheVariants as slot
+use Rattle.ext_model.specs.Closed.{first_of}
 use Rattle.ext_model.specs.Closing.{kept_by, remaining}
+use Rattle.ext_model.proofs.Remaining.{kept_remains, remaining_falls, remaining_kept}
 use Rattle.ext_model.specs.History.{History, slots_in}
 use Rattle.ext_tree.specs.Keys.{HasNumber, HoldsOther, KeyValue, KnownPlace, PassedBefore, key_at}
 use Rattle.ext_tree.specs.Traits.{key_eq}
@@ -14,7 +17,8 @@ use Rattle.ext_tree.proofs.Equalities.{keys_Decides}
 use Rattle.ext_tree.proofs.KeyPlacing.{key_within, one_key, one_number}
 use Rattle.ext_tree.proofs.Numbers.{contains_at, one_place}
 use Rattle.ext_plan.specs.StoreKeys.{is_there, place_of_key}
-use Rattle.ext_plan.specs.Values.{ValueText}
+use Rattle.ext_plan.specs.StepTexts.{close_text}
+use Rattle.ext_plan.specs.Values.{ValueText, close_fault}
 use Rattle.ext_plan.proofs.KeyLists.{has_place, place_within}
 use Rattle.ext_plain.specs.ValueStates.{ValueState, value_of}
 use Rattle.ext_plain.proofs.Numberings.{there_by}
@@ -26,7 +30,10 @@ use Rattle.ext_one_report.proofs.Matching.{number_within, plain_none, plain_ther
 use Rattle.ext_one_report.proofs.Standings.{Holds, holds}
 use Rattle.ext_one_report.proofs.Closes.{SealsPlaces, seal_of}
 use Rattle.ext_one_report.proofs.Levels.{HoldsOnce}
+use Rattle.ext_one_report.proofs.OfPlan.{value_in}
+use Rattle.ext_one_report.proofs.Orders.{AreInOrder, StandWith}
 use Rattle.ext_one_report.proofs.CloseFaults.{closeable}
+use Rattle.ext_one_report.proofs.CloseFirst.{closeable_is, fault_is, first_bad}
 use Rattle.ext_one_report.proofs.CloseLists.{ArePaired, gather, kept_value, paired, remaining_there, there_of}
 
 -- ---- one place
@@ -69,6 +76,23 @@ kept_stood (Some (slot.Entry n)) number is = cc is
 kept_stood (Some (slot.Fault n)) number is = absurd (cc is)
 kept_stood (Some (slot.Claim lane)) number is = absurd (cc is)
 kept_stood (Some (slot.Sealed kept)) number is = cc is
+
+-- so it is with the number of a value
+value_stood : (x : Option Slot) (number : ℕ) → seal_of x ≡ Some (slot.Sealed (Some number)) → value_in x ≡ Some number
+value_stood None number is = absurd (cc is)
+value_stood (Some (slot.Entry n)) number is = cc is
+value_stood (Some (slot.Fault n)) number is = absurd (cc is)
+value_stood (Some (slot.Claim lane)) number is = absurd (cc is)
+value_stood (Some (slot.Sealed kept)) number is = cc is
+
+-- where a seal keeps a closeable value it keeps its number
+kept_place : (values : ℕ → Option ValueText) (x : Option Slot) (v : ValueText) → kept_in values x ≡ Some v → (number : ℕ) × (x ≡ Some (slot.Sealed (Some number))) × (closeable (values number) ≡ Some v)
+kept_place values None v is = absurd (cc is)
+kept_place values (Some (slot.Entry number)) v is = absurd (cc is)
+kept_place values (Some (slot.Fault number)) v is = absurd (cc is)
+kept_place values (Some (slot.Claim lane)) v is = absurd (cc is)
+kept_place values (Some (slot.Sealed None)) v is = absurd (cc is)
+kept_place values (Some (slot.Sealed (Some number))) v is = (number, refl, is)
 
 -- a place whose seal keeps something has a number
 has_kept : (values : ℕ → Option ValueText) (x : Option Slot) (v : ValueText) → kept_in values x ≡ Some v → (number : ℕ) × (number_in x ≡ Some number)
@@ -272,3 +296,81 @@ module _ (run : RunView) (view : IsRunView run) (node : ℕ) (inside : node < le
       IsPermutation-trans _ (gather f count) _ (remaining_there v cells count cells_once)
       (IsPermutation-trans _ (gather g' s.places) _ (paired OneKeys one_second one_first count s.places f g' pairs)
       (IsPermutation-sym (there_of w (remaining places s.places)) (gather g' s.places) (remaining_there w places s.places places_once)))
+
+  -- ---- the first of them whose close fails
+
+  -- the same value on the lanes, under this number, and in the plain run, under this
+  record AreTwins (a b : ℕ) (v : ValueText) : Type 0 where
+    key : KeyValue
+    stands : StandWith run node key h s a b
+    ours : closeable (run.meaning.values a) ≡ Some v
+    theirs : closeable (value_of s.values b) ≡ Some v
+
+  twins : (a b : ℕ) (v : ValueText) (i n : ℕ) → i < s.places → OneKeys i n → cells n ≡ Some (slot.Sealed (Some a)) → places i ≡ Some (slot.Sealed (Some b)) → closeable (run.meaning.values a) ≡ Some v
+      → closeable (value_of s.values b) ≡ Some v → AreTwins a b v
+  twins a b v i n less one here there ours theirs =
+      let key = one.0 in
+      let x = slots_in (cell_of run n) h node in
+      let sealed_is : cells n ≡ seal_of x = lanes key n one.2 (no_claim run.meaning (plain_meaning s.values) x (plain_slot s node key) (matches key n one.2)) in
+      record {
+        key = key;
+        stands = record {
+          number = n;
+          has = one.2;
+          lanes = value_stood x a (sym sealed_is ∙ here);
+          plain = ap value_in (plain_there_is key i one.1) ∙ value_stood (s.store.slots (node, i)) b (sym (plain.sealed i less) ∙ there);
+        };
+        ours = ours;
+        theirs = theirs;
+      }
+
+  -- each that remains on the lanes has a twin in the plain run,
+  lanes_twin : (a : ℕ) (v : ValueText) → Contains (remaining cells count) a → closeable (run.meaning.values a) ≡ Some v → (b : ℕ) × Contains (remaining places s.places) b × AreTwins a b v
+  lanes_twin a v there is =
+      let kept = remaining_kept cells count a there in
+      let ours : kept_in run.meaning.values (cells kept.0) ≡ Some v = ap (kept_in run.meaning.values) kept.2 ∙ is in
+      let at = from_number kept.0 v kept.1 ours in
+      let theirs : kept_in (λ number. value_of s.values number) (places at.0) ≡ Some v = sym (same_seals at.0 kept.0 at.1 at.2) ∙ ours in
+      let twin = kept_place (λ number. value_of s.values number) (places at.0) v theirs in
+      (twin.0, kept_remains places s.places twin.0 at.0 at.1 twin.1, twins a twin.0 v at.0 kept.0 at.1 at.2 kept.2 twin.1 is twin.2)
+
+  -- and the other way round
+  plain_twin : (b : ℕ) (v : ValueText) → Contains (remaining places s.places) b → closeable (value_of s.values b) ≡ Some v → (a : ℕ) × Contains (remaining cells count) a × AreTwins a b v
+  plain_twin b v there is =
+      let kept = remaining_kept places s.places b there in
+      let theirs : kept_in (λ number. value_of s.values number) (places kept.0) ≡ Some v = ap (kept_in (λ number. value_of s.values number)) kept.2 ∙ is in
+      let at = to_number kept.0 v kept.1 theirs in
+      let ours : kept_in run.meaning.values (cells at.0) ≡ Some v = same_seals kept.0 at.0 kept.1 at.2 ∙ theirs in
+      let twin = kept_place run.meaning.values (cells at.0) v ours in
+      (twin.0, kept_remains cells count twin.0 at.0 at.1 twin.1, twins twin.0 b v kept.0 at.0 kept.1 at.2 twin.1 kept.2 twin.2 is)
+
+  -- so where they are in order, the first close that fails tells one text in both
+  pub same_first : AreInOrder run node h s → (text other : List ℕ) → first_of (map close_fault (there_of (λ number. closeable (run.meaning.values number)) (remaining cells count))) ≡ Some text
+      → first_of (map close_fault (there_of (λ number. closeable (value_of s.values number)) (remaining places s.places))) ≡ Some other → text ≡ other
+  same_first ordered text other first second =
+      let a = first_bad (λ number. closeable (run.meaning.values number)) (remaining cells count) text (remaining_falls cells count) first in
+      let b = first_bad (λ number. closeable (value_of s.values number)) (remaining places s.places) other (remaining_falls places s.places) second in
+      let at = lanes_twin a.number a.value a.there a.is in
+      let to = plain_twin b.number b.value b.there b.is in
+      let told = fault_is a.value text a.fails in
+      let also = fault_is b.value other b.fails in
+      elim (bools (bytes_eq a.value.text b.value.text)) [
+        | inl same ↦ sym told.1 ∙ (ap close_text ((bytes_eq-Decides a.value.text b.value.text).0 same) ∙ also.1)
+        | inr differ ↦
+            let ours = closeable_is (run.meaning.values a.number) a.value a.is in
+            let theirs = closeable_is (run.meaning.values to.0) b.value to.2.ours in
+            let apart : b.value.text ≢ a.value.text = λ e. true≢false (sym ((bytes_eq-Decides a.value.text b.value.text).1 (sym e)) ∙ differ) in
+            let low = a.greatest to.0 b.value other to.1 to.2.ours b.fails in
+            let high = b.greatest at.0 a.value text at.1 at.2.theirs a.fails in
+            elim (cases_order to.0 a.number) [
+              | inl same ↦
+                  let both : Some b.value ≡ Some a.value = sym theirs.0 ∙ (ap run.meaning.values same ∙ ours.0) in
+                  let one : b.value ≡ a.value = cc both in
+                  absurd (apart (ap (λ (v : ValueText). v.text) one))
+              | inr (inl less) ↦
+                  let later = ordered.order to.2.key at.2.key to.0 b.number a.number at.0 b.value a.value to.2.stands at.2.stands theirs.0 ours.0
+                  (record { closes = theirs.1; bad = also.0 }) (record { closes = ours.1; bad = told.0 }) apart less in
+                  absurd (omega (arith, later, high))
+              | inr (inr more) ↦ absurd (omega (arith, low, more))
+            ]
+      ]

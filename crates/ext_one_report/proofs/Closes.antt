@@ -24,6 +24,7 @@ use Rattle.ext_one_report.proofs.MatchingWords.{HasNumberIn, Places, RunView, ce
 use Rattle.ext_one_report.proofs.StepsWords.{IsLaneIn}
 use Rattle.ext_one_report.specs.Shares.{Open}
 use Rattle.ext_one_report.proofs.FullRuns.{setting_in}
+use Rattle.ext_one_report.proofs.Orders.{AreInOrder}
 use Rattle.ext_one_report.proofs.Levels.{AreLevel, besides}
 use Rattle.ext_one_report.proofs.SharedNodesWords.{AreOwn, IsSharedBasis}
 
@@ -79,9 +80,10 @@ module _ (plan : PlanText) (run : RunView) (locks : LocksView) (h : History) (to
     pub own : AreOwn run h places (lane ∷ rest) after
     pub all : (key : KeyValue) → places node key ≡ true
 
-  -- and where the node's calls ended alike, so does the node
+  -- and where the node's calls ended alike, and the values that are closed are in one order, so does the node
   abbrev pub ClosesEndLevel : Type 0
   ClosesEndLevel =
       (node : ℕ) (is_test : Bool) (places : Places) (lane : PlanLane) (rest : List PlanLane) (outcomes : List Outcome) (faults : List (Option Fault)) (after : List PlanLane) (end : CallsEnd)
-      → IsClosedAlone node places lane rest faults after → AreLevel plan run places (first_seen (lane ∷ rest)) end.state → CallsAlike run places outcomes lane end
+      → IsClosedAlone node places lane rest faults after → AreLevel plan run places (first_seen (lane ∷ rest)) end.state → AreInOrder run node (first_seen (lane ∷ rest)) end.state
+      → CallsAlike run places outcomes lane end
       → ClosesLevel plan run node places is_test outcomes faults (first_seen after) end

@@ -318,6 +318,7 @@ plans_are_covered plan read = record {
   steps = λ node path call step key up is among there changed.
       changed_by_touch plan node (start_of (drop up path)) (key_of_step plan.keys key) (step_changes plan read node call path is among step key up there changed);
   own = λ node key less. changed_own plan node node key (record { below = within_itself plan read node less; less = less });
+  own_below = λ node context key less below. changed_own plan node context key (record { below = below; less = less });
   touches = λ node context key changed. changed_touched plan node context key changed;
   within = λ node context key touched. elim (touched_cases plan node context key touched) [ inl own ↦ own.less | inr one ↦ touched_near plan read node context key false one ];
   touched_above = λ parent child context key is touched. elim (touched_cases plan child context key touched) [

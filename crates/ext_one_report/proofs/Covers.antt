@@ -29,6 +29,8 @@ module _ (plan : PlanText) (touched changes : ℕ → Places) where
         → Contains (steps_of_call plan call) step → changed_by step ≡ Some (key, up) → changes node (start_of (drop up path)) (key_of_step plan.keys key) ≡ true
     -- and all places of its own context, which is closed at its end
     pub own : (node : ℕ) (key : KeyValue) → node < length plan.nodes → changes node node key ≡ true
+    -- and of those of nodes below it
+    pub own_below : (node context : ℕ) (key : KeyValue) → context < length plan.nodes → is_within plan node context ≡ true → changes node context key ≡ true
     -- what it changes it touches
     pub touches : (node context : ℕ) (key : KeyValue) → changes node context key ≡ true → touched node context key ≡ true
     -- all that it touches is in contexts of the plan

@@ -163,11 +163,11 @@ stands_still : (node : ℕ) (path : List ℕ) → stands_on node true path ≡ t
 stands_still node [] = refl
 stands_still node (first ∷ path) = stands_still node path
 
-stands_also : (node : ℕ) (found : Bool) (path : List ℕ) → stands_on node false path ≡ true → stands_on node found path ≡ true
+pub stands_also : (node : ℕ) (found : Bool) (path : List ℕ) → stands_on node false path ≡ true → stands_on node found path ≡ true
 stands_also node true path stands = stands_still node path
 stands_also node false path stands = stands
 
-stands_first : (node : ℕ) (above : List ℕ) → stands_on node false (node ∷ above) ≡ true
+pub stands_first : (node : ℕ) (above : List ℕ) → stands_on node false (node ∷ above) ≡ true
 stands_first node above = ap (λ b. stands_on node b above) (eq-eqb node node refl) ∙ stands_still node above
 
 -- the node is at or below the root of a part of the tree, which changes what it changes

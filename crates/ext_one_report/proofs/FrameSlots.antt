@@ -132,7 +132,7 @@ more_drawn (Fail at number) drawn = omega arith
 more_drawn (Abandon at) drawn = omega arith
 more_drawn (Seal at) drawn = omega arith
 
-reply_drawn : (r : Reply) (s : State Place) (act : Act Place) → s.drawn ≤ (state_by r s (record { lane = any_lane; act = act })).drawn
+pub reply_drawn : (r : Reply) (s : State Place) (act : Act Place) → s.drawn ≤ (state_by r s (record { lane = any_lane; act = act })).drawn
 reply_drawn (Happens answer) s act = more_drawn act s.drawn
 reply_drawn (Answers answer) s act = omega arith
 reply_drawn (Refuses why) s act = omega arith

@@ -74,14 +74,14 @@ module _ (place : Place) (s : ValueState) where
   claim_acts name label factory t acts each =
       or_so (ActsAt place s) name label (why_refused (Claim place) t) t (factory (after_act (Claim place) t)) acts (each (after_act (Claim place) t) (acts_more place (Claim place) s t refl acts))
 
-  compute_acts : (name label : List ℕ) (value : ValueText) (t : ValueState) (found : Look) → ActsAt place s t → ActsAt place s (compute_looked name label place value t found).state
+  pub compute_acts : (name label : List ℕ) (value : ValueText) (t : ValueState) (found : Look) → ActsAt place s t → ActsAt place s (compute_looked name label place value t found).state
   compute_acts name label value t (look.Found at number) acts = acts
   compute_acts name label value t (look.Fault at number) acts = acts
   compute_acts name label value t look.Absent acts = claim_acts name label (factory_gave name label place value) t acts (gave_acts name label value)
   compute_acts name label value t (look.Busy at) acts = acts
   compute_acts name label value t (look.Closed at) acts = acts
 
-  fail_acts : (name label text : List ℕ) (t : ValueState) (found : Look) → ActsAt place s t → ActsAt place s (computefail_looked name label place text t found).state
+  pub fail_acts : (name label text : List ℕ) (t : ValueState) (found : Look) → ActsAt place s t → ActsAt place s (computefail_looked name label place text t found).state
   fail_acts name label text t (look.Found at number) acts = acts
   fail_acts name label text t (look.Fault at number) acts = acts
   fail_acts name label text t look.Absent acts = claim_acts name label (factory_failed name label place text) t acts (failed_acts name label text)

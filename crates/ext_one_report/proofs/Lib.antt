@@ -16,6 +16,7 @@ pub mod Claimed
 pub mod CloseCells
 pub mod CloseEnds
 pub mod CloseFaults
+pub mod CloseFirst
 pub mod CloseLists
 pub mod ClosePlain
 pub mod CloseResults
@@ -93,6 +94,14 @@ pub mod OpenSingles
 pub mod OpenStep
 pub mod OpenSteps
 pub mod OpenTests
+pub mod Orders
+pub mod OrdersBounds
+pub mod OrdersHistory
+pub mod OrdersLaws
+pub mod OrdersMatched
+pub mod OrdersPlain
+pub mod OrdersSteps
+pub mod OrdersTries
 pub mod OwnCell
 pub mod OwnEvents
 pub mod Parts
@@ -112,7 +121,10 @@ pub mod SharedEventsActs
 pub mod SharedEventsFrozen
 pub mod SharedEventsSeen
 pub mod SharedEventsWords
+pub mod SharedFails
 pub mod SharedFound
+pub mod SharedFresh
+pub mod SharedFreshCalls
 pub mod SharedNodes
 pub mod SharedNodesBasis
 pub mod SharedNodesBegins
@@ -125,6 +137,7 @@ pub mod SharedNodesDealt
 pub mod SharedNodesEnds
 pub mod SharedNodesFills
 pub mod SharedNodesGone
+pub mod SharedNodesOrders
 pub mod SharedNodesPasses
 pub mod SharedNodesPlaces
 pub mod SharedNodesRuns

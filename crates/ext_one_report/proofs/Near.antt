@@ -165,6 +165,7 @@ module _ (plan : PlanText) (lanes : ℕ) (results : List (ResultOf Fault)) (read
         };
         closed = none_above;
         results = length_skipped 0 plan.nodes;
+        fresh = λ context inside within. record { clear = λ number past. refl; none = λ key. refl };
       }
     where
       -- no node is above the root

@@ -10,8 +10,10 @@ use Rattle.ext_plan.proofs.KeyLists.{place_last, not_contained}
 use Rattle.ext_plain.specs.ValueStates.{ValueState, enough, with_number}
 use Rattle.ext_plain.specs.StepRuns.{StepEnd, number_by, numbered_by}
 use Rattle.ext_plain.proofs.Numberings.{is_known, is_next, there_then}
-use Rattle.ext_one_report.proofs.MatchingWords.{RunView, Places, Matches, IsNumbered}
+use Rattle.ext_one_report.proofs.MatchingWords.{RunView, Places, Matches, IsNumbered, plain_slot}
+use Rattle.ext_one_report.proofs.FrameSlots.{leaves_named}
 use Rattle.ext_one_report.proofs.Matching.{keys_keep_matches, keys_keep_numbered}
+use Rattle.ext_one_report.proofs.PlainFrames.{IsOpen, no_context}
 
 -- The state in which the key has its number, and what of the state before is so of it at these places
 pub record IsNamed (places : Places) (key : KeyValue) (s : ValueState) : Type 0 where
@@ -24,6 +26,7 @@ pub record IsNamed (places : Places) (key : KeyValue) (s : ValueState) : Type 0 
   pub numbers : state.numbers ≡ s.numbers
   pub values : state.values ≡ s.values
   pub faults : state.keep_faults ≡ s.keep_faults
+  pub slots : (context : ℕ) (other : KeyValue) → IsOpen context s → plain_slot state context other ≡ plain_slot s context other
 
 less_is : (a b : ℕ) → a < b → nat_lt a b ≡ true
 less_is a b less = grind (arith, nat_tests)
@@ -41,6 +44,7 @@ named places key s room numbered =
         numbers = refl;
         values = refl;
         faults = refl;
+        slots = λ context other clear. refl;
       }
       | inr none ↦ record {
         state = with_number key s;
@@ -54,5 +58,6 @@ named places key s room numbered =
         numbers = refl;
         values = refl;
         faults = refl;
+        slots = λ context other clear. (leaves_named (λ c k. false) no_context key s none).slots context other refl refl clear;
       }
     ]

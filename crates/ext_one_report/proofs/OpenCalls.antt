@@ -1,6 +1,6 @@
 -- The steps of a call, the calls of a node and all calls of a test, where some of them compute values at open places: on a lane, and in a plain run.
 -- JUnit 5 User Guide, "Relative Execution Order of User Code and Extensions"; Javadoc `ExtensionContext.Store`, `getOrComputeIfAbsent`.
-use Rattle.std.specs.Prelude.{ℕ, ◌≡◌, ◌≢◌, ◌+◌, ◌⊎◌, ◌++◌, true, false, nat_eq, List, [], ◌∷◌, All, Contains, Some, length, map, drop}
+use Rattle.std.specs.Prelude.{ℕ, ◌≡◌, ◌≢◌, ◌≤◌, ◌+◌, ◌⊎◌, ◌++◌, true, false, nat_eq, List, [], ◌∷◌, All, Contains, Some, length, map, drop}
 use Rattle.std.specs.List.{flat_map}
 use Rattle.ext_history.specs.Histories.{seen_by}
 use Rattle.ext_model.specs.declared.event.Event.{Event}
@@ -28,6 +28,7 @@ use Rattle.ext_one_report.proofs.CallListsWords.{BeforesHaveRoom, CallsFind, Cal
 use Rattle.ext_one_report.proofs.CallsWords.{StepWithin}
 use Rattle.ext_one_report.proofs.MatchingWords.{HasNumberIn, IsNumbered, Matches, Places, RunView, cell_of, plain_slot}
 use Rattle.ext_one_report.proofs.TestCallsWords.{MakesTest, TestFinds, TestHasRoom, afters_round, befores_round, plain_test}
+use Rattle.ext_one_report.proofs.Orders.{Orders}
 use Rattle.ext_one_report.proofs.Fills.{Fills, IsFilledBy}
 use Rattle.ext_one_report.proofs.Open.{AreNear, ComputesOpen, also, place_of_step, still_open}
 use Rattle.ext_one_report.specs.Shares.{Open}
@@ -87,6 +88,9 @@ pub record LeavesNear (run : RunView) (places : Places) (open_at : Open) (before
   pub unchanged : (context : ℕ) (key : KeyValue) (v : ValueText) → settled context key ≡ false → open_at context key ≡ Some v → plain_slot t context key ≡ plain_slot s context key
   pub untouched : (context : ℕ) (key : KeyValue) (number : ℕ) (v : ValueText) → settled context key ≡ false → open_at context key ≡ Some v → HasNumberIn run key number
       → (more : History) → seen_by after.cells.view ≡ seen_by before.cells.view ++ more → (e : Event ℕ) → Contains more e → is_on nat_eq (cell_of run number context) e.act ≡ true → e.lane ≢ before.cells.view.number
+  pub rises : s.store.drawn ≤ t.store.drawn
+  -- at the places where the same stood both runs give numbers in one order
+  pub orders : Orders run places (seen_by before.cells.view) (seen_by after.cells.view) s t
 
 -- all calls so far, that had these outcomes, say the same as those of the plain run, and together have computed and found as many values
 pub record CallsNear (outcomes : List Outcome) (end : CallsEnd) : Type 0 where

@@ -1,5 +1,5 @@
 -- One step at open places and others: it ends near that of the plain run, and leaves places near.
-use Rattle.std.proofs.Common.{◌≡◌, ℕ, ◌+◌, ◌<◌, inl, inr, Bool, true, false, true≢false, List, [], ◌∷◌, ◌++◌, length, drop, Contains, Option, None, Some, refl, ap, sym, subst, ◌∙◌, arith, nat_eq}
+use Rattle.std.proofs.Common.{◌≡◌, ℕ, ◌+◌, ◌<◌, ◌≤◌, ◌⊎◌, inl, inr, Bool, true, false, true≢false, List, [], ◌∷◌, ◌++◌, length, drop, Contains, Option, None, Some, refl, ap, sym, subst, ◌∙◌, arith, nat_eq}
 use Rattle.std.specs.Prelude.{◌≢◌, ◌||◌, codes}
 use Rattle.std.proofs.lemmas.List.Elements.{All-contains_itself}
 use Rattle.ext_history.specs.Histories.{seen_by}
@@ -8,7 +8,7 @@ use Rattle.ext_model.specs.declared.event.Event.{Event}
 use Rattle.ext_model.specs.declared.slot.Slot.{Slot}
 use Rattle.ext_model.specs.declared.slot.Slot.TheVariants as slot
 use Rattle.ext_model.specs.Events.{is_on}
-use Rattle.ext_model.specs.History.{History, IsLegal, state_after}
+use Rattle.ext_model.specs.History.{History, IsLegal, slots_in, state_after}
 use Rattle.ext_tree.specs.Keys.{IsKeyNumber, KeyValue}
 use Rattle.ext_tree.specs.Trees.{IsPathOf}
 use Rattle.ext_tree.proofs.KeyPlacing.{number_stays}
@@ -36,6 +36,14 @@ use Rattle.ext_one_report.proofs.StepsWords.{EndAlike}
 use Rattle.ext_one_report.proofs.Calls.{steps_alike, steps_go}
 use Rattle.ext_one_report.proofs.PlainFrames.{LeavesElse, no_context}
 use Rattle.ext_one_report.proofs.FrameSteps.{steps_leave}
+use Rattle.ext_one_report.proofs.NodeRooms.{steps_draw}
+use Rattle.ext_one_report.proofs.OfPlan.{value_in}
+use Rattle.ext_one_report.proofs.Orders.{AreNew, Orders, StandWith}
+use Rattle.ext_one_report.proofs.OrdersBounds.{matched_drawn, orders_old}
+use Rattle.ext_one_report.proofs.OrdersHistory.{on_cell, stood_or_stored}
+use Rattle.ext_one_report.proofs.OrdersLaws.{orders_one}
+use Rattle.ext_one_report.proofs.OrdersSteps.{step_leaves_there}
+use Rattle.ext_history.proofs.Legal.{legal_begun}
 use Rattle.ext_one_report.proofs.Fills.{Fills, IsFilledBy}
 use Rattle.ext_one_report.proofs.FillsLaws.{fills_none}
 use Rattle.ext_one_report.proofs.Open.{AreNear, ComputesOpen, MayStand, StandsOrNot, also, at_place, is_open, place_of_step, still_open}
@@ -74,9 +82,9 @@ TouchesNone run open_at a b =
 pub left_open : (run : RunView) (places : Places) (open_at : Open) (a : PlanLane) (s : ValueState) (b : PlanLane) (t : ValueState)
     → Matches run places (seen_by b.cells.view) t → IsNumbered places t → AreNear run open_at (seen_by b.cells.view) t
     → ((context : ℕ) (key : KeyValue) (v : ValueText) → open_at context key ≡ Some v → plain_slot t context key ≡ plain_slot s context key)
-    → TouchesNone run open_at a b
+    → TouchesNone run open_at a b → s.store.drawn ≤ t.store.drawn → Orders run places (seen_by a.cells.view) (seen_by b.cells.view) s t
     → LeavesNear run places open_at a s b t
-left_open run places open_at a s b t matches numbered near unchanged untouched =
+left_open run places open_at a s b t matches numbered near unchanged untouched rises orders =
     let same : places ≡ also none_settled places = λ i c k. or_none (places c k) i in
     record {
       settled = none_settled;
@@ -88,15 +96,17 @@ left_open run places open_at a s b t matches numbered near unchanged untouched =
       stand = λ c k v here is. absurd (cc here);
       unchanged = λ c k v off is. unchanged c k v is;
       untouched = λ c k n v off is has more now e there on. untouched c k n v is has more now e there on;
+      rises = rises;
+      orders = orders;
     }
 
 pub open_settled : (run : RunView) (places : Places) (open_at : Open) (a : PlanLane) (s : ValueState) (b : PlanLane) (t : ValueState)
     (matches : Matches run places (seen_by b.cells.view) t) (numbered : IsNumbered places t) (near : AreNear run open_at (seen_by b.cells.view) t)
     (unchanged : (context : ℕ) (key : KeyValue) (v : ValueText) → open_at context key ≡ Some v → plain_slot t context key ≡ plain_slot s context key)
-    (untouched : TouchesNone run open_at a b)
-    → (left_open run places open_at a s b t matches numbered near unchanged untouched).settled ≡ none_settled
+    (untouched : TouchesNone run open_at a b) (rises : s.store.drawn ≤ t.store.drawn) (orders : Orders run places (seen_by a.cells.view) (seen_by b.cells.view) s t)
+    → (left_open run places open_at a s b t matches numbered near unchanged untouched rises orders).settled ≡ none_settled
 unfolding left_open
-open_settled run places open_at a s b t matches numbered near unchanged untouched = refl
+open_settled run places open_at a s b t matches numbered near unchanged untouched rises orders = refl
 
 -- the lane fills no place that it does not touch
 pub fills_untouched : (run : RunView) (open_at : Open) (a b : PlanLane) (s : ValueState) (n : ℕ) → TouchesNone run open_at a b → Fills (IsFilledBy run a b) open_at open_at s n n
@@ -199,12 +209,66 @@ module _ (run : RunView) (keys : List KeyText) (path : List ℕ) (places : Place
   untouched : TouchesNone run open_at a b
   untouched c k n v is has more now e there on = elsewhere run keys path step a o b both.view both.lane all c k n (not_open c k v is) has more now e there on
 
+  -- off the place that it changes both runs leave what stood
+  stood_off : (c : ℕ) (k : KeyValue) (m n : ℕ) → places c k ≡ true → changes c k ≡ false → StandWith run c k (seen_by b.cells.view) next.state m n → StandWith run c k (seen_by a.cells.view) s m n
+  stood_off c k m n is off stands =
+      let at = cell_of run stands.number c in
+      record {
+        number = stands.number;
+        has = stands.has;
+        lanes = elim (stood_or_stored (seen_by a.cells.view) goes.seen.0 at m (subst (λ (h : History). value_in (slots_in (cell_of run stands.number) h c) ≡ Some m) (sym goes.seen.1) stands.lanes)) [
+          | inl stood ↦ stood
+          | inr w ↦
+              let on : is_on nat_eq at w.event.act ≡ true = on_cell at w.event.act w.on in
+              absurd (elsewhere run keys path step a o b both.view both.lane all c k stands.number
+              (λ it. true≢false (sym (ap (λ (x : ℕ × KeyValue). changes x.0 x.1) (λ i. (it.context_is i, it.key_is i)) ∙ may_change keys path step it.named it.up it.changes) ∙ off))
+              stands.has goes.seen.0 (sym goes.seen.1) w.event w.there on
+              (both.alone.own goes.seen.0 (sym goes.seen.1) c k stands.number is stands.has w.event w.there on))
+        ];
+        plain = ap value_in (sym (leaves_else.slots c k off refl (λ number past. both.numbered.beyond c k number is past))) ∙ stands.plain;
+      }
+
+  -- at that place both leave what stood, or both have a new number there
+  at_changed : (c : ℕ) (k : KeyValue) (m n : ℕ) → places c k ≡ true → IsChanged keys path step c k → StandWith run c k (seen_by b.cells.view) next.state m n
+      → StandWith run c k (seen_by a.cells.view) s m n ⊎ AreNew (seen_by a.cells.view) s m n
+  at_changed c k m n is it stands =
+      let there : ◌≡◌ {A = ℕ × KeyValue} (c, k) (start_of (drop it.up path), key_of_step keys it.named) = λ i. (it.context_is i, it.key_is i) in
+      subst (λ (x : ℕ × KeyValue). StandWith run x.0 x.1 (seen_by a.cells.view) s m n ⊎ AreNew (seen_by a.cells.view) s m n) (sym there)
+      (step_leaves_there run keys path places a o b s compared.beside run.store.id.cells.limits both.legal step it.named it.up it.changes below
+      (subst (λ (x : ℕ × KeyValue). places x.0 x.1 ≡ true) there is) finds room ran m n
+      (subst (λ (x : ℕ × KeyValue). StandWith run x.0 x.1 (seen_by b.cells.view) next.state m n) there stands))
+
+  legal_before : IsLegal run.store.id.cells.limits (seen_by a.cells.view)
+  legal_before = legal_begun (seen_by a.cells.view) (seen_by b.cells.view) goes.seen both.legal
+
+  within_orders : Orders run places (seen_by a.cells.view) (seen_by b.cells.view) s next.state
+  within_orders = by (changed_by step) refl
+    where
+      off_all : (c : ℕ) (k : KeyValue) → changed_by step ≡ None → changes c k ≡ false
+      off_all c k none = ap (λ (x : Option (StepKeyText × ℕ)). changed_place keys path x c k) none
+
+      by : (x : Option (StepKeyText × ℕ)) → changed_by step ≡ x → Orders run places (seen_by a.cells.view) (seen_by b.cells.view) s next.state
+      by None none = orders_old run places (seen_by a.cells.view) (seen_by b.cells.view) s next.state both.matches both.numbered (λ c k m n is stands. stood_off c k m n is (off_all c k none) stands)
+      by (Some changed) so = orders_one run places (seen_by a.cells.view) (seen_by b.cells.view) s next.state (start_of (drop changed.1 path)) (key_of_step keys changed.0)
+          (λ c k m n v is stands means fails. elim (bools (changes c k)) [
+            | inl on ↦
+                let it : IsChanged keys path step c k = is_changed keys path step c k on in
+                let one : Some (it.named, it.up) ≡ Some changed = sym it.changes ∙ so in
+                let pair : (it.named, it.up) ≡ changed = cc one in
+                elim (at_changed c k m n is it stands) [
+                  | inl stood ↦ inl stood
+                  | inr new ↦ inr (new, it.context_is ∙ ap (λ (p : StepKeyText × ℕ). start_of (drop p.1 path)) pair, it.key_is ∙ ap (λ (p : StepKeyText × ℕ). key_of_step keys p.0) pair)
+                ]
+            | inr off ↦ inl (stood_off c k m n is off stands)
+          ])
+          (matched_drawn run places run.store.id.cells.limits (seen_by a.cells.view) s legal_before both.matches both.numbered)
+
   left_within : LeavesNear run places open_at a s b next.state
-  left_within = left_open run places open_at a s b next.state ends_alike.matches ends_alike.numbered near_still same_slot untouched
+  left_within = left_open run places open_at a s b next.state ends_alike.matches ends_alike.numbered near_still same_slot untouched leaves_else.drawn within_orders
 
   within_settled : left_within.settled ≡ none_settled
   unfolding left_within
-  within_settled = open_settled run places open_at a s b next.state ends_alike.matches ends_alike.numbered near_still same_slot untouched
+  within_settled = open_settled run places open_at a s b next.state ends_alike.matches ends_alike.numbered near_still same_slot untouched leaves_else.drawn within_orders
 
   pub within_near : Near run places open_at a s o b next
   within_near = record {
@@ -275,6 +339,45 @@ module _ (run : RunView) (keys : List KeyText) (path : List ℕ) (places : Place
       let k_is : k ≡ key_of_step keys it.key = changed.key_is ∙ ap (λ (p : StepKeyText × ℕ). key_of_step keys p.0) pair in
       ap (λ (p : Places). p c k) it.at ∙ ((λ i. at_place (start_of (drop it.up path)) (key_of_step keys it.key) (c_is i) (k_is i)) ∙ at_itself (start_of (drop it.up path)) (key_of_step keys it.key))
 
+  -- it changes no place where the same is to stand
+  not_changed : (c : ℕ) (k : KeyValue) → places c k ≡ true → IsChanged keys path step c k → ⊥
+  not_changed c k is changed =
+      let same = same_place c k (own_place c k changed) in
+      let opens : open_at c k ≡ Some it.value = subst (λ (x : ℕ × KeyValue). open_at x.0 x.1 ≡ Some it.value) (λ i. (sym same.0 i, sym same.1 i)) it.is_open in
+      true≢false (sym is ∙ both.beside.apart c k it.value opens)
+
+  computes_orders : Orders run places (seen_by a.cells.view) (seen_by b.cells.view) s (step_run keys path step s).state
+  computes_orders = orders_old run places (seen_by a.cells.view) (seen_by b.cells.view) s (step_run keys path step s).state both.matches both.numbered was
+    where
+      alone_run : StepsRun run.store keys path (step ∷ []) a o b
+      alone_run = single_run run.store keys path step a o b ran frame placed
+
+      leaves_else : LeavesElse (changed_place keys path (changed_by step)) no_context s (step_run keys path step s).state
+      leaves_else = subst (λ (e : StepEnd). LeavesElse (changed_place keys path (changed_by step)) no_context s e.state) (single_is keys path step s both.memory)
+          (steps_leave keys path (step ∷ []) (changed_place keys path (changed_by step)) s
+          (λ other key up there is. may_change keys path step key up (subst (λ (x : StepText). changed_by x ≡ Some (key, up)) (sym (only_one step other there)) is)) both.memory)
+
+      was : (c : ℕ) (k : KeyValue) (m n : ℕ) → places c k ≡ true → StandWith run c k (seen_by b.cells.view) (step_run keys path step s).state m n → StandWith run c k (seen_by a.cells.view) s m n
+      was c k m n is stands =
+          let goes = steps_go run.store keys path (step ∷ []) a o b alone_run in
+          let at = cell_of run stands.number c in
+          let off : changed_place keys path (changed_by step) c k ≡ false = elim (bools (changed_place keys path (changed_by step) c k)) [
+            | inl on ↦ absurd (not_changed c k is (is_changed keys path step c k on))
+            | inr off ↦ off
+          ] in
+          record {
+            number = stands.number;
+            has = stands.has;
+            lanes = elim (stood_or_stored (seen_by a.cells.view) goes.seen.0 at m (subst (λ (h : History). value_in (slots_in (cell_of run stands.number) h c) ≡ Some m) (sym goes.seen.1) stands.lanes)) [
+              | inl stood ↦ stood
+              | inr w ↦
+                  let on : is_on nat_eq at w.event.act ≡ true = on_cell at w.event.act w.on in
+                  absurd (elsewhere run keys path step a o b both.view both.lane alone_run c k stands.number (not_changed c k is) stands.has goes.seen.0 (sym goes.seen.1) w.event w.there on
+                  (both.alone.own goes.seen.0 (sym goes.seen.1) c k stands.number is stands.has w.event w.there on))
+            ];
+            plain = ap value_in (sym (leaves_else.slots c k off refl (λ number past. both.numbered.beyond c k number is past))) ∙ stands.plain;
+          }
+
   pub computes_near : Near run places open_at a s o b (step_run keys path step s)
   computes_near = record {
     says = ended.says ∙ sym ended.plain_says;
@@ -292,6 +395,8 @@ module _ (run : RunView) (keys : List KeyText) (path : List ℕ) (places : Place
       unchanged = ended.others;
       untouched = λ c k n v off is has more now e there on. elsewhere run keys path step a o b both.view both.lane (single_run run.store keys path step a o b ran frame placed) c k n
           (λ changed. true≢false (sym (own_place c k changed) ∙ off)) has more now e there on;
+      rises = subst (λ (e : StepEnd). s.store.drawn ≤ e.state.store.drawn) (single_is keys path step s both.memory) (steps_draw keys path (step ∷ []) s both.memory);
+      orders = computes_orders;
     };
     fills = ended.fills;
   }

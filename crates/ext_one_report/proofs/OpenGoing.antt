@@ -1,5 +1,5 @@
 -- A lane and a plain run beside one another go on: from a moment to a later one, at which more places are settled.
-use Rattle.std.proofs.Common.{◌≡◌, ℕ, ◌+◌, inl, inr, true, false, true≢false, List, [], ◌++◌, Contains, Option, None, Some, refl, ap, sym, subst, ◌∙◌, nat_eq, append_assoc}
+use Rattle.std.proofs.Common.{◌≡◌, ℕ, ◌+◌, inl, inr, true, false, true≢false, List, [], ◌++◌, Contains, Option, None, Some, refl, ap, sym, subst, ◌∙◌, arith, nat_eq, append_assoc}
 use Rattle.std.specs.Prelude.{◌||◌, ◌≢◌}
 use Rattle.std.proofs.lemmas.List.Elements.{Contains-append_cases, Contains-append_right}
 use mathlib.Core.List.{IsPrefix, append_cancel_left}
@@ -25,6 +25,10 @@ use Rattle.ext_one_report.proofs.StandingsWords.{AreMatched, fault_stands, seal_
 use Rattle.ext_one_report.proofs.StepsWords.{IsAlone}
 use Rattle.ext_one_report.proofs.NodesAlone.{alone_first, alone_later, contains_left}
 use Rattle.ext_one_report.proofs.Calls.{lane_before}
+use Rattle.ext_one_report.proofs.Matching.{matches_at_fewer, numbered_at_fewer}
+use Rattle.ext_one_report.proofs.OrdersBounds.{matched_drawn}
+use Rattle.ext_one_report.proofs.OrdersHistory.{prefix_rises}
+use Rattle.ext_one_report.proofs.OrdersLaws.{orders_fewer, orders_then}
 use Rattle.ext_one_report.proofs.Fills.{Fills, IsFilledBy, IsSettled, Spot}
 use Rattle.ext_one_report.proofs.FillsLaws.{fills_then}
 use Rattle.ext_one_report.proofs.Open.{AreNear, OnlyComputed, Stands, also, still_open}
@@ -200,6 +204,12 @@ module _ (run : RunView) (path : List ℕ) (places : Places) (open_at : Open) (a
           let apart = or_neither (first c k) (second c k) off in
           two.unchanged c k v apart.1 (opens (first c k) (open_at c k) v apart.0 opened) ∙ one.unchanged c k v apart.0 opened;
       untouched = λ c k n v off opened has more is e there on. untouched_by c k n v (or_neither (first c k) (second c k) off) opened has more is e there on;
+      rises = (let early = one.rises in let late = two.rises in omega (arith, early, late));
+      orders = orders_then run places (seen_by a.cells.view) (seen_by m.cells.view) (seen_by b.cells.view) s t u (prefix_rises (seen_by a.cells.view) (seen_by m.cells.view) goes.seen) one.rises
+          (matched_drawn run places run.store.id.cells.limits (seen_by m.cells.view) t (legal_begun (seen_by m.cells.view) (seen_by b.cells.view) further.seen both.legal)
+          (matches_at_fewer run (also first places) places (seen_by m.cells.view) t (λ c k is. or_left (places c k) (first c k) is) one.matches)
+          (numbered_at_fewer (also first places) places t (λ c k is. or_left (places c k) (first c k) is) one.numbered)) one.orders
+          (orders_fewer run (also first places) places (seen_by m.cells.view) (seen_by b.cells.view) t u (λ c k is. or_left (places c k) (first c k) is) two.orders);
     }
       where
         untouched_by : (c : ℕ) (k : KeyValue) (n : ℕ) (v : ValueText) → (first c k ≡ false) × (second c k ≡ false) → open_at c k ≡ Some v → HasNumberIn run k n

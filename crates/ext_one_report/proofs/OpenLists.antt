@@ -29,6 +29,8 @@ use Rattle.ext_one_report.proofs.CallsWords.{StepHasRoom, StepWithin, StepsHaveR
 use Rattle.ext_one_report.proofs.MatchingWords.{Places, RunView}
 use Rattle.ext_one_report.proofs.Calls.{all_first, all_later, finds_by, plain_goes, plain_stops, step_memory, steps_faults, steps_go, steps_lane, success_finds, told_so}
 use Rattle.ext_one_report.specs.Shares.{Open}
+use Rattle.ext_one_report.proofs.Orders.{Orders}
+use Rattle.ext_one_report.proofs.OrdersBounds.{orders_kept}
 use Rattle.ext_one_report.proofs.Fills.{Fills, IsFilledBy}
 use Rattle.ext_one_report.proofs.Open.{AreOpenBeside, ComputesOpen, also, place_of_step, still_open}
 use Rattle.ext_one_report.proofs.OpenSteps.{AreBesideOpen}
@@ -54,12 +56,15 @@ module _ (run : RunView) (path : List ℕ) (places : Places) (open_at : Open) (a
   untouched : TouchesNone run open_at a a
   untouched x k n v is has more now e there on own = no_event (seen_by a.cells.view) more e now there
 
+  itself_orders : Orders run places (seen_by a.cells.view) (seen_by a.cells.view) s s
+  itself_orders = orders_kept run places (seen_by a.cells.view) (seen_by a.cells.view) s s both.matches both.numbered (λ x k n is has. refl) (λ x k is. refl)
+
   itself : LeavesNear run places open_at a s a s
-  itself = left_open run places open_at a s a s both.matches both.numbered both.near (λ x k v is. refl) untouched
+  itself = left_open run places open_at a s a s both.matches both.numbered both.near (λ x k v is. refl) untouched (omega arith) itself_orders
 
   itself_settled : itself.settled ≡ (λ x k. false)
   unfolding itself
-  itself_settled = open_settled run places open_at a s a s both.matches both.numbered both.near (λ x k v is. refl) untouched
+  itself_settled = open_settled run places open_at a s a s both.matches both.numbered both.near (λ x k v is. refl) untouched (omega arith) itself_orders
 
   pub left_itself : (b : PlanLane) → b ≡ a → LeftItself run places open_at a b s
   left_itself b same = subst (λ x. LeftItself run places open_at a x s) (sym same) (record {

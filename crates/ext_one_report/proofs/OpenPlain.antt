@@ -55,19 +55,19 @@ step_leaves keys path step changes s may memory =
 -- ---- the key of the step
 
 -- The state in which the key has its number: the same stands everywhere
-record IsNamedThere (key : KeyValue) (s : ValueState) : Type 0 where
-  state : ValueState
-  there : is_there state.keys key ≡ true
-  goes : (name label : List ℕ) (goes_on : ℕ → ValueState → StepEnd) → numbered_by enough name label key goes_on s ≡ goes_on (place_of_key state.keys key) state
-  leaves : LeavesElse (λ context other. false) no_context s state
-  store : state.store ≡ s.store
-  numbers : state.numbers ≡ s.numbers
-  values : state.values ≡ s.values
+pub record IsNamedThere (key : KeyValue) (s : ValueState) : Type 0 where
+  pub state : ValueState
+  pub there : is_there state.keys key ≡ true
+  pub goes : (name label : List ℕ) (goes_on : ℕ → ValueState → StepEnd) → numbered_by enough name label key goes_on s ≡ goes_on (place_of_key state.keys key) state
+  pub leaves : LeavesElse (λ context other. false) no_context s state
+  pub store : state.store ≡ s.store
+  pub numbers : state.numbers ≡ s.numbers
+  pub values : state.values ≡ s.values
 
 less_is : (a b : ℕ) → a < b → nat_lt a b ≡ true
 less_is a b less = grind (arith, nat_tests)
 
-named_there : (key : KeyValue) (s : ValueState) → (is_there s.keys key ≡ false → length s.keys < s.places) → IsNamedThere key s
+pub named_there : (key : KeyValue) (s : ValueState) → (is_there s.keys key ≡ false → length s.keys < s.places) → IsNamedThere key s
 named_there key s room =
     elim (bools (is_there s.keys key)) [
       | inl there ↦ record {

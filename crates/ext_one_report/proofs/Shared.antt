@@ -18,6 +18,8 @@ use Rattle.ext_one_report.proofs.PlanCells.{changed_by}
 use Rattle.ext_one_report.proofs.MatchingWords.{Places, RunView}
 use Rattle.ext_one_report.specs.Within.{is_within}
 use Rattle.ext_one_report.proofs.ComputedAbove.{IsComputedIn, NoneOpenAbove}
+use Rattle.ext_one_report.proofs.OfPlan.{IsLeftBeside, IsLeftWithin}
+use Rattle.ext_one_report.proofs.Orders.{Fails}
 use Rattle.ext_one_report.proofs.Open.{ComputesOpen}
 use Rattle.ext_one_report.specs.Shares.{Open}
 use Rattle.ext_one_report.proofs.OpenCalls.{CallFitsOpen, NoneOpen}
@@ -68,3 +70,7 @@ module _ (plan : PlanText) (run : RunView) (touched changes : ℕ → Places) (s
     -- and all that share a place of one parent compute the same value there
     pub same : (parent child other context : ℕ) (key : KeyValue) (v w : ValueText) → IsParentOf (ids_of_nodes plan.nodes) parent child → IsParentOf (ids_of_nodes plan.nodes) parent other
         → shares child context key ≡ Some v → shares other context key ≡ Some w → v ≡ w
+    -- where the close of such a value fails, a step of a node that changes the place may leave it there, and so may a step beside the node, unless it is computed above
+    pub fails_below : (node context : ℕ) (key : KeyValue) (v : ValueText) → shares node context key ≡ Some v → changes node context key ≡ true → Fails v → IsLeftWithin plan node context v.text
+    pub fails_beside : (node context : ℕ) (key : KeyValue) (v : ValueText) → shares node context key ≡ Some v → ¬ IsComputedIn plan (drop 1 (plan_path plan node)) context key → Fails v
+        → IsLeftBeside plan node context v.text

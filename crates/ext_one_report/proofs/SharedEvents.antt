@@ -35,7 +35,7 @@ use Rattle.ext_one_report.proofs.CoveredCells.{below_told, call_among}
 use Rattle.ext_one_report.proofs.CoveredPaths.{has_context}
 use Rattle.ext_one_report.specs.Shares.{Open}
 use Rattle.ext_one_report.proofs.FullRuns.{setting_in}
-use Rattle.ext_one_report.proofs.SharedEventsWords.{OfSharing, SharedIsComputed, SharedIsLookedFor}
+use Rattle.ext_one_report.proofs.SharedEventsWords.{OfSharing, SharedIsComputed, SharedIsLookedFor, SharedIsNew}
 use Rattle.ext_one_report.proofs.SharedNodesWords.{IsSharedBasis}
 use Rattle.ext_one_report.proofs.LanesAlone.{view_moves}
 use Rattle.ext_one_report.proofs.CallsFrom.{CallsFrom}
@@ -132,3 +132,7 @@ pub shared_is_computed : OfSharing SharedIsComputed
 shared_is_computed plan run locks h touched changes changed shares depth node before ran after basis runs within context number place key v event shared has there is made =
     let nothing : All (HasSeen []) before.first = λ i d less. (seen_by (slice_index_or before.first i d).cells.view, refl) in
     ((run_on plan run locks h touched changes changed shares basis [] depth node before ran after runs nothing within place made context number key event has there is).1 v shared).computes
+
+pub shared_is_new : OfSharing SharedIsNew
+shared_is_new plan run locks h touched changes changed shares depth node before ran after g basis runs seen within context number place key v event n shared has there act_is made =
+    ((run_on plan run locks h touched changes changed shares basis g depth node before ran after runs seen within place made context number key event has there (ap place_of act_is)).1 v shared).new run.store.id.cells.limits basis.legal n act_is

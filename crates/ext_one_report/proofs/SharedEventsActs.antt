@@ -1,6 +1,6 @@
 -- The events of a lane in the steps of a call: at the places that its node shares they compute the values of the places, each behind a look-up that was absent.
 use Rattle.std.proofs.Common.{◌≡◌, ℕ, zero, suc, ◌≤◌, inl, inr, true, List, [], ◌∷◌, ◌++◌, Contains, Some, drop, length, refl, ap, sym, subst, ◌∙◌, arith}
-use Rattle.std.specs.Prelude.{codes, slice_get, Ok}
+use Rattle.std.specs.Prelude.{◌<◌, ◌==◌, codes, slice_get, Ok}
 use mathlib.Core.List.{IsPrefix, append_cancel_left}
 use base.Growing.{prefix_refl, prefix_trans}
 use Rattle.std.proofs.lemmas.Bool.{cases_lt}
@@ -8,7 +8,9 @@ use Rattle.std.proofs.lemmas.Option.{slice_get_within}
 use Rattle.ext_history.specs.Histories.{seen_by}
 use Rattle.ext_history.proofs.Composed.{events_past, same_number, seen_goes_on}
 use Rattle.ext_history.proofs.Lanes.{own_append}
-use Rattle.ext_history.proofs.Lists.{bools, contains_cons, contains_here, contains_later, contains_none}
+use Rattle.ext_history.proofs.Legal.{legal_begun}
+use Rattle.ext_history.proofs.Lists.{bools, contains_cons, contains_from_filter, contains_here, contains_later, contains_none}
+use Rattle.ext_history.proofs.Once.{contains-map}
 use Rattle.ext_model.specs.declared.event.Act.{Act}
 use Rattle.ext_model.specs.declared.event.Act.TheVariants.{Abandon, Claim, Fill, Keep}
 use Rattle.ext_model.specs.declared.event.Event.{Event}
@@ -16,7 +18,7 @@ use Rattle.ext_model.specs.declared.look.Look.{Look}
 use Rattle.ext_model.specs.declared.look.Look.TheVariants as look
 use Rattle.ext_model.specs.CallActs.{Calls, LaneView}
 use Rattle.ext_model.specs.Events.{place_of}
-use Rattle.ext_model.specs.History.{History, Limits, lane_of, own}
+use Rattle.ext_model.specs.History.{History, IsLegal, Limits, by, lane_of, own, state_after}
 use Rattle.ext_tree.specs.Keys.{IsKeyNumber, KeyValue, key_at}
 use Rattle.ext_tree.specs.Trees.{IsPathOf, IsTree}
 use Rattle.ext_tree.proofs.KeyPlacing.{number_stays}
@@ -56,6 +58,7 @@ use Rattle.ext_one_report.proofs.StepsWords.{IsLaneIn}
 use Rattle.ext_one_report.proofs.StoreCells.{cell_apart}
 use Rattle.ext_one_report.proofs.Matching.{number_within}
 use Rattle.ext_one_report.proofs.Calls.{lane_before}
+use Rattle.ext_one_report.proofs.OrdersHistory.{later_drawn, prefix_rises}
 use Rattle.ext_one_report.proofs.Open as values
 use Rattle.ext_one_report.proofs.Open.{ComputesOpen}
 use Rattle.ext_one_report.specs.Shares.{Open}
@@ -129,6 +132,8 @@ module _ (run : RunView) (h g : History) where
   pub record IsComputing (place number context : ℕ) (v : ValueText) (act : Act ℕ) : Type 0 where
     pub computes : values.Computes run v act
     pub looked : (path : List ℕ) → IsPathOf run.store.tree context (context ∷ path) → IsLookedFor run h g place number (context ∷ path)
+    -- the number that it fills in was drawn meanwhile
+    pub new : (limits : Limits) → IsLegal limits h → (n : ℕ) → act ≡ Fill (cell_of run number context) n → (state_after g).drawn < n
 
   module _ (tree : IsTree run.store.tree) (number context : ℕ) (v : ValueText) where
     abbrev cell : ℕ
@@ -167,6 +172,39 @@ module _ (run : RunView) (h g : History) where
     no_acts : Goods []
     no_acts act there = absurd (contains_none act there)
 
+    -- what these acts fill in they have kept
+    abbrev KeptFirst : List (Act ℕ) → Type 0
+    KeptFirst acts = (n : ℕ) → Contains acts (Fill (cell_of run number context) n) → Contains acts (Keep n)
+
+    kept_up : KeptFirst (Claim (cell_of run number context) ∷ Abandon (cell_of run number context) ∷ [])
+    kept_up n there = elim (contains_cons (Claim (cell_of run number context)) (Abandon (cell_of run number context) ∷ []) (Fill (cell_of run number context) n) there) [
+      | inl claim ↦ absurd (cc claim)
+      | inr later ↦ elim (contains_cons (Abandon (cell_of run number context)) [] (Fill (cell_of run number context) n) later) [
+        | inl abandon ↦ absurd (cc abandon)
+        | inr none ↦ absurd (contains_none (Fill (cell_of run number context) n) none)
+      ]
+    ]
+
+    kept_then : (m : ℕ) (last : Act ℕ) → ((n : ℕ) → last ≡ Fill (cell_of run number context) n → n ≡ m) → KeptFirst (Claim (cell_of run number context) ∷ Keep m ∷ last ∷ [])
+    kept_then m last one n there =
+        let claim : Act ℕ = Claim (cell_of run number context) in
+        let fill : Act ℕ = Fill (cell_of run number context) n in
+        elim (contains_cons claim (Keep m ∷ last ∷ []) fill there) [
+          | inl same ↦ absurd (cc same)
+          | inr later ↦ elim (contains_cons (Keep m) (last ∷ []) fill later) [
+            | inl same ↦ absurd (cc same)
+            | inr behind ↦ elim (contains_cons last [] fill behind) [
+              | inl same ↦
+                  let number_is : n ≡ m = one n same in
+                  contains_later claim (Keep m ∷ last ∷ []) (Keep n) (subst (λ k. Contains (Keep m ∷ last ∷ []) (Keep k)) (sym number_is) (contains_here (Keep m) (last ∷ [])))
+              | inr none ↦ absurd (contains_none fill none)
+            ]
+          ]
+        ]
+
+    fills_one : (m n : ℕ) → Fill (cell_of run number context) m ≡ Fill (cell_of run number context) n → n ≡ m
+    fills_one m n same = let e : m ≡ n = cc same in sym e
+
     good_up : Goods (Claim (cell_of run number context) ∷ Abandon (cell_of run number context) ∷ [])
     good_up = goods (Claim (cell_of run number context)) (Abandon (cell_of run number context) ∷ []) good_claim (goods (Abandon (cell_of run number context)) [] good_abandon no_acts)
 
@@ -198,8 +236,19 @@ module _ (run : RunView) (h g : History) where
             absent = first.missing;
           }
 
-      attempt : (acts : List (Act ℕ)) → Calls limits a b acts → Goods acts → claiming.LooksFirst (cell_of run number) (context ∷ ancestors) a b → DoesThere a b
-      attempt acts calls good first = does_calls ComputesThere limits a b acts calls (λ place at event there mine since is among.
+      -- a number that the lane keeps in these acts is greater than all that were drawn before
+      keeps_new : (acts : List (Act ℕ)) → Calls limits a b acts → (lim : Limits) → IsLegal lim h → (n : ℕ) → Contains acts (Keep n) → (state_after g).drawn < n
+      keeps_new acts calls lim legal n among =
+          let goes = seen_goes_on calls in
+          let mine : Contains (own a.number goes.0) (by a.number (Keep n)) = subst (λ (l : History). Contains l (by a.number (Keep n))) (sym (events_past calls)) (contains-map (by a.number) acts (Keep n) among) in
+          let there : Contains goes.0 (by a.number (Keep n)) = contains_from_filter (λ (x : Event ℕ). lane_of x == a.number) goes.0 (by a.number (Keep n)) mine in
+          let legal_there : IsLegal lim (seen_by a ++ goes.0) = subst (IsLegal lim) (sym goes.1) (legal_begun (seen_by b) h high legal) in
+          let late = later_drawn lim (seen_by a) goes.0 a.number n legal_there there in
+          let early = prefix_rises g (seen_by a) low in
+          omega (arith, late, early)
+
+      attempt : (acts : List (Act ℕ)) → Calls limits a b acts → Goods acts → KeptFirst acts → claiming.LooksFirst (cell_of run number) (context ∷ ancestors) a b → DoesThere a b
+      attempt acts calls good kept first = does_calls ComputesThere limits a b acts calls (λ place at event there mine since is among.
           let its = good event.act among at is in
           record {
             at_is = its.0;
@@ -207,11 +256,12 @@ module _ (run : RunView) (h g : History) where
               computes = its.1;
               looked = λ path other.
                   subst (λ (l : List ℕ). IsLookedFor run h g place number l) (one_path run.store.tree tree context (context ∷ ancestors) (context ∷ path) path_is other) (looked_for first place event there mine since);
+              new = λ lim legal n is. keeps_new acts calls lim legal n (kept n (subst (Contains acts) is among));
             };
           })
 
       given_up : Calls limits a b (given_up_events run.store context number) → claiming.LooksFirst (cell_of run number) (context ∷ ancestors) a b → DoesThere a b
-      given_up calls first = attempt (given_up_events run.store context number) calls good_up first
+      given_up calls first = attempt (given_up_events run.store context number) calls good_up kept_up first
 
       meets : (met : Look) → Meets limits run.store context ancestors number a b met → DoesThere a b
       unfolding claiming.Meets
@@ -234,14 +284,14 @@ module _ (run : RunView) (h g : History) where
       unkept keep_fault.Memory first r = given_up r first
       unkept keep_fault.NumbersFull first r = given_up r.0 first
       unkept keep_fault.Contended first r = given_up r.0 first
-      unkept keep_fault.Unplaced first r = attempt (Claim (cell_of run number context) ∷ Keep r.0 ∷ Abandon (cell_of run number context) ∷ []) r.1 (good_kept r.0 (Abandon (cell_of run number context)) good_abandon) first
+      unkept keep_fault.Unplaced first r = attempt (Claim (cell_of run number context) ∷ Keep r.0 ∷ Abandon (cell_of run number context) ∷ []) r.1 (good_kept r.0 (Abandon (cell_of run number context)) good_abandon) (kept_then r.0 (Abandon (cell_of run number context)) (λ n same. absurd (cc same))) first
 
       -- `known` says what a number stands for that was computed; no factory failed
       from : (name label : List ℕ) (result : Compute StoredValue (Unit {0})) → ComputesFrom limits run.store context ancestors number a b result → (between : PlanLane) (o : Outcome) (after : PlanLane) → EndsCompute name label result between o after
           → ((n : ℕ) → result ≡ computes.Computed n → run.meaning.values n ≡ Some v) → DoesThere a b
       unfolding ComputesFrom
       from name label (computes.Computed n) r between o after ends known =
-          attempt (Claim (cell_of run number context) ∷ Keep n ∷ Fill (cell_of run number context) n ∷ []) r.1.calls (good_kept n (Fill (cell_of run number context) n) (good_fill n (known n refl))) r.0.claims.looked_first
+          attempt (Claim (cell_of run number context) ∷ Keep n ∷ Fill (cell_of run number context) n ∷ []) r.1.calls (good_kept n (Fill (cell_of run number context) n) (good_fill n (known n refl))) (kept_then n (Fill (cell_of run number context) n) (fills_one n)) r.0.claims.looked_first
       from name label (computes.Found at n unused) r between o after ends known = meets (look.Found at n) r
       from name label (computes.Failed why) r between o after ends known = absurd ends
       from name label (computes.FaultKept n) r between o after ends known = absurd ends

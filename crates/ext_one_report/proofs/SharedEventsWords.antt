@@ -2,13 +2,13 @@
 -- Javadoc `ExtensionContext.Store`, `getOrComputeIfAbsent`.
 use Rattle.std.specs.Prelude.{ℕ, ◌≡◌, ◌<◌, ◌≤◌, List, ◌∷◌, length, All, Some, slice_get}
 use mathlib.Core.List.{IsPrefix}
-use Rattle.ext_model.specs.declared.event.Act.TheVariants.{Claim}
+use Rattle.ext_model.specs.declared.event.Act.TheVariants.{Claim, Fill}
 use Rattle.ext_model.specs.declared.event.Event.{Event}
 use Rattle.ext_model.specs.declared.look.Look.TheVariants as look
 use Rattle.ext_model.specs.declared.slot.Slot.TheVariants as slot
 use Rattle.ext_model.specs.CallActs.{look_after}
 use Rattle.ext_model.specs.Events.{place_of}
-use Rattle.ext_model.specs.History.{History, IsLegal, slots_in}
+use Rattle.ext_model.specs.History.{History, IsLegal, slots_in, state_after}
 use Rattle.ext_tree.specs.Keys.{KeyValue}
 use Rattle.ext_tree.specs.Trees.{IsPathOf}
 use Rattle.ext_locks.specs.Opening.{LocksView}
@@ -59,6 +59,14 @@ module _ (plan : PlanText) (run : RunView) (locks : LocksView) (h : History) (to
       → (context number place : ℕ) (key : KeyValue) (v : ValueText) (path : List ℕ) (event : Event ℕ) → shares node context key ≡ Some v → HasNumberIn run key number → slice_get h place ≡ Some event
       → place_of event.act ≡ Some (cell_of run number context) → IsPathOf run.store.tree context (context ∷ path) → IsMadeIn h place before.first after.first
       → IsLookedFor run h g place number (context ∷ path)
+
+  -- and a number that it fills in there was drawn later than all that was drawn then
+  abbrev pub SharedIsNew : Type 0
+  SharedIsNew =
+      (depth node : ℕ) (before : Lanes StoredValue) (ran : List Ran) (after : Lanes StoredValue) (g : History)
+      → IsSharedBasis plan run locks h touched changes changed shares → ChildRun (setting_in plan run locks) depth node before ran after → All (HasSeen g) before.first → All (HasSeenWithin h) after.first
+      → (context number place : ℕ) (key : KeyValue) (v : ValueText) (event : Event ℕ) (n : ℕ) → shares node context key ≡ Some v → HasNumberIn run key number → slice_get h place ≡ Some event
+      → event.act ≡ Fill (cell_of run number context) n → IsMadeIn h place before.first after.first → (state_after g).drawn < n
 
 -- ---- histories
 

@@ -205,7 +205,7 @@ pub record GiveOne (t u : TouchText) : Type 0 where
   pub value : value_given t ≡ value_given u
 
 -- what may change its place counts as its own word
-own_word : (plan : PlanText) → IsReadPlan plan → (t : TouchText) → Contains (touches_made plan) t → t.changes ≡ true → t.acts ≡ t.word
+pub own_word : (plan : PlanText) → IsReadPlan plan → (t : TouchText) → Contains (touches_made plan) t → t.changes ≡ true → t.acts ≡ t.word
 own_word plan read t made changing = elim (how_it_acts plan read t made) [
   | inl own ↦ own.1
   | inr still ↦ elim still [

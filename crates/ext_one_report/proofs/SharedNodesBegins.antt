@@ -39,6 +39,7 @@ use Rattle.ext_one_report.proofs.NodePlaces.{any_none, any_of, both_ways, carrie
 use Rattle.ext_one_report.proofs.NodePlain.{IsFine, child_leaves, children_fine, children_leave}
 use Rattle.ext_one_report.proofs.NodeTrees.{its_path}
 use Rattle.ext_one_report.proofs.SharedNodesBasis.{above_unchanged, has_path, in_plan, not_shared, plan_tree, run_tree, shared_elsewhere}
+use Rattle.ext_one_report.proofs.SharedFresh.{fresh_beside}
 use Rattle.ext_one_report.proofs.SharedNodesBody.{Body, ClosedFor, Ground, IsChild, acts_at, after_all, all_once, beside_child, begun_at, cell, child_at, children_stay, closed_child, closed_for, closed_off, computed_at, conc, cs, ended_at, ends_in, free, frozen_to, here, in_nodes, job_at, maker, maker_changes, none_is, not_free, open_of, open_parts, over, over_at, path_in, s_of, shared_below, since, since_until, step, touches, turn_ones, u_of, until, until_in_h, up_to}
 use Rattle.ext_one_report.proofs.SharedNodesCells.{between_fewer, near_stay, none_between}
 use Rattle.ext_one_report.proofs.ComputedAbove.{IsClosedAbove, all_clear, clear_is}
@@ -170,11 +171,11 @@ module _ (g : Ground) (b : Body g) where
               (λ e. apart (sym e)) touched none)
         ]
 
-    start_until : IsPrefix (first_seen (s_of g b i).first) (until g b)
+    pub start_until : IsPrefix (first_seen (s_of g b i).first) (until g b)
     start_until = prefix_trans (first_seen (s_of g b i).first) (first_seen (u_of g b i).first) (until g b) (over_at g b i less) (ended_at g b i less)
 
     -- so nothing happens there before it begins
-    same_start : (context number : ℕ) (key : KeyValue) → g.touched c context key ≡ true → g.shares c context key ≡ None → HasNumberIn g.run key number
+    pub same_start : (context number : ℕ) (key : KeyValue) → g.touched c context key ≡ true → g.shares c context key ≡ None → HasNumberIn g.run key number
         → events_at (cell g b number context) (first_seen (s_of g b i).first) ≡ events_at (cell g b number context) (since g b)
     same_start context number key touched none has =
         let on = begun_at g b i less in
@@ -217,19 +218,19 @@ module _ (g : Ground) (b : Body g) where
     -- ---- where the same stands
 
     -- no child before it has a place of it in its own context
-    off_before : (context : ℕ) (key : KeyValue) → g.touched c context key ≡ true → within_any g.plan (take i (cs g b)) context ≡ false
+    pub off_before : (context : ℕ) (key : KeyValue) → g.touched c context key ≡ true → within_any g.plan (take i (cs g b)) context ≡ false
     off_before context key is =
         within_none g.plan (take i (cs g b)) context (λ x there within.
         g.basis.covered.siblings g.node x c context key (beside_child g x (first_ones i x there)) (beside_child g c c_in) (apart_before (cs g b) i x once_beside less there) within is)
 
     -- and none changes what it touches and does not share
-    unchanged_before : (context : ℕ) (key : KeyValue) → g.touched c context key ≡ true → g.shares c context key ≡ None → any_of g.changes (take i (cs g b)) context key ≡ false
+    pub unchanged_before : (context : ℕ) (key : KeyValue) → g.touched c context key ≡ true → g.shares c context key ≡ None → any_of g.changes (take i (cs g b)) context key ≡ false
     unchanged_before context key is none =
         any_none g.changes (take i (cs g b)) context key (λ x there ch.
         both_ways (g.changes x context key) ch
         (not_shared g.plan g.run g.locks g.h g.touched g.changes g.changed g.shares g.basis g.node x c context key (conc g b x (first_ones i x there)) (conc g b c c_in) (apart_before (cs g b) i x once_beside less there) is none))
 
-    clear_before : (context : ℕ) (key : KeyValue) → g.touched c context key ≡ true → IsOpen context (before_it i).state
+    pub clear_before : (context : ℕ) (key : KeyValue) → g.touched c context key ≡ true → IsOpen context (before_it i).state
     clear_before context key is = (leaves_to i).stays_open context (off_before context key is) (clear_first context key (up_to g b c context key c_in is))
 
     begins_slots : (context : ℕ) (key : KeyValue) (number : ℕ) → unshared (g.touched c) o context key ≡ true → HasNumberIn g.run key number
@@ -363,4 +364,7 @@ module _ (g : Ground) (b : Body g) where
       near = begins_near;
       closed = begins_closed;
       results = (fine_before i).count;
+      fresh = λ context inside within.
+          fresh_beside g.plan g.touched g.changes g.basis.covered g.node c context (beside_child g c c_in) inside within (take i (cs g b)) b.r.state (before_it i).state
+          (λ x there. (beside_child g x (first_ones i x there), apart_before (cs g b) i x once_beside less there)) (leaves_to i) (b.fresh c context (beside_child g c c_in) inside within);
     }

@@ -71,11 +71,11 @@ module _ (g : Ground) where
       let one = All-contains P above at (g.basis.shared.above g.node context key v above is path_is) there in
       both_ways (g.changes g.node at key) (g.basis.covered.changed_above g.node x at key (children x among) ch) one.2)
 
-some_there : (o : Option ValueText) → is_some o ≡ true → (v : ValueText) × (o ≡ Some v)
+pub some_there : (o : Option ValueText) → is_some o ≡ true → (v : ValueText) × (o ≡ Some v)
 some_there None is = absurd (cc is)
 some_there (Some v) is = (v, refl)
 
-no_value : (o : Option ValueText) → (is_some o ≡ true → ⊥) → o ≡ None
+pub no_value : (o : Option ValueText) → (is_some o ≡ true → ⊥) → o ≡ None
 no_value None none = refl
 no_value (Some v) none = absurd (none refl)
 
@@ -87,10 +87,10 @@ module _ (g : Ground) (b : Body g) (each : ChildrenEnd g) (drawn : (after_all g 
   abbrev last : RunState
   last = after_all g b.r (cs g b)
 
-  all_of_them : All (IsChild g) (cs g b)
+  pub all_of_them : All (IsChild g) (cs g b)
   all_of_them = all_children g b (cs g b) (λ x there. there)
 
-  leaves : LeavesElse (any_of g.changes (cs g b)) (within_any g.plan (cs g b)) b.r.state last.state
+  pub leaves : LeavesElse (any_of g.changes (cs g b)) (within_any g.plan (cs g b)) b.r.state last.state
   leaves = all_leave g b (cs g b) b.r all_of_them b.fine
 
   pub fine_then : IsFine g.plan last
@@ -142,46 +142,46 @@ module _ (g : Ground) (b : Body g) (each : ChildrenEnd g) (drawn : (after_all g 
   module _ (context : ℕ) (key : KeyValue) (touched : g.touched g.node context key ≡ true) (none : b.o context key ≡ None) (off : (x : ℕ) → Contains (cs g b) x → is_within g.plan x context ≡ true → ⊥)
       (alone : (x : ℕ) → Contains (cs g b) x → g.shares x context key ≡ None) where
     -- no other changes what one of them touches
-    apart : (x c : ℕ) → Contains (cs g b) x → Contains (cs g b) c → x ≢ c → g.touched c context key ≡ true → g.changes x context key ≡ true → ⊥
+    pub apart : (x c : ℕ) → Contains (cs g b) x → Contains (cs g b) c → x ≢ c → g.touched c context key ≡ true → g.changes x context key ≡ true → ⊥
     apart x c x_in c_in differ is ch =
         let both = both_share g.plan g.run g.locks g.h g.touched g.changes g.changed g.shares g.basis g.node x c context key (conc g b x x_in) (conc g b c c_in) differ ch is in
         not_both (g.shares c context key) both.0 (alone c c_in) both.2
 
-    level_place : unshared (g.touched g.node) b.o context key ≡ true
+    pub level_place : unshared (g.touched g.node) b.o context key ≡ true
     level_place = unshared_is (g.touched g.node) b.o context key touched none
 
-    off_them : within_any g.plan (cs g b) context ≡ false
+    pub off_them : within_any g.plan (cs g b) context ≡ false
     off_them = within_none g.plan (cs g b) context off
 
     -- one of them changes it
     module _ (i : ℕ) (less : i < count) (ch : g.changes (child_at g b i) context key ≡ true) where
-      c_in : Contains (cs g b) (child_at g b i)
+      pub c_in : Contains (cs g b) (child_at g b i)
       c_in = here g b i less
 
-      its : g.touched (child_at g b i) context key ≡ true
+      pub its : g.touched (child_at g b i) context key ≡ true
       its = g.basis.covered.touches (child_at g b i) context key ch
 
-      ends : Ends g.plan g.run g.locks g.h g.touched g.changes g.changed g.shares (child_at g b i) (open_of g b (child_at g b i)) (s_of g b i) (ran_at g b i) (u_of g b i) (before_it g b i) (after_it g b each drawn i)
+      abbrev pub ends : Ends g.plan g.run g.locks g.h g.touched g.changes g.changed g.shares (child_at g b i) (open_of g b (child_at g b i)) (s_of g b i) (ran_at g b i) (u_of g b i) (before_it g b i) (after_it g b each drawn i)
       ends = ended_near g b each drawn i less
 
-      place_is : outside g.plan (child_at g b i) (also ends.ends.settled (unshared (g.touched (child_at g b i)) (open_of g b (child_at g b i)))) context key ≡ true
+      pub place_is : outside g.plan (child_at g b i) (also ends.ends.settled (unshared (g.touched (child_at g b i)) (open_of g b (child_at g b i)))) context key ≡ true
       place_is =
           and_of (also ends.ends.settled (unshared (g.touched (child_at g b i)) (open_of g b (child_at g b i))) context key) (not (is_within g.plan (child_at g b i) context))
           (or_first (unshared (g.touched (child_at g b i)) (open_of g b (child_at g b i)) context key) (ends.ends.settled context key)
           (unshared_is (g.touched (child_at g b i)) (open_of g b (child_at g b i)) context key its (unshared_none g b (child_at g b i) context key (alone (child_at g b i) c_in))))
           (ap not (never (is_within g.plan (child_at g b i) context) (off (child_at g b i) c_in)))
 
-      rest_same : any_of g.changes (behind g b each drawn i) context key ≡ false
+      pub rest_same : any_of g.changes (behind g b each drawn i) context key ≡ false
       rest_same = any_none g.changes (behind g b each drawn i) context key (λ x there also.
           apart x (child_at g b i) (behind_in g b each drawn i x there) c_in (apart_behind (cs g b) i x (once_beside g b) less there) its also)
 
-      rest_off : within_any g.plan (behind g b each drawn i) context ≡ false
+      pub rest_off : within_any g.plan (behind g b each drawn i) context ≡ false
       rest_off = within_none g.plan (behind g b each drawn i) context (λ x there within. off x (behind_in g b each drawn i x there) within)
 
-      clear_end : IsOpen context (after_it g b each drawn i).state
+      pub clear_end : IsOpen context (after_it g b each drawn i).state
       clear_end = λ number past. ends.ends.level.numbered.beyond context key number place_is past
 
-      same_end : (number : ℕ) → HasNumberIn g.run key number → events_at (cell g b number context) (until g b) ≡ events_at (cell g b number context) (first_seen (u_of g b i).first)
+      pub same_end : (number : ℕ) → HasNumberIn g.run key number → events_at (cell g b number context) (until g b) ≡ events_at (cell g b number context) (first_seen (u_of g b i).first)
       same_end number has =
           same_there g.h (first_seen (u_of g b i).first) (until g b) (cell g b number context) (ended_at g b i less) (until_in_h g b) (λ place event low high there on.
           let first = shorter (since g b) (first_seen (s_of g b i).first) (begun_at g b i less) in

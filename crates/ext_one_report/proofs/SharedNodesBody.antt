@@ -39,6 +39,8 @@ use Rattle.ext_one_report.proofs.Standings.{matched_empty}
 use Rattle.ext_one_report.proofs.Open.{AreNear, Computes, is_open, some_or_none}
 use Rattle.ext_one_report.specs.Shares.{Open}
 use Rattle.ext_one_report.proofs.Shared.{unshared}
+use Rattle.ext_one_report.proofs.SharedFresh.{IsFresh}
+use Rattle.ext_one_report.specs.Within.{is_within}
 use Rattle.ext_one_report.proofs.OpenStep.{open_value, value_is_open}
 use Rattle.ext_one_report.proofs.FullRuns.{setting_in}
 use Rattle.ext_one_report.proofs.Levels.{AreLevel}
@@ -133,7 +135,7 @@ module _ (g : Ground) where
   abbrev pub ClosedFor : Open → RunState → Type 0
   ClosedFor o r = IsClosedAbove g.plan (plan_path g.plan g.node) o r.state
 
-  child_on : (c : ℕ) → IsChild c → IsPathOf ids c (c ∷ g.path)
+  pub child_on : (c : ℕ) → IsChild c → IsPathOf ids c (c ∷ g.path)
   child_on c parent = child_path ids g.node c g.path path_in parent
 
   pub child_stays : (c : ℕ) (o : Open) (r : RunState) → IsChild c → ClosedFor o r → ClosedFor o (step r c)
@@ -178,6 +180,8 @@ pub record Body (g : Ground) : Type 0 where
   pub near : AreNear g.run o (first_seen opened.first) r.state
   -- what its own callbacks and those of nodes above computed is not open, and stands in the plain run
   pub closed : IsClosedAbove g.plan (plan_path g.plan g.node) o r.state
+  -- nothing stands in the contexts of its children and of those below them
+  pub fresh : (child context : ℕ) → IsChild g child → context < length g.plan.nodes → is_within g.plan child context ≡ true → IsFresh context r.state
 
 module _ (g : Ground) (b : Body g) where
   abbrev pub cs : List ℕ

@@ -1,5 +1,5 @@
 -- The callbacks of a container, on the first of its lanes and in the plain run: from before them to after them, where some of their steps compute values at open places.
-use Rattle.std.proofs.Common.{◌≡◌, ℕ, ◌+◌, ◌<◌, ◌&&◌, inl, inr, true, not, drop, List, [], ◌∷◌, ◌++◌, append-nil, length, None, Some, refl, ap, sym, subst, ◌∙◌, arith}
+use Rattle.std.proofs.Common.{◌≡◌, ℕ, ◌≤◌, ◌+◌, ◌<◌, ◌&&◌, inl, inr, true, not, drop, List, [], ◌∷◌, ◌++◌, append-nil, length, None, Some, refl, ap, sym, subst, ◌∙◌, arith}
 use Rattle.std.specs.Prelude.{All, Contains}
 use Rattle.std.specs.List.{flat_map}
 use Rattle.std.proofs.lemmas.List.Elements.{All-contains, All-head, All-tail, Contains-get_or}
@@ -37,6 +37,8 @@ use Rattle.ext_one_report.proofs.MatchingWords.{Matches, Places, RunView, cell_o
 use Rattle.ext_one_report.proofs.StepsWords.{IsLaneIn}
 use Rattle.ext_one_report.proofs.CallLists.{all_alike, befores_first}
 use Rattle.ext_one_report.proofs.Matching.{matches_at_fewer, numbered_at_fewer}
+use Rattle.ext_one_report.proofs.Orders.{Orders}
+use Rattle.ext_one_report.proofs.OrdersBounds.{orders_kept}
 use Rattle.ext_one_report.proofs.Fills.{Fills, IsFilledBy, IsFilledIn, Spot}
 use Rattle.ext_one_report.proofs.FillsLanes.{filled_by, filled_in, none_filled}
 use Rattle.ext_one_report.proofs.FillsLaws.{fills_as, fills_none}
@@ -287,6 +289,20 @@ module _ (g : Ground) where
       pub plain : ℕ
       pub plain_is : end.computed ≡ had + plain
       pub fills : Fills (IsFilledIn g.run g.h xs ys) o later s (computed_in made) plain
+      pub rises : s.store.drawn ≤ end.state.store.drawn
+      pub orders : Orders g.run places (first_seen xs) (first_seen ys) s end.state
+
+    -- in one order for all lanes of the node
+    its_orders : (t : ValueState) → Orders g.run places (seen_by a.cells.view) (seen_by b.cells.view) s t → Orders g.run places (first_seen xs) (first_seen ys) s t
+    its_orders t orders =
+        subst (λ (l : List PlanLane). Orders g.run places (first_seen l) (first_seen ys) s t) (sym was)
+        (subst (λ (l : List PlanLane). Orders g.run places (first_seen (a ∷ rest)) (first_seen l) s t) (sym is) orders)
+
+    no_orders : a ≡ b → Orders g.run places (first_seen xs) (first_seen ys) s s
+    no_orders same =
+        let one : xs ≡ ys = was ∙ (ap (λ (x : PlanLane). x ∷ rest) same ∙ sym is) in
+        subst (λ (l : List PlanLane). Orders g.run places (first_seen xs) (first_seen l) s s) one
+        (orders_kept g.run places (first_seen xs) (first_seen xs) s s since.level.matches since.level.numbered (λ context key number here has. refl) (λ context key here. refl))
 
     -- and after the callbacks before its body: where all were successful, nothing is open still that they compute
     pub record Opened (outcomes : List Outcome) (end : CallsEnd) : Type 0 where
@@ -307,6 +323,8 @@ module _ (g : Ground) where
         plain = 0;
         plain_is = refl;
         fills = subst (λ (l : List Outcome). Fills (IsFilledIn g.run g.h xs ys) o o s (computed_in l) 0) (sym made.0) (no_fills (sym made.1) 0);
+        rises = omega arith;
+        orders = no_orders (sym made.1);
       };
       settles = λ all.
           subst (λ (l : List Call). NoneOpen g.plan.keys g.path o (flat_map (steps_of_call g.plan) l)) (sym are_its)
@@ -331,6 +349,8 @@ module _ (g : Ground) where
             plain = (make_befores (call_run g.plan g.path) all (no_calls s)).computed;
             plain_is = omega arith;
             fills = its_fills (still_open both.1.settled o) (computed_in os) (make_befores (call_run g.plan g.path) all (no_calls s)).computed both.3;
+            rises = both.1.rises;
+            orders = its_orders (make_befores (call_run g.plan g.path) all (no_calls s)).state both.1.orders;
           };
           settles = λ successful.
               subst (λ (l : List Call). NoneOpen g.plan.keys g.path (still_open both.1.settled o) (flat_map (steps_of_call g.plan) l)) (sym are_its) (both.2 successful);
@@ -347,6 +367,8 @@ module _ (g : Ground) where
       plain = 0;
       plain_is = omega arith;
       fills = subst (λ (l : List Outcome). Fills (IsFilledIn g.run g.h xs ys) o o s (computed_in l) 0) (sym made.0) (no_fills (sym made.1) 0);
+      rises = subst (λ (t : ValueState). s.store.drawn ≤ t.store.drawn) (sym at) (omega arith);
+      orders = subst (λ (t : ValueState). Orders g.run places (first_seen xs) (first_seen ys) s t) (sym at) (no_orders (sym made.1));
     }
     all_called (call ∷ calls) before os e at near counted own are_its made drawn =
         let all = call ∷ calls in
@@ -376,4 +398,6 @@ module _ (g : Ground) where
           plain = leaves_all.1;
           plain_is = leaves_all.2;
           fills = its_fills (still_open leaves.settled o) (computed_in os) leaves_all.1 leaves_all.3;
+          rises = leaves.rises;
+          orders = its_orders last.state leaves.orders;
         }

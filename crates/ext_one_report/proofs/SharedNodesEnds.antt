@@ -1,11 +1,12 @@
 -- Nodes with all nodes below them that share values with nodes beside them: on the lanes and in the plain run they end near.
-use Rattle.std.proofs.Common.{◌≡◌, ◌≢◌, ℕ, zero, suc, ◌+◌, ◌-◌, ◌<◌, ◌≤◌, ◌==◌, ◌&&◌, inl, inr, true, false, not, drop, fold, List, [], ◌∷◌, ◌++◌, length, None, Some, ap, refl, sym, subst, ◌∙◌, arith}
+use Rattle.std.proofs.Common.{◌≡◌, ◌≢◌, ℕ, zero, suc, ◌+◌, ◌-◌, ◌<◌, ◌≤◌, ◌==◌, ◌&&◌, ◌||◌, eq-eqb, inl, inr, true, false, not, drop, fold, List, [], ◌∷◌, ◌++◌, length, None, Some, ap, refl, sym, subst, ◌∙◌, arith}
 use Rattle.std.specs.Prelude.{All, Contains, is_some}
 use Rattle.std.proofs.lemmas.Bool.{eqb-true}
 use Rattle.std.proofs.lemmas.Grind.{fold-append}
 use Rattle.std.proofs.lemmas.List.Elements.{All-append, All-contains, Contains-get_or}
 use Rattle.std.proofs.lemmas.List.Sums.{sum_by-append}
 use Rattle.ext_history.specs.Histories.{seen_by}
+use Rattle.ext_history.proofs.Legal.{legal_begun}
 use Rattle.ext_history.proofs.Lists.{bools, contains_cons, contains_here, contains_none}
 use Rattle.ext_model.specs.Events.{place_of}
 use Rattle.ext_model.specs.History.{History}
@@ -33,12 +34,12 @@ use Rattle.ext_engine.specs.Meeting.{HasSeenWithin, first_seen}
 use Rattle.ext_engine.specs.Order.{AllGoOn, CallsGoOn, ChildRun, IsMadeIn}
 use Rattle.ext_engine.specs.TreeRun.{ClosesNode, ContainerRun, Lanes, Ran, TestRun, TreeSetting}
 use Rattle.ext_engine.proofs.Above.{Under, parent_first, under_child, under_itself, under_order}
-use Rattle.ext_engine.proofs.Acts.{Acts, all_made_then}
+use Rattle.ext_engine.proofs.Acts.{Acts, all_made_then, heads_go}
 use Rattle.ext_engine.proofs.Going.{all_go, befores_go}
 use Rattle.ext_engine.proofs.Order.{came_from}
 use Rattle.ext_engine.proofs.Seen.{acts_then, called_acts, closed_acts, opened_acts}
 use Rattle.ext_one_report.proofs.Containers.{Tree, at, body_acts_in, go}
-use Rattle.ext_one_report.proofs.Parts.{no_acts}
+use Rattle.ext_one_report.proofs.Parts.{first_within, no_acts}
 use Rattle.ext_parallel.specs.declared.steps.stored_value.StoredValue.{StoredValue}
 use Rattle.ext_parallel.specs.StoreCalls.{PlanLane}
 use Rattle.ext_plain.specs.ValueStates.{ValueState}
@@ -53,6 +54,13 @@ use Rattle.ext_one_report.proofs.StepsWords.{IsLaneIn}
 use Rattle.ext_one_report.specs.Within.{is_within}
 use Rattle.ext_one_report.proofs.FrameNodes.{afters_own, befores_own, within_nodes}
 use Rattle.ext_one_report.proofs.FrameSteps.{seals_leave}
+use Rattle.ext_one_report.proofs.OfPlan.{IsOfPlan}
+use Rattle.ext_one_report.proofs.Orders.{AreInOrder, HaveDrawn, Orders}
+use Rattle.ext_one_report.proofs.OrdersBounds.{have_drawn}
+use Rattle.ext_one_report.proofs.OrdersHistory.{prefix_rises}
+use Rattle.ext_one_report.proofs.OrdersLaws.{orders_fewer, orders_fresh, orders_same, orders_then}
+use Rattle.ext_one_report.proofs.SharedFresh.{IsFresh}
+use Rattle.ext_one_report.proofs.SharedFreshCalls.{fresh_befores}
 use Rattle.ext_one_report.proofs.Fills.{Fills, IsFilledIn, Spot, computed_at, computed_of, computed_told}
 use Rattle.ext_one_report.proofs.FillsCounts.{computed_is, of_first, told_first, told_later}
 use Rattle.ext_one_report.proofs.FillsLanes.{filled_first, filled_then, none_filled}
@@ -63,17 +71,17 @@ use Rattle.ext_one_report.specs.Shares.{Open, AreToldNear}
 use Rattle.ext_one_report.proofs.OpenSteps.{StandsInBoth}
 use Rattle.ext_one_report.proofs.Shared.{unshared}
 use Rattle.ext_one_report.proofs.OpenStep.{open_value, value_is_open}
-use Rattle.ext_one_report.proofs.Closes.{ClosesLevel}
+use Rattle.ext_one_report.proofs.Closes.{ClosesLevel, IsClosedAlone}
 use Rattle.ext_one_report.proofs.FullRuns.{setting_in}
 use Rattle.ext_one_report.proofs.Levels.{AreLevel, besides, outside}
 use Rattle.ext_one_report.proofs.SharedNodesWords.{AllToldNear, AreComputed, AreOwn, AreUntouched, BeginsNear, IsSharedBasis, NodesEndNear}
-use Rattle.ext_one_report.proofs.CloseEnds.{sealed_slot, closes_end_level}
+use Rattle.ext_one_report.proofs.CloseEnds.{close_orders, sealed_slot, closes_end_level}
 use Rattle.ext_one_report.proofs.ClosePlain.{plain_seals_places}
 use Rattle.ext_one_report.proofs.ComputedAbove.{IsClosedAbove, NoneOpenAbove}
 use Rattle.ext_one_report.proofs.KeptAbove.{body_closed}
 use Rattle.ext_one_report.proofs.LanesAlone.{lanes_in, view_moves}
 use Rattle.ext_one_report.proofs.NodeTrees.{path_short, its_path, long, path_apart, within_itself, within_parent}
-use Rattle.ext_one_report.proofs.NodePlaces.{and_both, and_of, away, away_first, away_is, both_ways, from_not, level_fewer, never, or_either}
+use Rattle.ext_one_report.proofs.NodePlaces.{and_both, and_of, away, away_first, away_is, both_ways, from_not, level_fewer, never, or_either, or_first, or_second}
 use Rattle.ext_one_report.proofs.NodePlain.{IsFine, children_fine, children_leave}
 use Rattle.ext_one_report.proofs.NodeRooms.{all_draw, befores_hold}
 use Rattle.ext_one_report.proofs.SharedClosesOpen.{near_after, none_elsewhere, stand_after}
@@ -285,6 +293,18 @@ module _ (g : Ground) (container : is_some (test_of g.plan g.node) ≡ false) (e
     since_opened : Since g w [] opened.called.later lanes_run.opened opened_end.state
     since_opened = since_then g w [] [] o opened.called.later before.first lanes_run.opened r.state opened_end.state no_child no_child (no_acts g.h before.first) opening from_opened since_first opened.called.step
 
+    -- a context below a child is on no path of the container
+    child_off_path : (child context : ℕ) → IsChild g child → is_within g.plan child context ≡ true → ¬ Contains g.path context
+    child_off_path child context parent inside there = path_apart g.plan tree g.node g.path child context (path_in g) parent there inside
+
+    child_in_node : (child context : ℕ) → IsChild g child → context < length g.plan.nodes → is_within g.plan child context ≡ true → is_within g.plan g.node context ≡ true
+    child_in_node child context parent few inside = let size = long g.plan tree in within_parent g.plan tree g.node child context parent (omega (arith, few, size)) inside
+
+    fresh_opened : (child context : ℕ) → IsChild g child → context < length g.plan.nodes → is_within g.plan child context ≡ true → IsFresh context opened_end.state
+    fresh_opened child context parent few inside =
+        (fresh_befores g.plan g.basis.read g.node g.path (path_in g) context (child_off_path child context parent inside) befores (no_calls r.state) befores_its begins.level.memory
+        (begins.fresh context few (child_in_node child context parent few inside))).0
+
     went_on : all_successful opened_end.calls ≡ all_successful (endings_of lanes_run.befores)
     went_on = ap all_successful (sym opened.called.near.says) ∙ texts-successful (endings_of lanes_run.befores)
 
@@ -298,6 +318,9 @@ module _ (g : Ground) (container : is_some (test_of g.plan g.node) ≡ false) (e
         (body_closed g.plan g.basis.read g.node g.path (path_in g) container o opened.called.later r.state begins.closed opened.called.step.fewer
         (none_computed g.plan g.run g.locks g.h g.touched g.changes g.changed g.shares g.basis g.node g.path (path_in g) opened.called.later among_opened (opened.settles all)) all)
 
+    drew_when : (xs : List PlanLane) (q : RunState) → All (HasSeenWithin g.h) xs → IsFine g.plan q → (places : Places) → HaveDrawn g.run places (first_seen xs) q.state
+    drew_when xs q inside fine places = have_drawn g.plan g.run places g.run.store.id.cells.limits (first_seen xs) q.state (legal_begun (first_seen xs) g.h (first_within g.h xs inside) g.basis.legal) fine.of_plan
+
     -- ---- after it
 
     record Bodied : Type 0 where
@@ -307,6 +330,7 @@ module _ (g : Ground) (container : is_some (test_of g.plan g.node) ≡ false) (e
       since : Since g w done open_still lanes_run.body.first bodied_run.state
       fewer : (context : ℕ) (key : KeyValue) (v : ValueText) → open_still context key ≡ Some v → opened.called.later context key ≡ Some v
       fills : Fills (IsFilledIn g.run g.h lanes_run.opened lanes_run.body.first) opened.called.later open_still opened_end.state (computed_of lanes_run.below) (computed_told lanes_run.below bodied_run.results)
+      orders : Orders g.run (away g.plan (first_ones ++ later_ones) (unshared (g.touched g.node) opened.called.later)) (first_seen lanes_run.opened) (first_seen lanes_run.body.first) opened_end.state bodied_run.state
       told : AllToldNear g.shares lanes_run.below r.results bodied_run.results
       under : (k : ℕ) → HasRun lanes_run.below k → (c : ℕ) × IsChild g c × Under (ids g) c k
 
@@ -317,7 +341,7 @@ module _ (g : Ground) (container : is_some (test_of g.plan g.node) ≡ false) (e
         let body = lanes_run.body_made.made on in
         let is = bodied_on (went_on ∙ on) in
         let last : (after_all g (after_all g opened_run first_ones) later_ones).state.store.drawn < most_numbers g.plan.size = subst (λ (q : RunState). q.state.store.drawn < most_numbers g.plan.size) is bodied_drawn in
-        let turned = body_turned g w each begun lanes_run.below lanes_run.body body bodied_in bodied_within opening from_bodied opened.called.later opened_run opened_fine since_opened (closed_opened (went_on ∙ on)) last in
+        let turned = body_turned g w each begun lanes_run.below lanes_run.body body bodied_in bodied_within opening from_bodied opened.called.later opened_run opened_fine since_opened (closed_opened (went_on ∙ on)) last fresh_opened in
         record {
           done = turned.done;
           are = turned.are;
@@ -325,6 +349,8 @@ module _ (g : Ground) (container : is_some (test_of g.plan g.node) ≡ false) (e
           fewer = turned.fewer;
           fills = subst (λ (q : RunState). Fills (IsFilledIn g.run g.h lanes_run.opened lanes_run.body.first) opened.called.later turned.open_still opened_end.state (computed_of lanes_run.below) (computed_told lanes_run.below q.results))
               (sym is) turned.fills;
+          orders = subst (λ (q : RunState). Orders g.run (away g.plan (first_ones ++ later_ones) (unshared (g.touched g.node) opened.called.later)) (first_seen lanes_run.opened) (first_seen lanes_run.body.first) opened_end.state q.state)
+              (sym is) turned.orders;
           since = subst (λ (q : RunState). Since g w turned.done turned.open_still lanes_run.body.first q.state) (sym is) turned.since;
           told = subst (λ (q : RunState). AllToldNear g.shares lanes_run.below r.results q.results) (sym is) turned.below.told;
           under = λ k has.
@@ -346,6 +372,10 @@ module _ (g : Ground) (container : is_some (test_of g.plan g.node) ≡ false) (e
           fills = subst (λ (l : List Ran). Fills (IsFilledIn g.run g.h lanes_run.opened lanes_run.body.first) opened.called.later opened.called.later opened_end.state (computed_of l) (computed_told l bodied_run.results)) (sym skipped.0)
               (subst (λ (l : List PlanLane). Fills (IsFilledIn g.run g.h lanes_run.opened l) opened.called.later opened.called.later opened_end.state 0 0) same
               (fills_none (IsFilledIn g.run g.h lanes_run.opened lanes_run.opened) opened.called.later opened_end.state 0 (λ spot v opens filled. none_filled g.run g.h lanes_run.opened spot filled)));
+          orders = subst (λ (q : RunState). Orders g.run (away g.plan (first_ones ++ later_ones) (unshared (g.touched g.node) opened.called.later)) (first_seen lanes_run.opened) (first_seen lanes_run.body.first) opened_end.state q.state) (sym is)
+              (subst (λ (l : List PlanLane). Orders g.run (away g.plan (first_ones ++ later_ones) (unshared (g.touched g.node) opened.called.later)) (first_seen lanes_run.opened) (first_seen l) opened_end.state opened_end.state) same
+              (orders_same g.run (away g.plan (first_ones ++ later_ones) (unshared (g.touched g.node) opened.called.later)) (first_seen lanes_run.opened) (first_seen lanes_run.opened) opened_end.state opened_end.state
+              (drew_when lanes_run.opened opened_run opened_within opened_fine (away g.plan (first_ones ++ later_ones) (unshared (g.touched g.node) opened.called.later))) (λ context key number here has. refl) (λ context key here. refl)));
           since = subst (λ (q : RunState). Since g w [] opened.called.later lanes_run.body.first q.state) (sym is) (subst (λ (l : List PlanLane). Since g w [] opened.called.later l opened_run.state) same since_opened);
           told = subst (λ (q : RunState). AllToldNear g.shares lanes_run.below r.results q.results) (sym is) (subst (λ (l : List Ran). AllToldNear g.shares l r.results r.results) (sym skipped.0) (near_none g.shares r.results));
           under = λ k has. absurd (contains_none k (subst (λ (l : List Ran). HasRun l k) skipped.0 has));
@@ -401,6 +431,58 @@ module _ (g : Ground) (container : is_some (test_of g.plan g.node) ≡ false) (e
           | inr some ↦ absurd (elsewhere g.node key some.0 (since_called.fewer g.node key some.0 some.1) refl)
         ])) (λ x among inside. path_apart g.plan tree g.node g.path x g.node (path_in g) (bodied.are x among) own_context inside)
 
+    -- ---- numbers
+
+    -- the places that it touches in contexts that are not below it
+    abbrev mine : Places
+    mine context key = unshared (g.touched g.node) o context key && ((context == g.node) || not (is_within g.plan g.node context))
+
+    mine_parts : (context : ℕ) (key : KeyValue) → mine context key ≡ true → (unshared (g.touched g.node) o context key ≡ true) × ((context == g.node) || not (is_within g.plan g.node context) ≡ true)
+    mine_parts context key is = and_both (unshared (g.touched g.node) o context key) ((context == g.node) || not (is_within g.plan g.node context)) is
+
+    -- no child has them in its context
+    mine_off : (context : ℕ) (key : KeyValue) → mine context key ≡ true → (x : ℕ) → IsChild g x → is_within g.plan x context ≡ true → ⊥
+    mine_off context key is x parent inside =
+        let parts = mine_parts context key is in
+        let few = g.basis.covered.within g.node context key (unshared_parts (g.touched g.node) o context key parts.0).0 in
+        elim (or_either (context == g.node) (not (is_within g.plan g.node context)) parts.1) [
+          | inl own ↦ child_off_path x context parent inside (subst (Contains g.path) (sym (eqb-true context g.node own)) own_context)
+          | inr out ↦ both_ways (is_within g.plan g.node context) (child_in_node x context parent few inside) (from_not (is_within g.plan g.node context) out)
+        ]
+
+    mine_away : (q : Open) (xs : List ℕ) → ((context : ℕ) (key : KeyValue) (v : ValueText) → q context key ≡ Some v → o context key ≡ Some v) → ((x : ℕ) → Contains xs x → IsChild g x) → (context : ℕ) (key : KeyValue)
+        → mine context key ≡ true → away g.plan xs (unshared (g.touched g.node) q) context key ≡ true
+    mine_away q xs fewer children context key is =
+        let parts = unshared_parts (g.touched g.node) o context key (mine_parts context key is).0 in
+        let none : q context key ≡ None = elim (some_or_none (q context key)) [
+          | inl none ↦ none
+          | inr some ↦ not_both (o context key) some.0 parts.1 (fewer context key some.0 some.1)
+        ] in
+        away_is g.plan xs (unshared (g.touched g.node) q) context key (unshared_is (g.touched g.node) q context key parts.0 none) (λ x among inside. mine_off context key is x (children x among) inside)
+
+    all_children_are : (x : ℕ) → Contains (first_ones ++ later_ones) x → IsChild g x
+    all_children_are x there = All-contains (IsChild g) (first_ones ++ later_ones) x (All-append (IsChild g) first_ones later_ones first_children later_children) there
+
+    called_fine_of : IsOfPlan g.plan called_end.state
+    called_fine_of = since_called.level.of_plan
+
+    orders_called : Orders g.run mine (first_seen before.first) (first_seen lanes_run.ends.called) r.state called_end.state
+    orders_called =
+        let to_opened = orders_fewer g.run (away g.plan [] (unshared (g.touched g.node) o)) mine (first_seen before.first) (first_seen lanes_run.opened) r.state opened_end.state
+        (mine_away o [] (λ context key v opens. opens) no_child) opened.called.orders in
+        let in_body = orders_fewer g.run (away g.plan (first_ones ++ later_ones) (unshared (g.touched g.node) opened.called.later)) mine (first_seen lanes_run.opened) (first_seen lanes_run.body.first) opened_end.state bodied_run.state
+        (mine_away opened.called.later (first_ones ++ later_ones) opened.called.step.fewer all_children_are) bodied.orders in
+        let behind = orders_fewer g.run (away g.plan bodied.done (unshared (g.touched g.node) bodied.open_still)) mine (first_seen lanes_run.body.first) (first_seen lanes_run.ends.called) bodied_run.state called_end.state
+        (mine_away bodied.open_still bodied.done (λ context key v opens. opened.called.step.fewer context key v (bodied.fewer context key v opens)) bodied.are) called.orders in
+        let rises = kept.drawn in
+        let first_rises = opened.called.rises in
+        orders_then g.run mine (first_seen before.first) (first_seen lanes_run.body.first) (first_seen lanes_run.ends.called) r.state bodied_run.state called_end.state
+        (prefix_rises (first_seen before.first) (first_seen lanes_run.body.first) (heads_go before.first lanes_run.body.first to_bodied.goes)) (omega (arith, rises, first_rises))
+        (drew_when lanes_run.body.first bodied_run bodied_within kept.fine mine)
+        (orders_then g.run mine (first_seen before.first) (first_seen lanes_run.opened) (first_seen lanes_run.body.first) r.state opened_end.state bodied_run.state
+        (prefix_rises (first_seen before.first) (first_seen lanes_run.opened) (heads_go before.first lanes_run.opened opening.goes)) opened.called.rises
+        (drew_when lanes_run.opened opened_run opened_within opened_fine mine) to_opened in_body) behind
+
     abbrev lane : PlanLane
     lane = lanes_run.ends.afters_made.left
 
@@ -423,11 +505,29 @@ module _ (g : Ground) (container : is_some (test_of g.plan g.node) ≡ false) (e
     level_called : AreLevel g.plan g.run around (seen_by lane.cells.view) called_end.state
     level_called = subst (λ (l : List PlanLane). AreLevel g.plan g.run around (first_seen l) called_end.state) lanes_run.ends.afters_made.first_is since_called.level
 
+    -- so what is closed is in one order: nothing stood in its context before
+    mine_own : (key : KeyValue) → mine g.node key ≡ true
+    mine_own key =
+        let touched = g.basis.covered.touches g.node g.node key (g.basis.covered.own g.node key less) in
+        let none : o g.node key ≡ None = elim (some_or_none (o g.node key)) [
+          | inl none ↦ none
+          | inr some ↦ absurd (elsewhere g.node key some.0 some.1 refl)
+        ] in
+        and_of (unshared (g.touched g.node) o g.node key) ((g.node == g.node) || not (is_within g.plan g.node g.node)) (unshared_is (g.touched g.node) o g.node key touched none)
+        (or_first (g.node == g.node) (not (is_within g.plan g.node g.node)) (eq-eqb g.node g.node refl))
+
+    in_order : AreInOrder g.run g.node (seen_by lane.cells.view) called_end.state
+    in_order = subst (λ (l : List PlanLane). AreInOrder g.run g.node (first_seen l) called_end.state) lanes_run.ends.afters_made.first_is
+        (orders_fresh g.run mine (first_seen before.first) (first_seen lanes_run.ends.called) r.state called_end.state g.node
+        (λ key. (begins.fresh g.node less (within_itself g.plan tree g.node g.path (path_in g))).none key) mine_own orders_called)
+
+    alone : IsClosedAlone g.plan g.run g.locks g.h g.touched g.changes g.changed g.shares g.node around lane rest lanes_run.ends.faults after.first
+    alone = record { basis = g.basis; inside = less; closes = closes; within = begins.within; lanes = begins.lanes; own = own_close; all = around_own }
+
     closed : ClosesLevel g.plan g.run g.node around false (lanes_run.befores ++ lanes_run.ends.afters) lanes_run.ends.faults (first_seen after.first) said
     closed =
         closes_end_level g.plan g.run g.locks g.h g.touched g.changes g.changed g.shares g.node false around lane rest (lanes_run.befores ++ lanes_run.ends.afters) lanes_run.ends.faults after.first said
-        (record { basis = g.basis; inside = less; closes = closes; within = begins.within; lanes = begins.lanes; own = own_close; all = around_own })
-        level_called (record { says = called.near.says; computed = refl; found = refl; matches = level_called.matches; numbered = level_called.numbered })
+        alone level_called in_order (record { says = called.near.says; computed = refl; found = refl; matches = level_called.matches; numbered = level_called.numbered })
 
     -- ---- what is told
 
@@ -616,6 +716,37 @@ module _ (g : Ground) (container : is_some (test_of g.plan g.node) ≡ false) (e
 
     -- ---- all of it
 
+    -- what is outside and was not open when it began is its own, and around it in another context
+    abbrev out : Places
+    out = outside g.plan g.node (unshared (g.touched g.node) o)
+
+    out_mine : (context : ℕ) (key : KeyValue) → out context key ≡ true → mine context key ≡ true
+    out_mine context key is =
+        let parts = and_both (unshared (g.touched g.node) o context key) (not (is_within g.plan g.node context)) is in
+        and_of (unshared (g.touched g.node) o context key) ((context == g.node) || not (is_within g.plan g.node context)) parts.0 (or_second (context == g.node) (not (is_within g.plan g.node context)) parts.1)
+
+    out_around : (context : ℕ) (key : KeyValue) → out context key ≡ true → besides g.node around context key ≡ true
+    out_around context key is =
+        let parts = and_both (unshared (g.touched g.node) o context key) (not (is_within g.plan g.node context)) is in
+        let other : (context == g.node) ≡ false = never (context == g.node) (λ own.
+        both_ways (is_within g.plan g.node context) (subst (λ k. is_within g.plan g.node k ≡ true) (sym (eqb-true context g.node own)) (within_itself g.plan tree g.node g.path (path_in g))) (from_not (is_within g.plan g.node context) parts.1)) in
+        and_of (around context key) (not (context == g.node)) (mine_away last bodied.done since_called.fewer bodied.are context key (out_mine context key is)) (ap not other)
+
+    orders_ended : Orders g.run out (first_seen before.first) (first_seen after.first) r.state sealed
+    orders_ended =
+        let called_rises = called.rises in
+        let rises = kept.drawn in
+        let first_rises = opened.called.rises in
+        let close : Orders g.run (besides g.node around) (first_seen lanes_run.ends.called) (first_seen after.first) called_end.state sealed =
+        subst (λ (l : List PlanLane). Orders g.run (besides g.node around) (first_seen l) (first_seen after.first) called_end.state sealed) (sym lanes_run.ends.afters_made.first_is)
+        (close_orders g.plan g.run g.locks g.h g.touched g.changes g.changed g.shares g.node around lane rest lanes_run.ends.faults after.first alone called_end.state level_called) in
+        orders_then g.run out (first_seen before.first) (first_seen lanes_run.ends.called) (first_seen after.first) r.state called_end.state sealed
+        (prefix_rises (first_seen before.first) (first_seen lanes_run.ends.called) (heads_go before.first lanes_run.ends.called to_called.goes)) (omega (arith, called_rises, rises, first_rises))
+        (have_drawn g.plan g.run out g.run.store.id.cells.limits (first_seen lanes_run.ends.called) called_end.state
+        (legal_begun (first_seen lanes_run.ends.called) g.h (first_within g.h lanes_run.ends.called called_within) g.basis.legal) called_fine_of)
+        (orders_fewer g.run mine out (first_seen before.first) (first_seen lanes_run.ends.called) r.state called_end.state out_mine orders_called)
+        (orders_fewer g.run (besides g.node around) out (first_seen lanes_run.ends.called) (first_seen after.first) called_end.state sealed out_around close)
+
     pub container_near : Ends g.plan g.run g.locks g.h g.touched g.changes g.changed g.shares g.node o before ran after r (container_run g.plan (node_run g.plan g.levels) g.node g.path r)
     container_near =
         let told = near_own g.shares lanes_run.own lanes_run.below r.results bodied_run.results outcome own_told own_less own_apart bodied.told in
@@ -635,6 +766,7 @@ module _ (g : Ground) (container : is_some (test_of g.plan g.node) ≡ false) (e
             untouched = untouched;
             told = subst (λ (l : List Ran). AllToldNear g.shares l r.results (with_result outcome bodied_run.results)) (sym lanes_run.ran_are) told;
             fills = fills;
+            orders = orders_ended;
           };
           under = subst (λ (l : List Ran). (k : ℕ) → HasRun l k → Under (ids g) g.node k) (sym lanes_run.ran_are) under_it;
         }

@@ -1,9 +1,10 @@
 -- The other children of a container, one after another: from before one of them to after it, and so for all.
-use Rattle.std.proofs.Common.{◌≡◌, ◌≢◌, ℕ, ◌+◌, ◌<◌, inl, inr, true, false, not, drop, List, [], ◌∷◌, None, Some, ap, sym, subst, ◌∙◌}
+use Rattle.std.proofs.Common.{◌≡◌, ◌≢◌, ℕ, ◌+◌, ◌<◌, arith, inl, inr, true, false, not, drop, List, [], ◌∷◌, length, None, Some, refl, ap, sym, subst, ◌∙◌}
 use Rattle.std.specs.Prelude.{All, Contains, if◌then◌else◌}
 use mathlib.Core.List.{IsPrefix}
 use base.Growing.{prefix_trans}
 use Rattle.std.proofs.lemmas.List.Elements.{All-contains, Contains-get_or}
+use Rattle.ext_history.proofs.Legal.{legal_begun}
 use Rattle.ext_history.proofs.Lists.{bools, contains_cons, contains_here, contains_later}
 use Rattle.ext_model.specs.Events.{place_of}
 use Rattle.ext_model.specs.History.{slots_in}
@@ -18,6 +19,10 @@ use Rattle.ext_engine.proofs.Seen.{acts_then}
 use Rattle.ext_engine.proofs.Acts.{Acts, heads_go}
 use Rattle.ext_one_report.specs.Changing.{events_at}
 use Rattle.ext_one_report.proofs.Kept.{same_there}
+use Rattle.ext_one_report.proofs.OnCells.{same_slot}
+use Rattle.ext_one_report.proofs.Orders.{HaveDrawn, Orders, StandWith}
+use Rattle.ext_one_report.proofs.OrdersBounds.{have_drawn}
+use Rattle.ext_one_report.proofs.OrdersLaws.{stood_there}
 use Rattle.ext_one_report.proofs.Parts.{first_within, no_acts}
 use Rattle.ext_parallel.specs.declared.steps.stored_value.StoredValue.{StoredValue}
 use Rattle.ext_parallel.specs.StoreCalls.{PlanLane}
@@ -45,6 +50,7 @@ use Rattle.ext_one_report.proofs.KeptAbove.{fewer_closed}
 use Rattle.ext_one_report.proofs.LanesAlone.{computed_part}
 use Rattle.ext_one_report.proofs.LanesApart.{AreApart, apart_before}
 use Rattle.ext_one_report.proofs.SharedClosesOpen.{computed_fewer}
+use Rattle.ext_one_report.proofs.SharedFresh.{IsFresh}
 use Rattle.ext_one_report.proofs.SharedNodesBeside.{above_same, off_above, off_node}
 use Rattle.ext_one_report.proofs.SharedNodesBody.{ChildrenEnd, ClosedFor, Ends, Ground, IsChild, child_stays, closed_child, over, path_in, step}
 use Rattle.ext_one_report.proofs.SharedNodesCells.{near_stay}
@@ -133,7 +139,8 @@ module _ (g : Ground) (w : Whole g) where
 
   module _ (each : ChildrenEnd g) (c : ℕ) (parent : IsChild g c) (before : List ℕ) (others : (x : ℕ) → Contains before x → IsChild g x × (x ≢ c)) (o : Open) (s : Lanes StoredValue) (ran : List Ran) (m : Lanes StoredValue) (r : RunState)
       (child : ChildRun (over g) g.depth c s ran m) (m_within : All (HasSeenWithin g.h) m.first) (m_known : All (IsLaneIn g.run) m.first) (pre : Acts g.h w.first s.first) (acts : Acts g.h s.first m.first)
-      (post : Acts g.h m.first w.last) (fine : IsFine g.plan r) (since : Since before o s.first r.state) (drawn : (step g r c).state.store.drawn < most_numbers g.plan.size) (closed : ClosedFor g o r) where
+      (post : Acts g.h m.first w.last) (fine : IsFine g.plan r) (since : Since before o s.first r.state) (drawn : (step g r c).state.store.drawn < most_numbers g.plan.size) (closed : ClosedFor g o r)
+      (fresh : (context : ℕ) → context < length g.plan.nodes → is_within g.plan c context ≡ true → IsFresh context r.state) where
     abbrev oc : Open
     oc = only_touched (g.touched c) o
 
@@ -187,6 +194,7 @@ module _ (g : Ground) (w : Whole g) where
       };
       closed = closed_child g c oc r parent (fewer_closed g.plan (plan_path g.plan g.node) o oc r.state (λ context key v is. (touched_parts (g.touched c) o context key v is).1) closed);
       results = fine.count;
+      fresh = fresh;
     }
 
     pub ends_c : Ends g.plan g.run g.locks g.h g.touched g.changes g.changed g.shares c oc s ran m r (step g r c)
@@ -399,3 +407,65 @@ module _ (g : Ground) (w : Whole g) where
         let ch = made_changes g.plan g.run g.locks g.h g.touched g.changes g.changed g.shares g.basis g.depth c s ran m child m_within spot.0 filled.number filled.place spot.1 filled.event
         (g.basis.covered.within g.node spot.0 spot.1 (touched_node spot.0 spot.1 v is)) filled.has filled.there (ap place_of filled.act) filled.made in
         (v, touched_open (g.touched c) o spot.0 spot.1 v (g.basis.covered.touches c spot.0 spot.1 ch) is)) ends_c.ends.fills
+
+    -- ---- numbers
+
+    -- the lanes and the plain run before it have drawn what stands
+    drew_c : HaveDrawn g.run (λ context key. true) (first_seen s.first) r.state
+    drew_c =
+        let on = prefix_trans (first_seen s.first) (first_seen m.first) g.h (heads_go s.first m.first acts.goes) (first_within g.h m.first m_within) in
+        have_drawn g.plan g.run (λ context key. true) g.run.store.id.cells.limits (first_seen s.first) r.state (legal_begun (first_seen s.first) g.h on g.basis.legal) since.level.of_plan
+
+    abbrev pub places_c : Places
+    places_c = away g.plan (c ∷ before) (unshared (g.touched g.node) o)
+
+    -- what was not open before it is not open after it
+    place_later : (context : ℕ) (key : KeyValue) → places_c context key ≡ true → away g.plan (c ∷ before) (unshared (g.touched g.node) later_c) context key ≡ true
+    place_later context key is =
+        let parts = unshared_parts (g.touched g.node) o context key (away_first g.plan (c ∷ before) (unshared (g.touched g.node) o) context key is) in
+        away_is g.plan (c ∷ before) (unshared (g.touched g.node) later_c) context key (unshared_is (g.touched g.node) later_c context key parts.0 (none_later context key parts.1))
+        (λ x there within. away_from g.plan (c ∷ before) (unshared (g.touched g.node) o) context key is x there within)
+      where
+        none_later : (context : ℕ) (key : KeyValue) → o context key ≡ None → later_c context key ≡ None
+        none_later context key none = elim (some_or_none (later_c context key)) [
+          | inl is ↦ is
+          | inr some ↦ not_both (o context key) some.0 none (still_parts settled o context key some.0 some.1).1
+        ]
+
+    -- what the child touches of them it touches alone
+    its_own_place : (context : ℕ) (key : KeyValue) → places_c context key ≡ true → g.touched c context key ≡ true → outside g.plan c (unshared (g.touched c) oc) context key ≡ true
+    its_own_place context key is touched =
+        let parts = unshared_parts (g.touched g.node) o context key (away_first g.plan (c ∷ before) (unshared (g.touched g.node) o) context key is) in
+        and_of (unshared (g.touched c) oc context key) (not (is_within g.plan c context)) (unshared_is (g.touched c) oc context key touched (none_touched (g.touched c) o context key parts.1))
+        (ap not (within_c context key (place_later context key is)))
+
+    -- and at the others the same stands as before
+    other_stood : (context : ℕ) (key : KeyValue) (a b : ℕ) → places_c context key ≡ true → g.touched c context key ≡ false → StandWith g.run context key (first_seen m.first) (step g r c).state a b
+        → StandWith g.run context key (first_seen s.first) r.state a b
+    other_stood context key a b is not_touched stands =
+        let place = place_later context key is in
+        stood_there g.run (first_seen s.first) (first_seen m.first) r.state (step g r c).state context key a b
+        (λ number has. same_slot (first_seen m.first) (first_seen s.first) (cell_of g.run number context) (quiet context key place not_touched number has))
+        (leaves_c.slots context key (off context key place not_touched) (within_c context key place) (clear context key place not_touched)) stands
+
+    pub orders_c : Orders g.run places_c (first_seen s.first) (first_seen m.first) r.state (step g r c).state
+    orders_c = record {
+      each = λ context key a b v is stands means fails. elim (bools (g.touched c context key)) [
+        | inl touched ↦ ends_c.ends.orders.each context key a b v (its_own_place context key is touched) stands means fails
+        | inr not_touched ↦ inl (other_stood context key a b is not_touched stands)
+      ];
+      pairs = λ context key other a b d e v w is also stands more means meant fails failed differ new new' less. elim (bools (g.touched c context key)) [
+        | inr not_touched ↦
+            let few = (drew_c.drew context key a b v refl (other_stood context key a b is not_touched stands) means).0 in
+            let late = new.0 in
+            absurd (omega (arith, few, late))
+        | inl touched ↦ elim (bools (g.touched c context other)) [
+          | inr not_touched ↦
+              let few = (drew_c.drew context other d e w refl (other_stood context other d e also not_touched more) meant).0 in
+              let late = new'.0 in
+              absurd (omega (arith, few, late))
+          | inl touched' ↦
+              ends_c.ends.orders.pairs context key other a b d e v w (its_own_place context key is touched) (its_own_place context other also touched') stands more means meant fails failed differ new new' less
+        ]
+      ];
+    }

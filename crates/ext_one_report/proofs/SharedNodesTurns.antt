@@ -1,8 +1,11 @@
 -- All children of a container, on the lanes and in the plain run: the concurrent ones, and then the others.
-use Rattle.std.proofs.Common.{◌≡◌, ◌≢◌, ℕ, ◌<◌, ◌≤◌, inl, inr, ◌+◌, List, [], ◌∷◌, ◌++◌, length, map, Some, refl, ap, sym, subst, ◌∙◌, arith}
+use Rattle.std.proofs.Common.{◌≡◌, ◌≢◌, ℕ, ◌<◌, ◌≤◌, inl, inr, ◌+◌, true, List, [], ◌∷◌, ◌++◌, length, map, None, Some, refl, ap, sym, subst, ◌∙◌, arith}
 use Rattle.std.specs.Prelude.{All, Contains}
 use Rattle.std.specs.List.{FoldsTo, flat_map}
-use Rattle.std.proofs.lemmas.List.Elements.{Contains-get_or}
+use mathlib.Core.List.{IsPrefix}
+use base.Growing.{prefix_refl, prefix_trans}
+use Rattle.std.proofs.lemmas.List.Elements.{Contains-append_left, Contains-append_right, Contains-get_or}
+use Rattle.ext_history.proofs.Legal.{legal_begun}
 use Rattle.ext_history.proofs.Lists.{contains_cons, contains_here, contains_later, contains_none}
 use Rattle.ext_history.proofs.Once.{Once}
 use Rattle.ext_model.specs.Sizes.{most_numbers}
@@ -14,7 +17,9 @@ use Rattle.ext_engine.specs.Meeting.{HasSeenWithin, first_seen}
 use Rattle.ext_engine.specs.Order.{CallsGoOn, ChildRun}
 use Rattle.ext_engine.specs.TreeRun.{BodyRun, Lanes, Ran, with_lanes}
 use Rattle.ext_engine.proofs.Above.{Under}
-use Rattle.ext_engine.proofs.Acts.{Acts}
+use Rattle.ext_engine.proofs.Acts.{Acts, heads_go}
+use Rattle.ext_one_report.proofs.Parts.{first_within}
+use Rattle.ext_one_report.proofs.Open.{some_or_none}
 use Rattle.ext_engine.proofs.Going.{turn_goes}
 use Rattle.ext_engine.proofs.Grown.{Entry}
 use Rattle.ext_engine.proofs.Order.{came_from}
@@ -23,16 +28,25 @@ use Rattle.ext_one_report.proofs.Containers.{Tree, at, go}
 use Rattle.ext_parallel.specs.declared.steps.stored_value.StoredValue.{StoredValue}
 use Rattle.ext_parallel.specs.StoreCalls.{PlanLane}
 use Rattle.ext_plain.specs.PlainRun.{RunState, node_run}
+use Rattle.ext_one_report.proofs.MatchingWords.{Places}
 use Rattle.ext_one_report.proofs.StepsWords.{IsLaneIn}
 use Rattle.ext_one_report.specs.Shares.{Open}
 use Rattle.ext_one_report.proofs.Shared.{unshared}
 use Rattle.ext_one_report.proofs.SharedNodesWords.{AllToldNear}
 use Rattle.ext_one_report.proofs.ChildLists.{once-apart, once-right, only}
-use Rattle.ext_one_report.proofs.NodePlaces.{away, away_is, level_fewer}
+use Rattle.ext_one_report.proofs.NodePlaces.{away, away_first, away_from, away_is, level_fewer}
 use Rattle.ext_one_report.proofs.KeptAbove.{fewer_closed}
 use Rattle.ext_one_report.proofs.LanesAlone.{lanes_in, view_moves}
 use Rattle.ext_one_report.proofs.LanesApart.{apart_before}
-use Rattle.ext_one_report.proofs.NodePlain.{IsFine, child_fine, children_fine, children_leave}
+use Rattle.ext_one_report.proofs.NodePlain.{IsFine, child_fine, child_leaves, children_fine, children_leave}
+use Rattle.ext_one_report.proofs.Orders.{HaveDrawn, Orders}
+use Rattle.ext_one_report.proofs.OrdersBounds.{have_drawn}
+use Rattle.ext_one_report.proofs.OrdersHistory.{prefix_rises}
+use Rattle.ext_one_report.proofs.OrdersLaws.{orders_fewer, orders_same, orders_then}
+use Rattle.ext_one_report.proofs.SharedFresh.{IsFresh, fresh_behind, fresh_beside}
+use Rattle.ext_one_report.proofs.SharedNodesOrders.{beside_orders}
+use Rattle.ext_one_report.proofs.SharedNodesPlaces.{not_both, unshared_is, unshared_parts}
+use Rattle.ext_one_report.specs.Within.{is_within}
 use Rattle.ext_one_report.proofs.SharedNodesPasses.{Passes}
 use Rattle.ext_one_report.proofs.Below.{all_below, none_below, one_below, then_below}
 use Rattle.ext_one_report.proofs.Fills.{Fills, IsFilledIn, computed_of, computed_told}
@@ -46,7 +60,7 @@ use Rattle.ext_one_report.proofs.SharedNodesFills.{beside_fills, first_computed,
 use Rattle.ext_one_report.proofs.SharedNodesGone.{ended_near}
 use Rattle.ext_one_report.proofs.SharedNodesBegins.{once_beside}
 use Rattle.ext_one_report.proofs.SharedNodesTold.{near_none, near_then}
-use Rattle.ext_one_report.proofs.SharedNodesTurn.{Since, Whole, closed_c, computed_then, ends_c, fills_c, fills_next, own_then, passes_c, since_c, since_then}
+use Rattle.ext_one_report.proofs.SharedNodesTurn.{Since, Whole, closed_c, computed_then, ends_c, fills_c, fills_next, orders_c, own_then, passes_c, since_c, since_then}
 
 module _ (g : Ground) where
   module _ (w : Whole g) (each : ChildrenEnd g) where
@@ -59,6 +73,8 @@ module _ (g : Ground) where
       pub since : Since g w done open_still ys b.state
       pub below : Below g children ran a b
       pub fills : Fills (IsFilledIn g.run g.h xs ys) o open_still a.state (computed_of ran) (computed_told ran b.results)
+      -- both runs give numbers in one order, outside its children
+      pub orders : Orders g.run (away g.plan (beside_ones g ++ turn_ones g) (unshared (g.touched g.node) o)) (first_seen xs) (first_seen ys) a.state b.state
 
     going : CallsGoOn (over g).call_gives
     going = view_moves g.plan g.run
@@ -91,12 +107,33 @@ module _ (g : Ground) where
         (computed_told (first ++ second) c.results) (sym (of_both first second)) (sym (told_first_then g cs ds first second a b c cs_children ds_children apart one two))
         (fills_next g w done o mid last xs ys zs a.state b.state (computed_of first) (computed_told first b.results) (computed_of second) (computed_told second c.results) pre go onward post of fewer passes fills others)
 
+    -- what stands between two children has been drawn
+    drew_at : (xs : List PlanLane) (r : RunState) → IsPrefix (first_seen xs) g.h → IsFine g.plan r → (places : Places) → HaveDrawn g.run places (first_seen xs) r.state
+    drew_at xs r on fine places = have_drawn g.plan g.run places g.run.store.id.cells.limits (first_seen xs) r.state (legal_begun (first_seen xs) g.h on g.basis.legal) fine.of_plan
+
+    heads_of : (xs ys : List PlanLane) → xs ≡ ys → IsPrefix (first_seen xs) (first_seen ys)
+    heads_of xs ys same = subst (λ (l : List PlanLane). IsPrefix (first_seen xs) (first_seen l)) same (prefix_refl (first_seen xs))
+
+    -- a place that is not open is not open later
+    still_away : {o later : Open} → ((context : ℕ) (key : KeyValue) (v : ValueText) → later context key ≡ Some v → o context key ≡ Some v) → (context : ℕ) (key : KeyValue)
+        → away g.plan (beside_ones g ++ turn_ones g) (unshared (g.touched g.node) o) context key ≡ true → away g.plan (beside_ones g ++ turn_ones g) (unshared (g.touched g.node) later) context key ≡ true
+    still_away {o} {later} fewer context key is =
+        let parts = unshared_parts (g.touched g.node) o context key (away_first g.plan (beside_ones g ++ turn_ones g) (unshared (g.touched g.node) o) context key is) in
+        let none : later context key ≡ None = elim (some_or_none (later context key)) [
+          | inl none ↦ none
+          | inr some ↦ not_both (o context key) some.0 parts.1 (fewer context key some.0 some.1)
+        ] in
+        away_is g.plan (beside_ones g ++ turn_ones g) (unshared (g.touched g.node) later) context key (unshared_is (g.touched g.node) later context key parts.0 none)
+        (λ x there it. away_from g.plan (beside_ones g ++ turn_ones g) (unshared (g.touched g.node) o) context key is x there it)
+
     turns : (entries : List Entry) (before : List ℕ) (o : Open) (s u : Lanes StoredValue) (r : RunState) → FoldsTo (λ s d u. Run d.0 s d.1 u) s entries u
         → ((x : ℕ) → Contains (map (λ e. e.0) entries) x → Contains (turn_ones g) x) → Once (map (λ e. e.0) entries) → ((x : ℕ) → Contains before x → IsChild g x)
         → ((x : ℕ) → Contains before x → Contains (map (λ e. e.0) entries) x → ⊥) → All (IsLaneIn g.run) u.first → All (HasSeenWithin g.h) u.first → Acts g.h w.first s.first → Acts g.h u.first w.last → IsFine g.plan r
         → Since g w before o s.first r.state → ClosedFor g o r → (after_all g r (map (λ e. e.0) entries)).state.store.drawn < most_numbers g.plan.size
+        → ((x : ℕ) → Contains before x → Contains (beside_ones g ++ turn_ones g) x)
+        → ((x context : ℕ) → Contains (map (λ e. e.0) entries) x → context < length g.plan.nodes → is_within g.plan x context ≡ true → IsFresh context r.state)
         → Turned (map (λ e. e.0) entries) (flat_map (λ e. e.1) entries) o s.first u.first r (after_all g r (map (λ e. e.0) entries))
-    turns [] before o s u r same in_turn once are apart known within pre post fine since closed drawn = record {
+    turns [] before o s u r same in_turn once are apart known within pre post fine since closed drawn among fresh = record {
       done = before;
       are = are;
       open_still = o;
@@ -105,8 +142,11 @@ module _ (g : Ground) where
       below = none_below (ids g) (tree_is g) g.node (λ r child. node_run g.plan g.levels (child ∷ g.path) r) (AllToldNear g.shares) (near_none g.shares) (near_then g.shares) r;
       fills = subst (λ (x : Lanes StoredValue). Fills (IsFilledIn g.run g.h s.first x.first) o o r.state 0 0) same
           (fills_none (IsFilledIn g.run g.h s.first s.first) o r.state 0 (λ spot v is filled. none_filled g.run g.h s.first spot filled));
+      orders = subst (λ (x : Lanes StoredValue). Orders g.run (away g.plan (beside_ones g ++ turn_ones g) (unshared (g.touched g.node) o)) (first_seen s.first) (first_seen x.first) r.state r.state) same
+          (orders_same g.run (away g.plan (beside_ones g ++ turn_ones g) (unshared (g.touched g.node) o)) (first_seen s.first) (first_seen s.first) r.state r.state
+          (drew_at s.first r (prefix_trans (first_seen s.first) (first_seen u.first) g.h (heads_of s.first u.first (ap (λ (x : Lanes StoredValue). x.first) same)) (first_within g.h u.first within)) fine (away g.plan (beside_ones g ++ turn_ones g) (unshared (g.touched g.node) o))) (λ context key number is has. refl) (λ context key is. refl));
     }
-    turns (e ∷ entries) before o s u r runs in_turn once are apart known within pre post fine since closed drawn =
+    turns (e ∷ entries) before o s u r runs in_turn once are apart known within pre post fine since closed drawn among fresh =
         let c = e.0 in
         let rest = map (λ (e : Entry). e.0) entries in
         let m = runs.0 in
@@ -122,17 +162,27 @@ module _ (g : Ground) where
         let fine_m = child_fine g.plan g.touched g.changes g.basis.read g.basis.covered g.levels g.node g.path (path_in g) r c parent fine in
         let more_drawn = all_leave_drawn rest (step g r c) rest_children fine_m in
         let few : (step g r c).state.store.drawn < most_numbers g.plan.size = omega (arith, more_drawn, drawn) in
-        let end = ends_c g w each c parent before others o s e.1 m r runs.1 m_within m_known pre acts post_m fine since few closed in
-        let since_m = since_c g w each c parent before others o s e.1 m r runs.1 m_within m_known pre acts post_m fine since few closed in
-        let closed_m = closed_c g w each c parent before others o s e.1 m r runs.1 m_within m_known pre acts post_m fine since few closed in
+        let fresh_c : (context : ℕ) → context < length g.plan.nodes → is_within g.plan c context ≡ true → IsFresh context r.state = λ context inside it. fresh c context (contains_here c rest) inside it in
+        let end = ends_c g w each c parent before others o s e.1 m r runs.1 m_within m_known pre acts post_m fine since few closed fresh_c in
+        let since_m = since_c g w each c parent before others o s e.1 m r runs.1 m_within m_known pre acts post_m fine since few closed fresh_c in
+        let closed_m = closed_c g w each c parent before others o s e.1 m r runs.1 m_within m_known pre acts post_m fine since few closed fresh_c in
         let more = turns entries (c ∷ before) _ m u (step g r c) runs.2 (λ x there. in_turn x (contains_later c rest x there)) once.1
         (λ x there. elim (contains_cons c before x there) [ inl same ↦ subst (IsChild g) same parent | inr early ↦ are x early ])
         (λ x there also. elim (contains_cons c before x there) [
           | inl same ↦ once.0 (subst (Contains rest) (sym same) also)
           | inr early ↦ apart x early (contains_later c rest x also)
-        ]) known within (acts_then g.h w.first s.first m.first pre acts) post fine_m since_m closed_m drawn in
-        let passes = passes_c g w each c parent before others o s e.1 m r runs.1 m_within m_known pre acts post_m fine since few closed in
-        let fills = fills_c g w each c parent before others o s e.1 m r runs.1 m_within m_known pre acts post_m fine since few closed in
+        ]) known within (acts_then g.h w.first s.first m.first pre acts) post fine_m since_m closed_m drawn
+        (λ x there. elim (contains_cons c before x there) [
+          | inl same ↦ subst (Contains (beside_ones g ++ turn_ones g)) same (Contains-append_right (beside_ones g) (turn_ones g) c (in_turn c (contains_here c rest)))
+          | inr early ↦ among x early
+        ])
+        (λ x context there inside it.
+        let parent_x = turn_child g x (in_turn x (contains_later c rest x there)) in
+        fresh_behind g.plan g.touched g.changes g.basis.covered g.node x context parent_x inside it c r.state (step g r c).state parent (λ same. once.0 (subst (Contains rest) (sym same) there))
+        (child_leaves g.plan g.touched g.changes g.basis.read g.basis.covered g.levels g.node g.path (path_in g) r c parent fine) (fresh x context (contains_later c rest x there) inside it)) in
+        let orders = orders_c g w each c parent before others o s e.1 m r runs.1 m_within m_known pre acts post_m fine since few closed fresh_c in
+        let passes = passes_c g w each c parent before others o s e.1 m r runs.1 m_within m_known pre acts post_m fine since few closed fresh_c in
+        let fills = fills_c g w each c parent before others o s e.1 m r runs.1 m_within m_known pre acts post_m fine since few closed fresh_c in
         let last = after_all g (step g r c) rest in
         let behind = flat_map (λ (e : Entry). e.1) entries in
         let it_child : (x : ℕ) → Contains (c ∷ []) x → IsChild g x = λ x there. subst (IsChild g) (only c x there) parent in
@@ -148,13 +198,26 @@ module _ (g : Ground) where
           below = told_then (c ∷ []) rest e.1 behind r (step g r c) last it_child behind_children differ one more.below;
           fills = filled_then (c ∷ []) rest e.1 behind r (step g r c) last it_child behind_children differ one more.below (c ∷ before) o _ more.open_still s.first m.first u.first pre acts later_acts post
               since.fewer more.fewer passes fills more.fills;
+          orders = orders_then g.run (away g.plan (beside_ones g ++ turn_ones g) (unshared (g.touched g.node) o)) (first_seen s.first) (first_seen m.first) (first_seen u.first) r.state (step g r c).state last.state
+              (prefix_rises (first_seen s.first) (first_seen m.first) (heads_go s.first m.first acts.goes))
+              (child_leaves g.plan g.touched g.changes g.basis.read g.basis.covered g.levels g.node g.path (path_in g) r c parent fine).drawn
+              (drew_at m.first (step g r c) (first_within g.h m.first m_within) fine_m (away g.plan (beside_ones g ++ turn_ones g) (unshared (g.touched g.node) o)))
+              (orders_fewer g.run (away g.plan (c ∷ before) (unshared (g.touched g.node) o)) (away g.plan (beside_ones g ++ turn_ones g) (unshared (g.touched g.node) o)) (first_seen s.first) (first_seen m.first) r.state (step g r c).state
+              (λ context key is. away_is g.plan (c ∷ before) (unshared (g.touched g.node) o) context key (away_first g.plan (beside_ones g ++ turn_ones g) (unshared (g.touched g.node) o) context key is)
+              (λ x there it. away_from g.plan (beside_ones g ++ turn_ones g) (unshared (g.touched g.node) o) context key is x (elim (contains_cons c before x there) [
+                | inl same ↦ subst (Contains (beside_ones g ++ turn_ones g)) same (Contains-append_right (beside_ones g) (turn_ones g) c (in_turn c (contains_here c rest)))
+                | inr early ↦ among x early
+              ]) it)) orders)
+              (orders_fewer g.run (away g.plan (beside_ones g ++ turn_ones g) (unshared (g.touched g.node) _)) (away g.plan (beside_ones g ++ turn_ones g) (unshared (g.touched g.node) o)) (first_seen m.first) (first_seen u.first) (step g r c).state last.state
+              (λ context key is. still_away passes.fewer context key is) more.orders);
         }
 
     -- ---- the body
 
     module _ (opened : Lanes StoredValue) (below : List Ran) (after : Lanes StoredValue) (body : BodyRun (over g) (ChildRun (over g) g.depth) g.node opened below after) (known : All (IsLaneIn g.run) after.first)
         (within : All (HasSeenWithin g.h) after.first) (pre : Acts g.h w.first opened.first) (post : Acts g.h after.first w.last) (o : Open) (r : RunState) (fine : IsFine g.plan r) (since : Since g w [] o opened.first r.state)
-        (closed : ClosedFor g o r) (drawn : (after_all g (after_all g r (beside_ones g)) (turn_ones g)).state.store.drawn < most_numbers g.plan.size) where
+        (closed : ClosedFor g o r) (drawn : (after_all g (after_all g r (beside_ones g)) (turn_ones g)).state.store.drawn < most_numbers g.plan.size)
+        (fresh : (child context : ℕ) → IsChild g child → context < length g.plan.nodes → is_within g.plan child context ≡ true → IsFresh context r.state) where
       joined_within : All (HasSeenWithin g.h) body.joined
       joined_within = turned_within (over g) going g.h (Tree (over g) going g.h g.depth) (go (over g) going g.h g.depth) (at (over g) going g.h g.depth) g.node opened below after body within
 
@@ -193,6 +256,7 @@ module _ (g : Ground) where
             (λ context key is. away_is g.plan [] (unshared (g.touched g.node) o) context key is (λ x there inside. contains_none x there)) since.level;
         near = since.near;
         closed = closed;
+        fresh = fresh;
       }
 
       turn_children : All (IsChild g) (turn_ones g)
@@ -240,7 +304,13 @@ module _ (g : Ground) where
           let are = body.in_turn.each in
           let second = turns entries (beside_ones g) (later g its each few) (with_lanes body.joined body.between) after mid body.in_turn.runs (λ x there. subst (λ l. Contains l x) are there)
           (subst Once (sym are) (once-right (beside_ones g) (turn_ones g) (all_once g))) (beside_child g) (λ x there also. once-apart (beside_ones g) (turn_ones g) x (all_once g) there (subst (λ l. Contains l x) are also))
-          known within (acts_then g.h w.first opened.first body.joined pre beside_acts) post mid_fine since_mid closed_mid (subst (λ (l : List ℕ). (after_all g mid l).state.store.drawn < most_numbers g.plan.size) (sym are) drawn) in
+          known within (acts_then g.h w.first opened.first body.joined pre beside_acts) post mid_fine since_mid closed_mid (subst (λ (l : List ℕ). (after_all g mid l).state.store.drawn < most_numbers g.plan.size) (sym are) drawn)
+          (λ x there. Contains-append_left (beside_ones g) (turn_ones g) x there)
+          (λ x context there inside it.
+          let turn_x : Contains (turn_ones g) x = subst (λ l. Contains l x) are there in
+          fresh_beside g.plan g.touched g.changes g.basis.covered g.node x context (turn_child g x turn_x) inside it (beside_ones g) r.state mid.state
+          (λ c c_in. (beside_child g c c_in, λ same. once-apart (beside_ones g) (turn_ones g) c (all_once g) c_in (subst (Contains (turn_ones g)) (sym same) turn_x)))
+          (children_leave g.plan g.touched g.changes g.basis.read g.basis.covered g.levels g.node g.path (path_in g) (beside_ones g) r beside_children fine) (fresh x context (turn_child g x turn_x) inside it)) in
           let first_ran = flat_map (λ (ran : List Ran). ran) body.beside in
           let second_ran = flat_map (λ (e : Entry). e.1) entries in
           let last = after_all g mid (turn_ones g) in
@@ -260,4 +330,14 @@ module _ (g : Ground) where
             since = turned.since;
             below = subst (λ (l : List Ran). Below g (beside_ones g ++ turn_ones g) l r last) ran_is both;
             fills = subst (λ (l : List Ran). Fills (IsFilledIn g.run g.h opened.first after.first) o turned.open_still r.state (computed_of l) (computed_told l last.results)) ran_is fills;
+            orders = orders_then g.run (away g.plan (beside_ones g ++ turn_ones g) (unshared (g.touched g.node) o)) (first_seen opened.first) (first_seen body.joined) (first_seen after.first) r.state mid.state last.state
+                (prefix_rises (first_seen opened.first) (first_seen body.joined) (heads_go opened.first body.joined beside_acts.goes))
+                (children_leave g.plan g.touched g.changes g.basis.read g.basis.covered g.levels g.node g.path (path_in g) (beside_ones g) r beside_children fine).drawn
+                (drew_at body.joined mid (first_within g.h body.joined joined_within) mid_fine (away g.plan (beside_ones g ++ turn_ones g) (unshared (g.touched g.node) o)))
+                (orders_fewer g.run (away g.plan (beside_ones g) (unshared (g.touched g.node) o)) (away g.plan (beside_ones g ++ turn_ones g) (unshared (g.touched g.node) o)) (first_seen opened.first) (first_seen body.joined) r.state mid.state
+                (λ context key is. away_is g.plan (beside_ones g) (unshared (g.touched g.node) o) context key (away_first g.plan (beside_ones g ++ turn_ones g) (unshared (g.touched g.node) o) context key is)
+                (λ x there it. away_from g.plan (beside_ones g ++ turn_ones g) (unshared (g.touched g.node) o) context key is x (Contains-append_left (beside_ones g) (turn_ones g) x there) it))
+                (beside_orders g its each few))
+                (orders_fewer g.run (away g.plan (beside_ones g ++ turn_ones g) (unshared (g.touched g.node) (later g its each few))) (away g.plan (beside_ones g ++ turn_ones g) (unshared (g.touched g.node) o)) (first_seen body.joined) (first_seen after.first)
+                mid.state last.state (λ context key is. still_away passes.fewer context key is) turned.orders);
           }

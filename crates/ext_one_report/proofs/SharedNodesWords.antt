@@ -30,11 +30,14 @@ use Rattle.ext_one_report.proofs.MatchingWords.{HasNumberIn, IsRunView, Places, 
 use Rattle.ext_one_report.proofs.StepsWords.{IsLaneIn}
 use Rattle.ext_one_report.proofs.ComputedAbove.{IsClosedAbove}
 use Rattle.ext_one_report.proofs.Covers.{AreCovered}
-use Rattle.ext_races.specs.OneReports.{ClosesTellOne}
+use Rattle.ext_races.specs.OneReports.{ClosesAgreeBeside}
 use Rattle.ext_one_report.proofs.Fills.{Fills, IsFilledIn, computed_of, computed_told}
 use Rattle.ext_one_report.proofs.LanesApart.{AreApart}
 use Rattle.ext_one_report.proofs.Open.{AreNear, Computes, also, still_open}
 use Rattle.ext_one_report.proofs.OpenSteps.{StandsInBoth}
+use Rattle.ext_one_report.proofs.Orders.{Orders}
+use Rattle.ext_one_report.proofs.SharedFresh.{IsFresh}
+use Rattle.ext_one_report.specs.Within.{is_within}
 use Rattle.ext_one_report.proofs.Shared.{AreShared, unshared}
 use Rattle.ext_one_report.proofs.FullRuns.{setting_in}
 use Rattle.ext_one_report.proofs.Levels.{AreLevel, HoldsOnce, outside}
@@ -58,11 +61,11 @@ pub record AreUntouched (run : RunView) (h : History) (open_at : Open) (settled 
 
 -- ---- what a run is compared by
 
--- What a comparison stands on: a plan that was read and in which closes tell no order; which places its nodes touch, may change and share, and which cells they change; and a view
+-- What a comparison stands on: a plan that was read, in which closes of nodes beside one another agree; which places its nodes touch, may change and share, and which cells they change; and a view
 -- of a run whose history is this
 pub record IsSharedBasis (plan : PlanText) (run : RunView) (locks : LocksView) (h : History) (touched changes : ℕ → Places) (changed : ℕ → List ℕ) (shares : ℕ → Open) : Type 0 where
   pub read : IsReadPlan plan
-  pub closes : ClosesTellOne plan
+  pub closes : ClosesAgreeBeside plan
   pub tree : run.store.tree ≡ ids_of_nodes plan.nodes
   pub view : IsRunView run
   pub covered : AreCovered plan touched changes
@@ -97,6 +100,8 @@ module _ (plan : PlanText) (run : RunView) (locks : LocksView) (h : History) (to
     pub told : AllToldNear shares ran r.results s.results
     -- but for what each run filled itself at open places, both computed as many values
     pub fills : Fills (IsFilledIn run h before.first after.first) open_at (still_open settled open_at) r.state (computed_of ran) (computed_told ran s.results)
+    -- at all places that it touches in other contexts, and that were not open when it began, both runs give numbers in one order
+    pub orders : Orders run (outside plan node (unshared (touched node) open_at)) (first_seen before.first) (first_seen after.first) r.state s.state
 
   -- what is so of a node's run before it, where these of the places that it shares are open
   pub record BeginsNear (node : ℕ) (open_at : Open) (before : Lanes StoredValue) (after : Lanes StoredValue) (r : RunState) : Type 0 where
@@ -111,6 +116,8 @@ module _ (plan : PlanText) (run : RunView) (locks : LocksView) (h : History) (to
     -- what was computed above it is not open, and stands in the plain run
     pub closed : IsClosedAbove plan (drop 1 (plan_path plan node)) open_at r.state
     pub results : length r.results ≡ length plan.nodes
+    -- nothing stands in its context and in those below it
+    pub fresh : (context : ℕ) → context < length plan.nodes → is_within plan node context ≡ true → IsFresh context r.state
 
   -- a test ends so,
   abbrev pub TestsEndNear : Type 0

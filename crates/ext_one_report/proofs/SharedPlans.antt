@@ -26,6 +26,7 @@ use Rattle.ext_races.specs.OneReports.{SharesValues}
 use Rattle.ext_one_report.proofs.Shared.{unshared}
 use Rattle.ext_one_report.proofs.SharedPlansWords.{PlansAreShared}
 use Rattle.ext_one_report.proofs.SharedCalls.{call_fits_open}
+use Rattle.ext_one_report.proofs.SharedFails.{fails_below, fails_beside}
 use Rattle.ext_one_report.proofs.SharedNodes as laws
 use Rattle.ext_one_report.proofs.SharedNodes.{below, below_changed, beside, outside, same, touched_there}
 use Rattle.ext_one_report.proofs.SharedSteps.{computes_there}
@@ -91,4 +92,6 @@ plans_are_shared plan run read shares tree = record {
   below = below plan read shares;
   beside = beside plan read shares;
   same = same plan read shares;
+  fails_below = fails_below plan read shares;
+  fails_beside = fails_beside plan read shares;
 }

@@ -1,6 +1,7 @@
 -- A test ends near: where some of its steps compute values at open places, which nodes beside it may compute too, all else is as in the plain run.
-use Rattle.std.proofs.Common.{◌≡◌, ◌≢◌, ℕ, ◌+◌, ◌<◌, inl, inr, true, false, drop, List, [], ◌∷◌, length, Contains, Some, refl, ap, sym, subst, ◌∙◌, arith}
+use Rattle.std.proofs.Common.{◌≡◌, ◌≢◌, ℕ, ◌+◌, ◌<◌, inl, inr, true, false, not, drop, List, [], ◌∷◌, length, Contains, Some, refl, ap, sym, subst, ◌∙◌, arith}
 use Rattle.std.specs.Prelude.{All, is_some, slice_get}
+use mathlib.Core.List.{IsPrefix}
 use Rattle.std.proofs.lemmas.List.Elements.{All-head}
 use Rattle.ext_history.specs.Histories.{seen_by}
 use Rattle.ext_history.proofs.Legal.{legal_begun}
@@ -25,7 +26,7 @@ use Rattle.ext_races.specs.MadeSteps.{calls_of}
 use Rattle.ext_engine.specs.Meeting.{HasSeenWithin, first_seen}
 use Rattle.ext_engine.specs.Order.{IsMadeIn, LaneGoesOn}
 use Rattle.ext_engine.specs.TreeRun.{ClosesNode, Lanes, Ran, TestRun, TreeSetting}
-use Rattle.ext_engine.proofs.Acts.{Acts, all_made_then, same_made}
+use Rattle.ext_engine.proofs.Acts.{Acts, all_made_then, heads_go, same_made}
 use Rattle.ext_engine.proofs.Going.{calls_go, close_goes}
 use Rattle.ext_engine.proofs.Order.{came_from}
 use Rattle.ext_engine.proofs.Seen.{acts_close, acts_first}
@@ -45,6 +46,10 @@ use Rattle.ext_one_report.proofs.TestCallsWords.{TestHasRoom, afters_round, befo
 use Rattle.ext_one_report.proofs.TestCalls.{test_alike}
 use Rattle.ext_one_report.proofs.FrameNodes.{within_nodes}
 use Rattle.ext_one_report.proofs.FrameSteps.{seals_leave}
+use Rattle.ext_one_report.proofs.Orders.{AreInOrder, Orders}
+use Rattle.ext_one_report.proofs.OrdersBounds.{have_drawn}
+use Rattle.ext_one_report.proofs.OrdersHistory.{prefix_rises}
+use Rattle.ext_one_report.proofs.OrdersLaws.{orders_fewer, orders_fresh, orders_then}
 use Rattle.ext_one_report.proofs.Fills.{Fills, IsFilledBy, IsFilledIn, Spot, computed_at, computed_of, computed_told}
 use Rattle.ext_one_report.proofs.FillsCounts.{computed_is, of_first, told_first}
 use Rattle.ext_one_report.proofs.FillsLanes.{filled_by, filled_first, filled_in, filled_then}
@@ -55,16 +60,17 @@ use Rattle.ext_one_report.specs.Shares.{Open, SharesNothing, AreToldNear}
 use Rattle.ext_one_report.proofs.OpenCalls.{BeforesFit, CallFitsOpen, CallsNear, FitsBehind, LeavesNear}
 use Rattle.ext_one_report.proofs.OpenSteps.{AreBesideOpen}
 use Rattle.ext_one_report.proofs.Shared.{unshared}
-use Rattle.ext_one_report.proofs.Closes.{ClosesLevel}
+use Rattle.ext_one_report.proofs.Closes.{ClosesLevel, IsClosedAlone}
 use Rattle.ext_one_report.proofs.FullRuns.{setting_in}
+use Rattle.ext_one_report.specs.Within.{is_within}
 use Rattle.ext_one_report.proofs.Levels.{AreLevel, besides, outside}
 use Rattle.ext_one_report.proofs.SharedNodesWords.{AllToldNear, AreComputed, AreOwn, AreUntouched, BeginsNear, EndsNear, IsSharedBasis, TestsEndNear}
 use Rattle.ext_one_report.proofs.Beside.{first_of_calls, test_made}
-use Rattle.ext_one_report.proofs.CloseEnds.{sealed_slot, closes_end_level}
+use Rattle.ext_one_report.proofs.CloseEnds.{close_orders, sealed_slot, closes_end_level}
 use Rattle.ext_one_report.proofs.ClosePlain.{plain_seals_places}
 use Rattle.ext_one_report.proofs.LanesAlone.{computed_part, first_is_alone, first_is_shown, is_more, is_on_place, lanes_in, own_part, view_moves}
 use Rattle.ext_one_report.proofs.NodeCalls.{each_of}
-use Rattle.ext_one_report.proofs.NodePlaces.{beyond_own, level_fewer, or_either, or_first}
+use Rattle.ext_one_report.proofs.NodePlaces.{and_both, and_of, beyond_own, level_fewer, or_either, or_first}
 use Rattle.ext_one_report.proofs.NodeTrees.{its_path, within_itself}
 use Rattle.ext_one_report.proofs.SharedClosesOpen.{computed_fewer, near_after, none_elsewhere, own_standing, stand_after}
 use Rattle.ext_one_report.proofs.SharedNodesBasis.{in_plan, run_tree}
@@ -234,10 +240,46 @@ module _ (plan : PlanText) (run : RunView) (locks : LocksView) (h : History) (to
         let kept = rooms.last_holds plan run basis.read node path its is_test r.state holds in
         record { matches = near.1.matches; numbered = near.1.numbered; memory = kept.memory; keeps = kept.keeps; gave = kept.gave; of_plan = kept.of_plan }
 
+    alone_close : IsClosedAlone plan run locks h touched changes changed shares node around its_run.calls.left its_run.calls.rest its_run.faults after.first
+    alone_close = record { basis = basis; inside = in_nodes; closes = closes; within = begins.within; lanes = begins.lanes; own = own_around; all = around_own }
+
+    -- nothing stood in its context before, so what is closed is in one order
+    itself : is_within plan node node ≡ true
+    itself = within_itself plan basis.read.runnable.tree node path its
+
+    own_places : (key : KeyValue) → places node key ≡ true
+    own_places key = elim (some_or_none (open_at node key)) [
+      | inl none ↦ unshared_is (touched node) open_at node key (basis.covered.touches node node key (basis.covered.own node key in_nodes)) none
+      | inr some ↦ absurd (elsewhere node key some.0 some.1 refl)
+    ]
+
+    orders_called : Orders run places (first_seen before.first) (seen_by its_run.calls.left.cells.view) r.state end.state
+    orders_called = subst (λ (l : List PlanLane). Orders run places (first_seen l) (seen_by its_run.calls.left.cells.view) r.state end.state) (sym its_run.calls.first_was) near.1.orders
+
+    in_order : AreInOrder run node (seen_by its_run.calls.left.cells.view) end.state
+    in_order = orders_fresh run places (first_seen before.first) (seen_by its_run.calls.left.cells.view) r.state end.state node (λ key. (begins.fresh node in_nodes itself).none key) own_places orders_called
+
     closed : ClosesLevel plan run node around true its_run.outcomes its_run.faults (first_seen after.first) said
     closed =
-        closes_end_level plan run locks h touched changes changed shares node true around its_run.calls.left its_run.calls.rest its_run.outcomes its_run.faults after.first said
-        (record { basis = basis; inside = in_nodes; closes = closes; within = begins.within; lanes = begins.lanes; own = own_around; all = around_own }) level alike
+        closes_end_level plan run locks h touched changes changed shares node true around its_run.calls.left its_run.calls.rest its_run.outcomes its_run.faults after.first said alone_close level in_order alike
+
+    -- and in other contexts numbers stay in their order
+    abbrev out : Places
+    out = outside plan node places
+
+    out_around : (context : ℕ) (key : KeyValue) → out context key ≡ true → besides node around context key ≡ true
+    out_around context key is =
+        let parts = and_both (places context key) (not (is_within plan node context)) is in
+        beyond_own plan node around itself context key (and_of (around context key) (not (is_within plan node context)) (or_first (places context key) (settled context key) parts.0) parts.1)
+
+    orders_ended : Orders run out (first_seen before.first) (first_seen after.first) r.state sealed
+    orders_ended =
+        let goes = subst (λ (l : List PlanLane). IsPrefix (first_seen before.first) (first_seen l)) its_run.calls.first_is (heads_go before.first its_run.called called_acts.goes) in
+        orders_then run out (first_seen before.first) (seen_by its_run.calls.left.cells.view) (first_seen after.first) r.state end.state sealed (prefix_rises (first_seen before.first) (seen_by its_run.calls.left.cells.view) goes) near.1.rises
+        (have_drawn plan run out run.store.id.cells.limits (seen_by its_run.calls.left.cells.view) end.state (legal_begun (seen_by its_run.calls.left.cells.view) h seen_left basis.legal) level.of_plan)
+        (orders_fewer run places out (first_seen before.first) (seen_by its_run.calls.left.cells.view) r.state end.state (λ context key is. (and_both (places context key) (not (is_within plan node context)) is).0) orders_called)
+        (orders_fewer run (besides node around) out (seen_by its_run.calls.left.cells.view) (first_seen after.first) end.state sealed out_around
+        (close_orders plan run locks h touched changes changed shares node around its_run.calls.left its_run.calls.rest its_run.faults after.first alone_close end.state level))
 
     -- ---- what is told
 
@@ -376,6 +418,7 @@ module _ (plan : PlanText) (run : RunView) (locks : LocksView) (h : History) (to
       untouched = untouched;
       told = all_told;
       fills = fills;
+      orders = orders_ended;
     }
 
   pub tests_end_near : TestsEndNear plan run locks h touched changes changed shares

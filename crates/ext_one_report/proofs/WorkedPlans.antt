@@ -1,4 +1,4 @@
--- The worked plans: tests of all pairs of touches tell whether a plan keeps apart, whether its closes tell one text, and whether it has no race. On a plan they are computed.
+-- The worked plans: tests of all pairs of touches tell whether a plan keeps apart, whether its closes agree, and whether it has no race. On a plan they are computed.
 use Rattle.std.proofs.Common.{◌≡◌, ◌≢◌, ◌++◌, All, IfSome, ◌≤◌, ◌<◌, ℕ, zero, suc, Bool, true, false, List, [], ◌∷◌, Contains, codes, length, refl, sym, ap, subst, ◌∙◌, arith, inl, inr, eq-eqb}
 use Rattle.std.specs.Prelude.{◌==◌, ◌&&◌, not}
 use Rattle.std.specs.List.{list_all}
@@ -28,8 +28,8 @@ use Rattle.ext_races.proofs.Equalities.{both, both_true, equal}
 use Rattle.ext_races.proofs.Lists.{contains_cases, contains_first, contains_later, contains_nothing}
 use Rattle.ext_races.proofs.Sides.{nodes_found, nodes_told}
 use Rattle.ext_races.proofs.TouchNodes.{touch_within}
-use Rattle.ext_races.specs.OneReports.{KeepsApart, ClosesTellOne}
-use Rattle.ext_one_report.specs.WorkedPlans.{AreSteps, ComputesAreNoRace, ComputesDoNot, LookAndPutDoNot, LooksBelowKeepApart, LooksKeepApart, OneByOneKeepsApart, OneTextTellsOne, OwnPutsKeepApart, PutsAboveDoNot, ReplacedDoesNotTellOne, TestsAreBeside, TestsAreRead, TwoContextsTellOne, TwoFaultsDoNotTellOne, TwoKeysKeepApart, WorkedHasKeys, WorkedHasNumbers, WorkedIsRead, WorkedKeepsApart, WorkedTellsOne, a, b, class_id, computing, container, root_id, test_of_class, tests_of_mode, two_tests, worked_plan}
+use Rattle.ext_races.specs.OneReports.{KeepsApart, ClosesAgreeBeside}
+use Rattle.ext_one_report.specs.WorkedPlans.{AreSteps, ComputesAreNoRace, ComputesDoNot, LookAndPutDoNot, LooksBelowKeepApart, LooksKeepApart, OneByOneKeepsApart, OneTextAgrees, OwnPutsKeepApart, PutsAboveDoNot, ReplacedAgrees, TestsAreBeside, TestsAreRead, OneByOneAgrees, TwoFaultsAgree, TwoKeysKeepApart, TwoTextsDoNot, WorkedHasKeys, WorkedHasNumbers, WorkedIsRead, WorkedKeepsApart, WorkedAgrees, a, b, class_id, computing, container, root_id, test_of_class, tests_of_mode, two_tests, worked_plan}
 
 -- ---- tests of all pairs
 
@@ -144,44 +144,51 @@ computes_are_no_race text race = no_race (computing text) race (rw (same_text te
 
 -- ---- closes
 
--- the closes of both may fail at the end of one context, with two texts
-abbrev differ : TouchText → TouchText → Bool
-differ t u = may_fail t && may_fail u && (t.context == u.context) && not (bytes_eq t.text u.text)
+-- the nodes may run beside one another, and the closes of both may fail at the end of one context, with two texts
+abbrev differ : PlanText → TouchText → TouchText → Bool
+differ plan t u = nodes_beside plan t.node u.node && may_fail t && may_fail u && (t.context == u.context) && not (bytes_eq t.text u.text)
 
-tells_one : (plan : PlanText) → no_pair plan differ ≡ true → ClosesTellOne plan
-tells_one plan none = record {
-  one = λ t u one two fails other at. elim (cases_Bool (bytes_eq t.text u.text)) [
+closes_agree : (plan : PlanText) → no_pair plan (differ plan) ≡ true → ClosesAgreeBeside plan
+closes_agree plan none = record {
+  one = λ t u one two beside fails other at. elim (cases_Bool (bytes_eq t.text u.text)) [
     | inl same ↦ (bytes_decides t.text u.text).0 same
-    | inr two_texts ↦ absurd (not_such plan differ t u none one two (both_true _ _ (both_true _ _ (both_true _ _ fails other) (eq-eqb t.context u.context at)) (ap not two_texts)))
+    | inr two_texts ↦ absurd (not_such plan (differ plan) t u none one two
+        (both_true _ _ (both_true _ _ (both_true _ _ (both_true _ _ (nodes_told plan t.node u.node (touch_within plan t one) (touch_within plan u two) beside) fails) other) (eq-eqb t.context u.context at)) (ap not two_texts)))
   ];
 }
 
-told_one : (plan : PlanText) → ClosesTellOne plan → no_pair plan differ ≡ true
-told_one plan tells = none_such plan differ (λ t u one two such.
+agreed : (plan : PlanText) → ClosesAgreeBeside plan → no_pair plan (differ plan) ≡ true
+agreed plan agree = none_such plan (differ plan) (λ t u one two such.
     let text = both _ _ such in
     let context = both _ _ text.0 in
-    let fails = both _ _ context.0 in
-    let same : t.text ≡ u.text = tells.one t u one two fails.0 fails.1 (equal t.context u.context context.1) in
+    let other = both _ _ context.0 in
+    let fails = both _ _ other.0 in
+    let same : t.text ≡ u.text = agree.one t u one two (nodes_found plan t.node u.node fails.0) fails.1 other.1 (equal t.context u.context context.1) in
     true≢false (sym text.1 ∙ ap not ((bytes_decides t.text u.text).1 same)))
 
-tells_two : (plan : PlanText) → no_pair plan differ ≡ false → ¬ ClosesTellOne plan
-tells_two plan some tells = true≢false (sym (told_one plan tells) ∙ some)
+do_not_agree : (plan : PlanText) → no_pair plan (differ plan) ≡ false → ¬ ClosesAgreeBeside plan
+do_not_agree plan some agree = true≢false (sym (agreed plan agree) ∙ some)
 
-pub two_faults_do_not_tell_one : TwoFaultsDoNotTellOne
+pub two_faults_agree : TwoFaultsAgree
 unfolding path_from
-two_faults_do_not_tell_one = tells_two (two_tests [] (keyed words.PutCloseable a (codes "bad1") 0 ∷ keyed words.PutCloseable b (codes "bad2") 0 ∷ []) []) refl
+two_faults_agree = closes_agree (two_tests [] (keyed words.PutCloseable a (codes "bad1") 0 ∷ keyed words.PutCloseable b (codes "bad2") 0 ∷ []) []) refl
 
-pub replaced_does_not_tell_one : ReplacedDoesNotTellOne
+pub replaced_agrees : ReplacedAgrees
 unfolding path_from
-replaced_does_not_tell_one = tells_two (two_tests [] (keyed words.PutCloseable a (codes "bad1") 0 ∷ keyed words.PutCloseable a (codes "bad2") 0 ∷ []) []) refl
+replaced_agrees = closes_agree (two_tests [] (keyed words.PutCloseable a (codes "bad1") 0 ∷ keyed words.PutCloseable a (codes "bad2") 0 ∷ []) []) refl
 
-pub one_text_tells_one : OneTextTellsOne
+pub two_texts_do_not : TwoTextsDoNot
 unfolding path_from
-one_text_tells_one = tells_one (two_tests [] (keyed words.PutCloseable a (codes "bad1") 0 ∷ keyed words.PutCloseable b (codes "bad1") 0 ∷ []) []) refl
+two_texts_do_not = do_not_agree (two_tests [] (keyed words.PutCloseable a (codes "bad1") 1 ∷ []) (keyed words.PutCloseable b (codes "bad2") 1 ∷ [])) refl
 
-pub two_contexts_tell_one : TwoContextsTellOne
+pub one_text_agrees : OneTextAgrees
 unfolding path_from
-two_contexts_tell_one = tells_one (two_tests [] (keyed words.PutCloseable a (codes "bad1") 0 ∷ keyed words.PutCloseable b (codes "good") 0 ∷ []) (keyed words.PutCloseable a (codes "bad2") 0 ∷ [])) refl
+one_text_agrees = closes_agree (two_tests [] (keyed words.PutCloseable a (codes "bad1") 1 ∷ []) (keyed words.PutCloseable b (codes "bad1") 1 ∷ [])) refl
+
+pub one_by_one_agrees : OneByOneAgrees
+one_by_one_agrees before first second = record {
+  one = λ t u one two beside fails other at. absurd (true≢false (sym beside.concurrent ∙ not_concurrent before first second beside.child));
+}
 
 -- ---- all that is asked
 
@@ -193,9 +200,9 @@ pub worked_keeps_apart : WorkedKeepsApart
 unfolding path_from
 worked_keeps_apart = keeps_apart worked_plan refl
 
-pub worked_tells_one : WorkedTellsOne
+pub worked_agrees : WorkedAgrees
 unfolding path_from
-worked_tells_one = tells_one worked_plan refl
+worked_agrees = closes_agree worked_plan refl
 
 two_keys : length (keys_named worked_plan) ≡ 2
 unfolding path_from
@@ -204,12 +211,12 @@ two_keys = refl
 pub worked_has_keys : WorkedHasKeys
 worked_has_keys = let two = two_keys in omega (arith, two)
 
-three_numbers : numbers_drawn worked_plan ≡ 3
+four_numbers : numbers_drawn worked_plan ≡ 4
 unfolding path_from
-three_numbers = refl
+four_numbers = refl
 
 pub worked_has_numbers : WorkedHasNumbers
-worked_has_numbers = let three = three_numbers in omega (arith, three)
+worked_has_numbers = let four = four_numbers in omega (arith, four)
 
 -- ---- plans as those that were read
 
@@ -365,13 +372,6 @@ tests_are_read mode before first second one two three = record {
   containers = all_four (λ node. IfSome node.test (λ _. HasNoContainerCallbacks node)) mode before first second tt tt (record { before_all = refl; after_all = refl }) (record { before_all = refl; after_all = refl });
 }
 
-one_step : (count : ℕ) (step : StepText) → NamesLabelBelow 0 step → height step < count → AreSteps count (step ∷ [])
-one_step count step named up = record {
-  names = all_cons (NamesLabelBelow 0) step [] named (all_none (NamesLabelBelow 0));
-  up = all_cons (λ step. height step < count) step [] up (all_none (λ step. height step < count));
-  few = omega arith;
-}
-
 two_steps : (count : ℕ) (step other : StepText) → NamesLabelBelow 0 step → height step < count → NamesLabelBelow 0 other → height other < count → AreSteps count (step ∷ other ∷ [])
 two_steps count step other named up other_named other_up = record {
   names = all_cons (NamesLabelBelow 0) step (other ∷ []) named (all_cons (NamesLabelBelow 0) other [] other_named (all_none (NamesLabelBelow 0)));
@@ -380,6 +380,8 @@ two_steps count step other named up other_named other_up = record {
 }
 
 pub worked_is_read : WorkedIsRead
-worked_is_read = tests_are_read modes.Concurrent (keyed words.Put a (codes "x") 0 ∷ []) (keyed words.Want a (codes "x") 0 ∷ keyed words.PutCloseable b (codes "bad1") 0 ∷ []) (keyed words.Want a (codes "x") 0 ∷ keyed words.PutCloseable b (codes "bad2") 0 ∷ [])
-    (one_step 2 (keyed words.Put a (codes "x") 0) tt (omega arith)) (two_steps 3 (keyed words.Want a (codes "x") 0) (keyed words.PutCloseable b (codes "bad1") 0) tt (omega arith) tt (omega arith))
-    (two_steps 3 (keyed words.Want a (codes "x") 0) (keyed words.PutCloseable b (codes "bad2") 0) tt (omega arith) tt (omega arith))
+worked_is_read = tests_are_read modes.Concurrent (keyed words.PutCloseable a (codes "bad1") 0 ∷ keyed words.PutCloseable b (codes "bad2") 0 ∷ [])
+    (keyed words.Want a (codes "bad1") 0 ∷ keyed words.PutCloseable b (codes "bad1") 0 ∷ []) (keyed words.Want a (codes "bad1") 0 ∷ keyed words.PutCloseable b (codes "bad2") 0 ∷ [])
+    (two_steps 2 (keyed words.PutCloseable a (codes "bad1") 0) (keyed words.PutCloseable b (codes "bad2") 0) tt (omega arith) tt (omega arith))
+    (two_steps 3 (keyed words.Want a (codes "bad1") 0) (keyed words.PutCloseable b (codes "bad1") 0) tt (omega arith) tt (omega arith))
+    (two_steps 3 (keyed words.Want a (codes "bad1") 0) (keyed words.PutCloseable b (codes "bad2") 0) tt (omega arith) tt (omega arith))

@@ -1,6 +1,5 @@
--- One report: for a plan that `OneReports` of ext_races describes, whose nodes keep apart and whose report doesn't
--- depend on the order of closes, each run on several lanes that lacks nothing reports the same as the plain run (JUnit 5
--- User Guide, "Parallel Execution").
+-- One report: for a plan that `OneReports` of ext_races describes, whose nodes keep apart, each run on several lanes that
+-- lacks nothing reports the same as the plain run (JUnit 5 User Guide, "Parallel Execution").
 use Rattle.std.specs.Prelude.{◌≡◌, ℕ, List, length, map, Some, slice_get}
 use Rattle.std.specs.List.{sum_by}
 use Rattle.ext_model.specs.declared.look.Fault.{Fault}

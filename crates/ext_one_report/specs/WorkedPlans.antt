@@ -1,5 +1,5 @@
--- Worked plans: which plans keep apart, share values and have one text for failing closes, and which do not, with a class
--- and two tests, or two such classes. Each sentence is proved by `worked_plans`, most of them by computing (JUnit 5 User
+-- Worked plans: which plans keep apart, share values and have closes that agree, and which do not, with a class and two
+-- tests, or two such classes. Each sentence is proved by `worked_plans`, most of them by computing (JUnit 5 User
 -- Guide, "Parallel Execution"). The table in docs/PLANS.md, 'Races', has such plans. Context 0 is the root `[e:x]`, 1 the
 -- class `[c:A]`, and 2 and 3 are its tests `[t:m]` and `[t:n]`. A step that ends with 1 acts one context up: a test's
 -- step on the class, and a class's on the root.
@@ -17,7 +17,7 @@ use Rattle.ext_races.specs.declared.race.Race.{Race}
 use Rattle.ext_races.specs.Beside.{IsBeside}
 use Rattle.ext_races.specs.Races.{IsRace}
 use Rattle.ext_races.specs.Touches.{keys_named, numbers_drawn}
-use Rattle.ext_races.specs.OneReports.{ClosesTellOne, KeepsApart, SharesValues}
+use Rattle.ext_races.specs.OneReports.{ClosesAgreeBeside, KeepsApart, SharesValues}
 use Rattle.ext_plan.specs.StoreKeys.{key_of_step}
 use Rattle.ext_one_report.specs.Shares.{shares_in}
 
@@ -130,44 +130,47 @@ ComputesAreNoRace = (text : List ℕ) (race : Race) → ¬ IsRace (computing tex
 abbrev pub ComputesDoNot : Type 0
 ComputesDoNot = (text : List ℕ) → ¬ KeepsApart (computing text)
 
--- Two closeable values in one context, whose closes fail with two texts, don't have one text: the fault of the one kept
--- last is reported first.
-abbrev pub TwoFaultsDoNotTellOne : Type 0
-TwoFaultsDoNotTellOne =
-    ¬ ClosesTellOne (two_tests []
-    (keyed words.PutCloseable a (codes "bad1") 0 ∷ keyed words.PutCloseable b (codes "bad2") 0 ∷ []) [])
+-- Closeable values that one node leaves in one context agree, though their closes fail with two texts: the fault of the
+-- one kept last is reported first in each run.
+abbrev pub TwoFaultsAgree : Type 0
+TwoFaultsAgree = ClosesAgreeBeside
+    (two_tests [] (keyed words.PutCloseable a (codes "bad1") 0 ∷ keyed words.PutCloseable b (codes "bad2") 0 ∷ []) [])
 
--- Nor do they if the second is put over the first, as each step counts.
-abbrev pub ReplacedDoesNotTellOne : Type 0
-ReplacedDoesNotTellOne =
-    ¬ ClosesTellOne (two_tests []
-    (keyed words.PutCloseable a (codes "bad1") 0 ∷ keyed words.PutCloseable a (codes "bad2") 0 ∷ []) [])
+-- So do they if the second is put over the first.
+abbrev pub ReplacedAgrees : Type 0
+ReplacedAgrees = ClosesAgreeBeside
+    (two_tests [] (keyed words.PutCloseable a (codes "bad1") 0 ∷ keyed words.PutCloseable a (codes "bad2") 0 ∷ []) [])
+
+-- Two tests that leave such values under two keys in the class's context do not, as either may come last.
+abbrev pub TwoTextsDoNot : Type 0
+TwoTextsDoNot = ¬ ClosesAgreeBeside
+    (two_tests [] (keyed words.PutCloseable a (codes "bad1") 1 ∷ []) (keyed words.PutCloseable b (codes "bad2") 1 ∷ []))
 
 -- With one text they do.
-abbrev pub OneTextTellsOne : Type 0
-OneTextTellsOne = ClosesTellOne
-    (two_tests [] (keyed words.PutCloseable a (codes "bad1") 0 ∷ keyed words.PutCloseable b (codes "bad1") 0 ∷ []) [])
+abbrev pub OneTextAgrees : Type 0
+OneTextAgrees = ClosesAgreeBeside
+    (two_tests [] (keyed words.PutCloseable a (codes "bad1") 1 ∷ []) (keyed words.PutCloseable b (codes "bad1") 1 ∷ []))
 
--- So do two texts in two contexts, and one beside a close that succeeds.
-abbrev pub TwoContextsTellOne : Type 0
-TwoContextsTellOne = ClosesTellOne
-    (two_tests [] (keyed words.PutCloseable a (codes "bad1") 0 ∷ keyed words.PutCloseable b (codes "good") 0 ∷ [])
-    (keyed words.PutCloseable a (codes "bad2") 0 ∷ []))
+-- So do tests that run one after the other, whatever they do.
+abbrev pub OneByOneAgrees : Type 0
+OneByOneAgrees = (before first second : List StepText)
+    → ClosesAgreeBeside (tests_of_mode modes.SameThread before first second)
 
--- A plan with a value at which both tests look, and a closeable one of its own for each.
+-- A plan whose class leaves two values, whose closes fail with two texts: both tests look at the first, and each has a
+-- closeable one of its own.
 abbrev pub worked_plan : PlanText
 worked_plan =
-    two_tests (keyed words.Put a (codes "x") 0 ∷ [])
-    (keyed words.Want a (codes "x") 0 ∷ keyed words.PutCloseable b (codes "bad1") 0 ∷ [])
-    (keyed words.Want a (codes "x") 0 ∷ keyed words.PutCloseable b (codes "bad2") 0 ∷ [])
+    two_tests (keyed words.PutCloseable a (codes "bad1") 0 ∷ keyed words.PutCloseable b (codes "bad2") 0 ∷ [])
+    (keyed words.Want a (codes "bad1") 0 ∷ keyed words.PutCloseable b (codes "bad1") 0 ∷ [])
+    (keyed words.Want a (codes "bad1") 0 ∷ keyed words.PutCloseable b (codes "bad2") 0 ∷ [])
 
 -- All that the theorem asks holds of it: its nodes keep apart.
 abbrev pub WorkedKeepsApart : Type 0
 WorkedKeepsApart = KeepsApart worked_plan
 
--- Its failing closes have one text in each context.
-abbrev pub WorkedTellsOne : Type 0
-WorkedTellsOne = ClosesTellOne worked_plan
+-- Its closes agree.
+abbrev pub WorkedAgrees : Type 0
+WorkedAgrees = ClosesAgreeBeside worked_plan
 
 -- There are keys for all that its steps name.
 abbrev pub WorkedHasKeys : Type 0

@@ -1,11 +1,12 @@
 //! One report: a run of a plan on several lanes that lacks nothing reports of each node what the
 //! plain run reports.
 //!
-//! `report_laws` proves it where closes tell no order, if
+//! `report_laws` proves it if
 //!
 //! - no node may change a place that a node running beside it touches, unless both compute the same
 //!   value there (`specs/OneReports` of `ext_races`), and then which node computed it and which
 //!   found it may differ, but not the totals (`specs/Shares`),
+//! - no two such nodes leave values in one context whose closes fail with different texts,
 //! - and no call and no close wants memory, a number, a key or a value (`specs/FullRuns`). The
 //!   results of a run tell that this is so (`told_lack_laws`).
 //!

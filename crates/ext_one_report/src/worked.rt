@@ -1,7 +1,7 @@
 //! Worked plans.
-ghost use Rattle.ext_one_report.specs.WorkedPlans.{ComputesAreNoRace, ComputesDoNot, LookAndPutDoNot, LooksBelowKeepApart, LooksKeepApart, OneByOneKeepsApart, OneTextTellsOne, OwnPutsKeepApart, PutsAboveDoNot, ReplacedDoesNotTellOne, TestsAreBeside, TestsAreRead, TwoContextsTellOne, TwoFaultsDoNotTellOne, TwoKeysKeepApart, WorkedHasKeys, WorkedHasNumbers, WorkedIsRead, WorkedKeepsApart, WorkedTellsOne, ClassSharesNone, ComputesShareValues, FirstShares, LooksAfterDoNot, LooksBehindShareValues, LooksBelowShareValues, RemovedDoNot, SecondShares};
+ghost use Rattle.ext_one_report.specs.WorkedPlans.{ComputesAreNoRace, ComputesDoNot, LookAndPutDoNot, LooksBelowKeepApart, LooksKeepApart, OneByOneKeepsApart, OneTextAgrees, OwnPutsKeepApart, PutsAboveDoNot, ReplacedAgrees, TestsAreBeside, TestsAreRead, OneByOneAgrees, TwoFaultsAgree, TwoKeysKeepApart, TwoTextsDoNot, WorkedHasKeys, WorkedHasNumbers, WorkedIsRead, WorkedKeepsApart, WorkedAgrees, ClassSharesNone, ComputesShareValues, FirstShares, LooksAfterDoNot, LooksBehindShareValues, LooksBelowShareValues, RemovedDoNot, SecondShares};
 
-/// Proves which of some small plans keep apart and whose closes tell one text, and that one plan
+/// Proves which of some small plans keep apart and whose closes agree, and that one plan
 /// has all that `report_laws` asks. It does nothing when it runs.
 pub fn worked_plans()
     ensures own_puts_keep_apart { OwnPutsKeepApart }
@@ -13,12 +13,13 @@ pub fn worked_plans()
     ensures look_and_put_do_not { LookAndPutDoNot }
     ensures computes_are_no_race { ComputesAreNoRace }
     ensures computes_do_not { ComputesDoNot }
-    ensures two_faults_do_not_tell_one { TwoFaultsDoNotTellOne }
-    ensures replaced_does_not_tell_one { ReplacedDoesNotTellOne }
-    ensures one_text_tells_one { OneTextTellsOne }
-    ensures two_contexts_tell_one { TwoContextsTellOne }
+    ensures two_faults_agree { TwoFaultsAgree }
+    ensures replaced_agrees { ReplacedAgrees }
+    ensures two_texts_do_not { TwoTextsDoNot }
+    ensures one_text_agrees { OneTextAgrees }
+    ensures one_by_one_agrees { OneByOneAgrees }
     ensures worked_keeps_apart { WorkedKeepsApart }
-    ensures worked_tells_one { WorkedTellsOne }
+    ensures worked_agrees { WorkedAgrees }
     ensures worked_has_keys { WorkedHasKeys }
     ensures worked_has_numbers { WorkedHasNumbers }
     ensures worked_is_read { WorkedIsRead }

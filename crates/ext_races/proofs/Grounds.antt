@@ -1,8 +1,7 @@
 -- What is found in the groups of a plan without races says what is proved of the plan.
-use Rattle.std.proofs.Common.{◌≡◌, ℕ, ◌+◌, ◌*◌, ◌<◌, ◌≤◌, true, false, List, length, Contains, Option, Some, None, refl, sym, ap, subst, ◌∙◌, arith, inl, inr}
+use Rattle.std.proofs.Common.{◌≡◌, ℕ, ◌+◌, ◌*◌, ◌<◌, ◌≤◌, true, false, List, length, Contains, Option, Some, None, refl, sym, ap, subst, ◌∙◌, inl, inr}
 use Rattle.std.specs.Prelude.{is_some, nat_le}
-use Rattle.std.proofs.Math.Nat.{mul-le-mul_right}
-use Rattle.std.proofs.lemmas.Bool.{cases_Bool, cases_lt, eq-eqb, false_from_ne_true, leb-false}
+use Rattle.std.proofs.lemmas.Bool.{cases_Bool, eq-eqb, false_from_ne_true, leb-false}
 use denote.Enum.Bare.{true_same}
 use Rattle.ext_model.specs.Sizes.{most_numbers}
 use Rattle.ext_plan.specs.contracts.word.Word.{the_type}
@@ -10,19 +9,17 @@ use Rattle.ext_plan.specs.Plans.{PlanText}
 use Rattle.ext_plan.specs.StepWords.{computes, gives_value, word_eq}
 use Rattle.ext_plan.specs.declared.word.Word.{Word}
 use Rattle.ext_plan.specs.declared.word.Word.TheVariants as words
-use Rattle.ext_races.specs.declared.proved.TwoTexts.{TwoTexts}
 use Rattle.ext_races.specs.declared.race.Race.{Race}
 use Rattle.ext_races.specs.Beside.{IsBeside, nodes_beside}
 use Rattle.ext_races.specs.Clashes.{agree}
-use Rattle.ext_races.specs.InnerGroups.{IsGrouped, close_group, close_group_of, group_at, place_group}
-use Rattle.ext_races.specs.InnerProving.{AlikeIn, AreAlike, TextsIn, alike_beside, compute_alike}
-use Rattle.ext_races.specs.OneReports.{ClosesTellOne, HasNearReport, HasOneReport, NoneAgree}
-use Rattle.ext_races.specs.Proving.{ClosesAre, FailsAre}
+use Rattle.ext_races.specs.InnerGroups.{IsGrouped, group_at, place_group}
+use Rattle.ext_races.specs.InnerProving.{AlikeIn, AreAlike, alike_beside, compute_alike}
+use Rattle.ext_races.specs.OneReports.{HasNearReport, HasOneReport, NoneAgree}
+use Rattle.ext_races.specs.Proving.{FailsAre}
 use Rattle.ext_races.specs.Races.{IsRace}
 use Rattle.ext_races.specs.Touches.{TouchText, keys_named, numbers_drawn, touches_made}
 use Rattle.ext_races.proofs.Equalities.{both, both_true, equal, word_is}
-use Rattle.ext_races.proofs.Free.{free_keeps_apart, race_free_shares_values}
-use Rattle.ext_races.proofs.Searches.{group_within}
+use Rattle.ext_races.proofs.Free.{free_keeps_apart, race_free_closes_agree, race_free_shares_values}
 use Rattle.ext_races.proofs.Sides.{nodes_found, nodes_told}
 use Rattle.ext_races.proofs.TouchNodes.{acts_itself, touch_within}
 
@@ -55,40 +52,7 @@ agree_computes plan t u made changing agrees = ap computes (sym (acts_itself pla
 
 -- ---- groups
 
-context_within : (contexts keys context : ℕ) (groups : List (List TouchText)) (t : TouchText) → length groups ≡ contexts * (keys + 1) → Contains (group_at groups (close_group_of keys context)) t → context < contexts
-context_within contexts keys context groups t count there = elim (cases_lt context contexts) [
-  | inl less ↦ less
-  | inr past ↦
-      let within = group_within groups (close_group_of keys context) t there in
-      let more = mul-le-mul_right (keys + 1) past in
-      absurd (omega (arith, within, more, count))
-]
-
 module _ (plan : PlanText) (groups : List (List TouchText)) (keys : ℕ) (are : IsGrouped keys (touches_made plan) groups) where
-  -- ---- closes
-
-  pub closes_are : (contexts : ℕ) → length groups ≡ contexts * (keys + 1) → (closes : Option TwoTexts) → TextsIn keys contexts groups closes → ClosesAre plan closes
-  closes_are contexts count None none = record {
-    one = λ first second one two fails fails_too at.
-        let here = are.closes first one fails in
-        let there : Contains (group_at groups (close_group keys first)) second = subst (λ c. Contains (group_at groups (close_group_of keys c)) second) (sym at) (are.closes second two fails_too) in
-        let less = context_within contexts keys first.context groups first count here in
-        (none first.context less).one first second here there (both_true _ _ fails (eq-eqb first.context first.context refl)) (both_true _ _ fails_too (eq-eqb second.context first.context (sym at)));
-  }
-  closes_are contexts count (Some texts) (k, two) = record {
-    first = two.first;
-    second = two.second;
-    first_made = are.only k two.first two.first_made;
-    second_made = are.only k two.second two.second_made;
-    first_fails = two.first_fails;
-    second_fails = two.second_fails;
-    first_there = two.first_there;
-    second_there = two.second_there;
-    first_is = two.first_is;
-    second_is = two.second_is;
-    differ = two.differ;
-  }
-
   -- ---- computes that agree
 
   -- two of one place are found
@@ -167,15 +131,15 @@ module _ (plan : PlanText) (groups : List (List TouchText)) (keys : ℕ) (are : 
 
   -- ---- what is proved
 
-  module _ (free : (race : Race) → ¬ IsRace plan race) (places : length (keys_named plan) ≤ plan.key_places) (left : nat_le (most_numbers plan.size) (numbers_drawn plan) ≡ false) (closes : ClosesTellOne plan) where
+  module _ (free : (race : Race) → ¬ IsRace plan race) (places : length (keys_named plan) ≤ plan.key_places) (left : nat_le (most_numbers plan.size) (numbers_drawn plan) ≡ false) where
     fewer : numbers_drawn plan < most_numbers plan.size
     fewer = leb-false _ _ left
 
     pub has_one : AlikeIn plan words.Compute groups None → AlikeIn plan words.ComputeCloseable groups None → AlikeIn plan words.ComputeFail groups None → HasOneReport plan
-    has_one values closeable fails = record { apart = free_keeps_apart plan free (none_agree values closeable fails); closes = closes; keys = places; numbers = fewer }
+    has_one values closeable fails = record { apart = free_keeps_apart plan free (none_agree values closeable fails); closes = race_free_closes_agree plan free; keys = places; numbers = fewer }
 
     pub has_near : AlikeIn plan words.ComputeFail groups None → HasNearReport plan
-    has_near fails = record { alike = race_free_shares_values plan free (fails_are None fails); closes = closes; keys = places; numbers = fewer }
+    has_near fails = record { alike = race_free_shares_values plan free (fails_are None fails); closes = race_free_closes_agree plan free; keys = places; numbers = fewer }
 
   -- two that agree do not keep apart
   pub not_one : (word : Word) (race : Race) → AlikeIn plan word groups (Some race) → ¬ HasOneReport plan
@@ -183,11 +147,7 @@ module _ (plan : PlanText) (groups : List (List TouchText)) (keys : ℕ) (are : 
       let is = pair word k race two in
       one.apart.apart two.first two.second is.first_made is.second_made is.beside is.changes is.context is.key
 
-  -- the closes and the failing computes, where there is no reason
-  pub none_closes : (closes : Option TwoTexts) → is_some closes ≡ false → ClosesAre plan closes → ClosesTellOne plan
-  none_closes None none is = is
-  none_closes (Some texts) none is = absurd cc
-
+  -- the failing computes, if there is no reason
   pub none_fails : (fails : Option Race) → is_some fails ≡ false → AlikeIn plan words.ComputeFail groups fails → AlikeIn plan words.ComputeFail groups None
   none_fails None none is = is
   none_fails (Some race) none is = absurd cc

@@ -1,27 +1,24 @@
 -- What is found in a group of touches is there, and what is not found is not.
 use Rattle.std.proofs.Common.{◌≡◌, ℕ, zero, suc, ◌+◌, ◌<◌, ◌≤◌, Bool, true, false, List, [], ◌∷◌, get_or, length, map, Contains, Option, Some, None, refl, sym, ap, subst, ◌∙◌, arith, inl, inr}
 use Rattle.std.specs.declared.alloc.Global.{Global}
-use Rattle.std.specs.Prelude.{Vec, find, is_some, not, option_map}
+use Rattle.std.specs.Prelude.{Vec, ◌&&◌, ◌==◌, find, is_some, option_map}
 use Rattle.std.specs.Borrow.{Bor}
 use Rattle.std.specs.List.{list_any}
-use Rattle.std.specs.Str.{bytes_eq}
-use Rattle.std.specs.Cmp.Lexicographic.{bytes_decides}
-use Rattle.std.proofs.lemmas.Bool.{both_ways, cases_Bool, cases_eq, not-true}
+use Rattle.std.proofs.lemmas.Bool.{both_ways, cases_Bool, cases_eq}
 use Rattle.ext_plan.specs.Plans.{PlanText}
 use Rattle.ext_plan.specs.declared.word.Word.{Word}
 use Rattle.ext_plan.specs.declared.word.Word.TheVariants as words
 use Rattle.ext_races.specs.declared.passing.Passed.{Passed}
-use Rattle.ext_races.specs.declared.proved.TwoTexts.{TwoTexts}
 use Rattle.ext_races.specs.declared.race.Race.{Race}
 use Rattle.ext_races.specs.declared.touch.Touch.{Touch}
 use Rattle.ext_races.specs.Beside.{nodes_beside}
-use Rattle.ext_races.specs.InnerGroups.{close_group_of, group_at, groups_view}
+use Rattle.ext_races.specs.Clashes.{agree}
+use Rattle.ext_races.specs.InnerGroups.{group_at, groups_view}
 use Rattle.ext_races.specs.InnerPassing.{AreNoted}
-use Rattle.ext_races.specs.InnerProving.{AlikeIn, AlikeOf, AreAlike, NoneAlike, SharesIn, TellsOne, TextsIn, TextsOf, alike_beside, compute_alike, computes_with, fails_else, fails_in, has_alike}
-use Rattle.ext_races.specs.Proving.{HasTwoTexts}
+use Rattle.ext_races.specs.InnerProving.{AlikeIn, AlikeOf, AreAlike, NoneAlike, SharesIn, alike_beside, compute_alike, computes_with, has_alike}
 use Rattle.ext_races.specs.Races.{race_of}
 use Rattle.ext_races.specs.Touches.{TouchText, touch_view}
-use Rattle.ext_races.proofs.Equalities.{both, both_true, equal}
+use Rattle.ext_races.proofs.Equalities.{both, both_true}
 use Rattle.ext_races.proofs.Grouped.{any_contains, group_read}
 use Rattle.ext_races.proofs.Lists.{contains_cases, contains_first, contains_later, contains_nothing, contains-map, contains-map_back}
 use Rattle.ext_races.proofs.Noted.{meets_where}
@@ -73,45 +70,6 @@ none_of r o is none = sym is ∙ ap (option_map (λ (t : Bor Touch). t.now)) non
 pub some_of : (r : Option (Bor Touch)) (o : Option Touch) (t : Bor Touch) → option_map (λ (t : Bor Touch). t.now) r ≡ o → r ≡ Some t → o ≡ Some t.now
 some_of r o t is some = sym is ∙ ap (option_map (λ (t : Bor Touch). t.now)) some
 
--- ---- texts of closes
-
-module _ (context : ℕ) (group : List Touch) where
-  -- no close may fail there
-  pub no_texts : find (λ t. fails_in context (touch_view t)) group ≡ None → TellsOne context (map touch_view group)
-  no_texts none = record { one = λ t u t_in u_in fails fails_too. absurd (none_seen (fails_in context) group none t t_in fails) }
-
-  -- all have the text of the first
-  pub one_text : (first : Touch) → find (λ t. fails_else context first.text.now (touch_view t)) group ≡ None → TellsOne context (map touch_view group)
-  one_text first none = record { one = λ t u t_in u_in fails fails_too. same t t_in fails ∙ sym (same u u_in fails_too) }
-    where
-      same : (t : TouchText) → Contains (map touch_view group) t → fails_in context t ≡ true → t.text ≡ first.text.now
-      same t t_in fails = elim (cases_Bool (bytes_eq t.text first.text.now)) [
-        | inl is ↦ (bytes_decides t.text first.text.now).0 is
-        | inr other ↦ absurd (none_seen (fails_else context first.text.now) group none t t_in (both_true _ _ fails (ap not other)))
-      ]
-
-  pub two_texts : (first second : Touch) (texts : TwoTexts) → find (λ t. fails_in context (touch_view t)) group ≡ Some first → find (λ t. fails_else context first.text.now (touch_view t)) group ≡ Some second
-      → texts.context ≡ context → texts.first.now ≡ first.text.now → texts.second.now ≡ second.text.now → HasTwoTexts (map touch_view group) texts
-  two_texts first second texts one two at first_is second_is =
-      let a = seen (fails_in context) group first one in
-      let b = seen (fails_else context first.text.now) group second two in
-      let fails = both _ _ a.1 in
-      let else_fails = both (fails_in context (touch_view second)) _ b.1 in
-      let fails_too = both _ _ else_fails.0 in
-      record {
-        first = touch_view first;
-        second = touch_view second;
-        first_made = a.0;
-        second_made = b.0;
-        first_fails = fails.0;
-        second_fails = fails_too.0;
-        first_there = equal first.context context fails.1 ∙ sym at;
-        second_there = equal second.context context fails_too.1 ∙ sym at;
-        first_is = first_is;
-        second_is = second_is;
-        differ = λ same. both_ways (bytes_eq second.text.now first.text.now) (not-true _ else_fails.1) ((bytes_decides second.text.now first.text.now).1 (sym second_is ∙ sym same ∙ first_is));
-      }
-
 -- ---- computes that agree
 
 module _ (plan : PlanText) (word : Word) (group : List Touch) where
@@ -121,9 +79,9 @@ module _ (plan : PlanText) (word : Word) (group : List Touch) where
     none = λ t u t_in u_in alike.
         let at = contains-map_back touch_view group t t_in in
         let parts = both (compute_alike word t u) (nodes_beside plan t.node u.node) alike in
-        let p = both _ _ parts.0 in
-        let q = both _ _ p.0 in
-        let r = both _ _ q.0 in
+        let p = both (computes_with word t && (t.context == u.context) && (t.key == u.key)) (agree t u) parts.0 in
+        let q = both (computes_with word t && (t.context == u.context)) (t.key == u.key) p.0 in
+        let r = both (computes_with word t) (t.context == u.context) q.0 in
         both_ways (list_any (λ t. computes_with word (touch_view t)) group) none (any_where (λ t. computes_with word (touch_view t)) group at.0 at.1 (ap (computes_with word) at.2 ∙ r.0));
   }
 
@@ -132,9 +90,9 @@ module _ (plan : PlanText) (word : Word) (group : List Touch) where
     is_alike t u t_in u_in alike =
         let at = contains-map_back touch_view group u u_in in
         let parts = both (compute_alike word t u) (nodes_beside plan t.node u.node) alike in
-        let p = both _ _ parts.0 in
-        let q = both _ _ p.0 in
-        let r = both _ _ q.0 in
+        let p = both (computes_with word t && (t.context == u.context) && (t.key == u.key)) (agree t u) parts.0 in
+        let q = both (computes_with word t && (t.context == u.context)) (t.key == u.key) p.0 in
+        let r = both (computes_with word t) (t.context == u.context) q.0 in
         let meet = meets_where plan passed (map touch_view group) noted false t u t_in u_in (λ so. absurd cc) parts.1 in
         let any = any_where (λ v. alike_beside plan word t (touch_view v)) group at.0 at.1 (ap (alike_beside plan word t) at.2 ∙ alike) in
         both_true _ _ (both_true _ _ r.0 meet) any
@@ -168,19 +126,6 @@ group_within (g ∷ groups) (suc k) t h = let less = group_within groups k t h i
 
 pub group_items : (groups : List (Vec Touch Global)) (i : ℕ) (v : Vec Touch Global) (items : List Touch) → i < length groups → v ≡ get_or groups i v → items ≡ v.items → map touch_view items ≡ group_at (groups_view groups) i
 group_items groups i v items less is same = ap (map touch_view) same ∙ sym (group_read groups i v less is)
-
--- texts of one context more
-pub texts_if : (keys contexts context : ℕ) (groups : List (List TouchText)) (group : List TouchText) (r : Option TwoTexts) → group ≡ group_at groups (close_group_of keys context) → TextsOf context group r → is_some r ≡ true → TextsIn keys contexts groups r
-texts_if keys contexts context groups group None at is some = absurd cc
-texts_if keys contexts context groups group (Some texts) at is some = (close_group_of keys context, subst (λ g. HasTwoTexts g texts) at is)
-
-pub texts_more : (keys context : ℕ) (groups : List (List TouchText)) (group : List TouchText) (r : Option TwoTexts) → group ≡ group_at groups (close_group_of keys context) → TextsOf context group r → is_some r ≡ false → TextsIn keys context groups None
-    → TextsIn keys (context + 1) groups None
-texts_more keys context groups group (Some texts) at is none so_far k less = absurd cc
-texts_more keys context groups group None at is none so_far k less = elim (cases_eq k context) [
-  | inl same ↦ subst (λ j. TellsOne j (group_at groups (close_group_of keys j))) (sym same) (subst (TellsOne context) at is)
-  | inr other ↦ so_far k (omega (arith, less, other))
-]
 
 module _ (plan : PlanText) (word : Word) (groups : List (List TouchText)) where
   -- no computes of the first groups agree

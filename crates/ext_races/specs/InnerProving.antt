@@ -1,48 +1,19 @@
 -- What is looked for in groups of touches, to say what is proved of a plan without races.
-use Rattle.std.specs.Prelude.{ℕ, ◌≡◌, ◌<◌, ◌==◌, Bool, true, false, not, ◌&&◌, List, Contains, Option, Some, None}
+use Rattle.std.specs.Prelude.{ℕ, ◌≡◌, ◌==◌, Bool, true, false, ◌&&◌, List, Contains, Option, Some, None}
 use Rattle.std.specs.List.{list_any}
-use Rattle.std.specs.Str.{bytes_eq}
 use Rattle.ext_plan.specs.Plans.{PlanText}
 use Rattle.ext_plan.specs.StepWords.{word_eq}
 use Rattle.ext_plan.specs.declared.word.Word.{Word}
 use Rattle.ext_plan.specs.declared.word.Word.TheVariants as words
-use Rattle.ext_races.specs.declared.proved.TwoTexts.{TwoTexts}
 use Rattle.ext_races.specs.declared.passing.Passed.{Passed}
 use Rattle.ext_races.specs.declared.race.Race.{Race}
 use Rattle.ext_races.specs.declared.touch.Touch.{Touch}
 use Rattle.ext_races.specs.Beside.{nodes_beside}
-use Rattle.ext_races.specs.Clashes.{agree, may_fail}
-use Rattle.ext_races.specs.InnerGroups.{close_group_of, group_at}
+use Rattle.ext_races.specs.Clashes.{agree}
+use Rattle.ext_races.specs.InnerGroups.{group_at}
 use Rattle.ext_races.specs.InnerPassing.{may_meet}
-use Rattle.ext_races.specs.Proving.{HasTwoTexts}
 use Rattle.ext_races.specs.Races.{race_of}
 use Rattle.ext_races.specs.Touches.{TouchText, touch_view}
-
--- ---- texts of closes
-
--- The touch may leave a value in this context whose close fails.
-abbrev pub fails_in : ℕ → TouchText → Bool
-fails_in context t = may_fail t && (t.context == context)
-
--- The same, with another text than this.
-abbrev pub fails_else : ℕ → List ℕ → TouchText → Bool
-fails_else context text t = fails_in context t && not (bytes_eq t.text text)
-
--- All such touches of a group have one text.
-pub record TellsOne (context : ℕ) (group : List TouchText) : Type 0 where
-  pub one : (t u : TouchText) → Contains group t → Contains group u → fails_in context t ≡ true
-      → fails_in context u ≡ true → t.text ≡ u.text
-
--- What was found in a group for this context.
-abbrev pub TextsOf : ℕ → List TouchText → Option TwoTexts → Type 0
-TextsOf context group None = TellsOne context group
-TextsOf context group (Some texts) = HasTwoTexts group texts
-
--- What was found in the groups of the first so many contexts.
-abbrev pub TextsIn : ℕ → ℕ → List (List TouchText) → Option TwoTexts → Type 0
-TextsIn keys contexts groups None = (context : ℕ) → context < contexts
-    → TellsOne context (group_at groups (close_group_of keys context))
-TextsIn keys contexts groups (Some texts) = (k : ℕ) × HasTwoTexts (group_at groups k) texts
 
 -- ---- computes that agree
 

@@ -28,11 +28,11 @@ pub record SharesValues (plan : PlanText) : Type 0 where
       → first.context ≡ second.context → first.key ≡ second.key → (agree first second ≡ true)
       × (gives_value first.word ≡ true)
 
--- All steps of a plan that may leave a value in one context whose close fails have one text, whatever their nodes. So a
--- report doesn't show the order of closes.
-pub record ClosesTellOne (plan : PlanText) : Type 0 where
+-- If nodes that may run beside one another may leave values in one context whose closes fail, these have one text. So a
+-- report doesn't show in which order such nodes stored them. Which of other nodes comes first is fixed by the plan.
+pub record ClosesAgreeBeside (plan : PlanText) : Type 0 where
   pub one : (first second : TouchText) → Contains (touches_made plan) first → Contains (touches_made plan) second
-      → may_fail first ≡ true → may_fail second ≡ true
+      → IsBeside plan first.node second.node → may_fail first ≡ true → may_fail second ≡ true
       → first.context ≡ second.context → first.text ≡ second.text
 
 -- ---- plans without races
@@ -61,14 +61,18 @@ abbrev pub RaceFreeSharesValues : Type 0
 RaceFreeSharesValues = (plan : PlanText) → ((race : Race) → ¬ IsRace plan race) → NoFailedComputesAgree plan
     → SharesValues plan
 
+-- In a plan without races the closes of nodes beside one another agree.
+abbrev pub RaceFreeClosesAgree : Type 0
+RaceFreeClosesAgree = (plan : PlanText) → ((race : Race) → ¬ IsRace plan race) → ClosesAgreeBeside plan
+
 -- ---- what the laws ask
 
--- What the theorem asks of a plan: nodes that may run beside one another touch no place that one of them may change;
--- values whose closes fail have one text in each context; and there are keys for all that its steps name, and more
--- numbers than they may draw.
+-- What the theorem asks of a plan: nodes that may run beside one another touch no place that one of them may change, and
+-- leave no values in one context whose closes fail with different texts; and there are keys for all that its steps
+-- name, and more numbers than they may draw.
 pub record HasOneReport (plan : PlanText) : Type 0 where
   pub apart : KeepsApart plan
-  pub closes : ClosesTellOne plan
+  pub closes : ClosesAgreeBeside plan
   pub keys : length (keys_named plan) ≤ plan.key_places
   pub numbers : numbers_drawn plan < most_numbers plan.size
 
@@ -76,6 +80,6 @@ pub record HasOneReport (plan : PlanText) : Type 0 where
 -- touch one place that one of them may change, each does so there. The rest is as above.
 pub record HasNearReport (plan : PlanText) : Type 0 where
   pub alike : SharesValues plan
-  pub closes : ClosesTellOne plan
+  pub closes : ClosesAgreeBeside plan
   pub keys : length (keys_named plan) ≤ plan.key_places
   pub numbers : numbers_drawn plan < most_numbers plan.size

@@ -1,40 +1,20 @@
 -- What is said to be proved of a plan without races: that it has one report, or one but for who computed a value and
 -- who found it; or else why neither is (`OneReports`).
-use Rattle.std.specs.Prelude.{◌≡◌, ◌≢◌, ◌||◌, true, nat_le, is_some, List, Contains, Option, Some, None}
+use Rattle.std.specs.Prelude.{◌≡◌, ◌||◌, true, nat_le, is_some, Contains, Option, Some, None}
 use Rattle.ext_model.specs.Sizes.{most_numbers}
 use Rattle.ext_plan.specs.Plans.{PlanText}
 use Rattle.ext_plan.specs.declared.word.Word.TheVariants as words
 use Rattle.ext_races.specs.declared.proved.Gaps.{Gaps}
 use Rattle.ext_races.specs.declared.proved.Proved.{Proved}
 use Rattle.ext_races.specs.declared.proved.Proved.TheVariants as proved
-use Rattle.ext_races.specs.declared.proved.TwoTexts.{TwoTexts}
 use Rattle.ext_races.specs.declared.race.Race.{Race}
 use Rattle.ext_races.specs.Beside.{IsBeside}
-use Rattle.ext_races.specs.Clashes.{agree, may_fail}
-use Rattle.ext_races.specs.OneReports.{ClosesTellOne, HasNearReport, HasOneReport, NoFailedComputesAgree}
+use Rattle.ext_races.specs.Clashes.{agree}
+use Rattle.ext_races.specs.OneReports.{HasNearReport, HasOneReport, NoFailedComputesAgree}
 use Rattle.ext_races.specs.Races.{race_of}
 use Rattle.ext_races.specs.Touches.{TouchText, numbers_drawn, touches_made}
 
 -- ---- why neither is proved
-
--- Two of these touches may leave values in this context whose closes fail, with these texts, which differ.
-pub record HasTwoTexts (touches : List TouchText) (texts : TwoTexts) : Type 0 where
-  pub first : TouchText
-  pub second : TouchText
-  pub first_made : Contains touches first
-  pub second_made : Contains touches second
-  pub first_fails : may_fail first ≡ true
-  pub second_fails : may_fail second ≡ true
-  pub first_there : first.context ≡ texts.context
-  pub second_there : second.context ≡ texts.context
-  pub first_is : texts.first.now ≡ first.text
-  pub second_is : texts.second.now ≡ second.text
-  pub differ : texts.first.now ≢ texts.second.now
-
--- The closes of each context tell one text, or those of this context two.
-abbrev pub ClosesAre : PlanText → Option TwoTexts → Type 0
-ClosesAre plan None = ClosesTellOne plan
-ClosesAre plan (Some texts) = HasTwoTexts (touches_made plan) texts
 
 -- Two nodes that may run beside one another have the same `computefail` of one place.
 pub record FailAlike (plan : PlanText) (race : Race) : Type 0 where
@@ -57,10 +37,9 @@ FailsAre plan (Some race) = FailAlike plan race
 
 -- All reasons for which neither is proved of the plan, one of each kind. There is one at least.
 pub record AreGaps (plan : PlanText) (gaps : Gaps) : Type 0 where
-  pub closes : ClosesAre plan gaps.closes
   pub fails : FailsAre plan gaps.fails
   pub numbers : gaps.numbers ≡ nat_le (most_numbers plan.size) (numbers_drawn plan)
-  pub some : (is_some gaps.closes || is_some gaps.fails || gaps.numbers) ≡ true
+  pub some : (is_some gaps.fails || gaps.numbers) ≡ true
 
 -- ---- what is proved
 

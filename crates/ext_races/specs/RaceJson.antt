@@ -10,7 +10,7 @@
 -- `proved` says what is proved of the plan's report: `one report`, or `one report but for computed and found`. If it
 -- is `nothing`, `gaps` has a member for each kind of reason, null if there is none of its kind:
 --
---     {"closes":{"first":TEXT,"second":TEXT,"context":ID},"fails":RACE,"numbers":65535}
+--     {"fails":RACE,"numbers":65535}
 --
 -- If the plan exceeds a limit, `limit` names it and tells how many there are, as `{"of":"keys","most":64}`, and the
 -- other members are null. `print` of the kit's JSON says how a text is written, and a text reads back as it was. The
@@ -30,7 +30,6 @@ use Rattle.ext_races.specs.declared.found.Found.TheVariants as found
 use Rattle.ext_races.specs.declared.proved.Gaps.{Gaps}
 use Rattle.ext_races.specs.declared.proved.Proved.{Proved}
 use Rattle.ext_races.specs.declared.proved.Proved.TheVariants as proved
-use Rattle.ext_races.specs.declared.proved.TwoTexts.{TwoTexts}
 use Rattle.ext_races.specs.declared.race.Race.{Race}
 use Rattle.ext_races.specs.declared.race.Side.{Side}
 use Rattle.ext_races.specs.RaceLines.{id_of_node, line_limit, name_if}
@@ -70,16 +69,7 @@ module _ (plan : PlanText) where
 
   -- ---- the reasons for which neither report is proved
 
-  unfoldable pub texts_object : TwoTexts → List Token
-  texts_object texts =
-      begin_object ∷ (text_member (codes "first") texts.first.now ++ text_member (codes "second") texts.second.now
-      ++ id_member (codes "context") texts.context ++ end_object ∷ [])
-
   -- The value of a reason, null if there is none of its kind.
-  abbrev pub closes_value : Option TwoTexts → List Token
-  closes_value None = null ∷ []
-  closes_value (Some texts) = texts_object texts
-
   abbrev pub numbers_value : Bool → Token
   numbers_value drawn = if drawn then number (decimal (most_numbers plan.size)) else null
 
@@ -106,8 +96,8 @@ module _ (plan : PlanText) where
 
     unfoldable pub gaps_object : Gaps → List Token
     gaps_object gaps =
-        begin_object ∷ key (codes "closes") ∷ (closes_value gaps.closes ++ key (codes "fails") ∷ (fails_value gaps.fails
-        ++ key (codes "numbers") ∷ numbers_value gaps.numbers ∷ end_object ∷ []))
+        begin_object ∷ key (codes "fails") ∷ (fails_value gaps.fails ++ key (codes "numbers")
+        ∷ numbers_value gaps.numbers ∷ end_object ∷ [])
 
     -- The reasons, if nothing is proved.
     abbrev pub reasons_value : Proved → List Token

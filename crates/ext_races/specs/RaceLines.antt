@@ -7,7 +7,6 @@
 -- `and more` follows if there are more. If there is no race, the first line says so, and what is proved of the plan's
 -- report. If that is nothing, a line follows for each kind of reason:
 --
---     two texts of closes: TEXT and TEXT in ID
 --     the same beside one another: computefail KEY of ID and computefail KEY of ID in ID
 --     as many numbers as there are: NUMBER
 --
@@ -27,7 +26,6 @@ use Rattle.ext_races.specs.declared.race.Race.{Race}
 use Rattle.ext_races.specs.declared.race.Side.{Side}
 use Rattle.ext_races.specs.declared.proved.Proved.{Proved}
 use Rattle.ext_races.specs.declared.proved.Proved.TheVariants as proved
-use Rattle.ext_races.specs.declared.proved.TwoTexts.{TwoTexts}
 use Rattle.ext_races.specs.declared.found.Found.{Found}
 use Rattle.ext_races.specs.declared.found.Found.TheVariants as found
 
@@ -52,15 +50,7 @@ module _ (plan : PlanText) where
 
   -- ---- the reasons for which neither report is proved
 
-  unfoldable pub closes_line : TwoTexts → List ℕ
-  closes_line texts = codes "two texts of closes: " ++ texts.first.now ++ codes " and " ++ texts.second.now
-      ++ codes " in " ++ id_of_node texts.context ++ codes "\n"
-
   -- The line of a reason, if there is one of its kind.
-  abbrev pub closes_if : Option TwoTexts → List ℕ
-  closes_if None = []
-  closes_if (Some texts) = closes_line texts
-
   abbrev pub numbers_if : Bool → List ℕ
   numbers_if drawn = if drawn
       then codes "as many numbers as there are: " ++ decimal (most_numbers plan.size) ++ codes "\n" else []
@@ -91,8 +81,7 @@ module _ (plan : PlanText) where
     proved_text proved.OneReport = codes "no races: one report\n"
     proved_text proved.NearReport = codes "no races: one report but for computed and found\n"
     proved_text (proved.Neither gaps) =
-        codes "no races: one report is not proved\n" ++ closes_if gaps.closes ++ fails_if gaps.fails
-        ++ numbers_if gaps.numbers
+        codes "no races: one report is not proved\n" ++ fails_if gaps.fails ++ numbers_if gaps.numbers
 
   -- What is written, by what was found.
   abbrev pub found_text : Found → List ℕ

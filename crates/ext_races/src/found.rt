@@ -12,7 +12,7 @@ pub enum Found<'p> {
     },
     /// There is no race: what is proved of the plan, and the same words.
     NoRaces {
-        proved: Proved<'p>,
+        proved: Proved,
         names: Vec<&'p StepKey>,
     },
     /// The steps name more different keys than a run has places for (`Plan::key_places`): which of

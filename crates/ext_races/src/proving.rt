@@ -5,18 +5,17 @@ ghost use Rattle.ext_model.specs.Sizes.{most_numbers};
 ghost use Rattle.ext_plan.specs.Plans.{plan_view};
 ghost use Rattle.ext_plan.specs.ReadPlans.{ids_of_nodes};
 ghost use Rattle.ext_races.specs.declared.race.Race.{Race};
-ghost use Rattle.ext_races.specs.InnerGroups.{HasGroups, IsGrouped, close_group_of, group_at, groups_view};
-ghost use Rattle.ext_races.specs.InnerProving.{AlikeIn, AlikeOf, SharesIn, TextsIn, TextsOf, alike_beside, computes_with, fails_else, fails_in, has_alike};
+ghost use Rattle.ext_races.specs.InnerGroups.{IsGrouped, groups_view};
+ghost use Rattle.ext_races.specs.InnerProving.{AlikeIn, AlikeOf, SharesIn, alike_beside, computes_with, has_alike};
 ghost use Rattle.ext_races.specs.Proving.{IsProved};
 ghost use Rattle.ext_races.specs.Races.{IsRace};
 ghost use Rattle.ext_races.specs.Touches.{keys_named, numbers_drawn, touch_view, touches_made};
 
 use crate::beside::nodes_beside;
 use crate::passing::{Passed, may_meet, none_passed, note_group};
-use crate::proved::{Gaps, Proved, TwoTexts};
+use crate::proved::{Gaps, Proved};
 use crate::race::Race;
 use crate::touch::Touch;
-use ext_model::ContextNo;
 use ext_plan::{Plan, Word};
 use ext_tree::Tree;
 use std::alloc::{AllocError, Global};
@@ -31,7 +30,7 @@ pub(crate) fn proved_of<'p>(
     keys: usize,
     groups: &[Vec<Touch<'p>>],
     numbers: bool,
-) -> Result<Proved<'p>, AllocError>
+) -> Result<Proved, AllocError>
     requires tree { tree.now ≡ ids_of_nodes (plan_view plan.now).nodes }
     requires count { length groups.now ≡ length tree.now * (keys + 1) }
     requires groups { IsGrouped keys (touches_made (plan_view plan.now)) (groups_view groups.now) }
@@ -40,15 +39,9 @@ pub(crate) fn proved_of<'p>(
     requires numbers { numbers ≡ nat_le (most_numbers (plan_view plan.now).size) (numbers_drawn (plan_view plan.now)) }
     ensures { IfOk result (IsProved (plan_view plan.now)) }
 {
-    let contexts = tree.len();
-    let mut noted = none_passed(alloc, contexts)?;
-    let closes = texts_in(groups, keys, contexts);
+    let mut noted = none_passed(alloc, tree.len())?;
     let fails = alike_in(plan, tree, groups, noted.as_mut_slice(), Word::ComputeFail);
-    let gaps = Gaps {
-        closes,
-        fails,
-        numbers,
-    };
+    let gaps = Gaps { fails, numbers };
     if gaps.has_any() {
         return Ok(Proved::Neither(gaps));
     }
@@ -57,71 +50,6 @@ pub(crate) fn proved_of<'p>(
     }
     Ok(Proved::OneReport)
 }
-
-// ---- texts of closes
-
-/// The first context among these whose closes may fail with different texts, and two of the texts.
-fn texts_in<'p>(groups: &[Vec<Touch<'p>>], keys: usize, contexts: usize) -> Option<TwoTexts<'p>>
-    requires { length groups.now ≡ contexts * (keys + 1) }
-    ensures { TextsIn keys contexts (groups_view groups.now) result }
-{
-    for context in 0..contexts {
-        let texts = texts_of(context, close_group(groups, keys, context));
-        if texts.is_some() {
-            return texts;
-        }
-    }
-    None
-}
-
-/// The touches whose closes may fail in a context.
-fn close_group<'a, 'p>(
-    groups: &'a [Vec<Touch<'p>>],
-    keys: usize,
-    context: ContextNo,
-) -> &'a [Touch<'p>]
-    requires { HasGroups keys (length groups.now) context }
-    ensures { map touch_view result.now ≡ group_at (groups_view groups.now) (close_group_of keys context) }
-{
-    groups[context * (keys + 1) + keys].as_slice()
-}
-
-/// Two different texts with which closes of this context may fail, if the group has them.
-fn texts_of<'p>(context: ContextNo, group: &[Touch<'p>]) -> Option<TwoTexts<'p>>
-    ensures { TextsOf context (map touch_view group.now) result }
-{
-    let Some(first) = first_failing(group, context) else {
-        return None;
-    };
-    let Some(second) = other_failing(group, context, first.text) else {
-        return None;
-    };
-    Some(TwoTexts {
-        context,
-        first: first.text,
-        second: second.text,
-    })
-}
-
-/// The first touch of a group that may leave a value in this context whose close fails.
-fn first_failing<'a, 'p>(group: &'a [Touch<'p>], context: ContextNo) -> Option<&'a Touch<'p>>
-    ensures { option_map (λ t. t.now) result ≡ find (λ t. fails_in context (touch_view t)) group.now }
-{
-    group.iter().find(|touch| touch.fails_in(context))
-}
-
-/// The first whose close fails there with another text.
-fn other_failing<'a, 'p>(
-    group: &'a [Touch<'p>],
-    context: ContextNo,
-    text: &str,
-) -> Option<&'a Touch<'p>>
-    ensures { option_map (λ t. t.now) result ≡ find (λ t. fails_else context text.now (touch_view t)) group.now }
-{
-    group.iter().find(|touch| touch.fails_else(context, text))
-}
-
-// ---- computes that agree
 
 /// Tests whether of nodes that may run beside one another one computes a value, and the other the
 /// same one in that place, or finds it.

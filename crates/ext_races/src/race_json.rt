@@ -6,10 +6,10 @@ ghost use Rattle.json.specs.Token.{begin_array, end_array, key, number, string};
 ghost use Rattle.json.specs.Print.{print};
 ghost use Rattle.ext_plan.specs.Plans.{plan_view};
 ghost use Rattle.ext_races.specs.RaceLines.{id_of_node, line_limit};
-ghost use Rattle.ext_races.specs.RaceJson.{closes_value, fails_value, found_json, found_object, gaps_object, gaps_value, id_member, limit_object, limit_value, more_value, numbers_value, proved_members, proved_value, proved_word, race_members, race_object, races_array, races_value, reasons_value, side_object, text_member, texts_object};
+ghost use Rattle.ext_races.specs.RaceJson.{fails_value, found_json, found_object, gaps_object, gaps_value, id_member, limit_object, limit_value, more_value, numbers_value, proved_members, proved_value, proved_word, race_members, race_object, races_array, races_value, reasons_value, side_object, text_member};
 
 use crate::text::{LINES, first_of, name_at, push_id};
-use crate::{Found, Gaps, Proved, Race, Side, TwoTexts};
+use crate::{Found, Gaps, Proved, Race, Side};
 use ext_model::ContextNo;
 use ext_plan::{Plan, StepKey};
 use json::Writer;
@@ -211,7 +211,7 @@ fn write_proved(writer: &mut Writer, found: &Found<'_>) -> Result<(), AllocError
 }
 
 /// What is proved, in words.
-fn word_of(proved: &Proved<'_>) -> &'static str
+fn word_of(proved: &Proved) -> &'static str
     ensures { result.now ≡ proved_word proved.now }
 {
     match proved {
@@ -244,7 +244,7 @@ fn write_reasons(
     writer: &mut Writer,
     alloc: Global,
     plan: &Plan,
-    proved: &Proved<'_>,
+    proved: &Proved,
     names: &[&StepKey],
 ) -> Result<(), AllocError>
     ensures before { OnOk result (writer.new.before ≡ writer.old.before) }
@@ -263,7 +263,7 @@ fn write_each(
     writer: &mut Writer,
     alloc: Global,
     plan: &Plan,
-    gaps: &Gaps<'_>,
+    gaps: &Gaps,
     names: &[&StepKey],
 ) -> Result<(), AllocError>
     ensures before { OnOk result (writer.new.before ≡ writer.old.before) }
@@ -271,46 +271,10 @@ fn write_each(
         (writer.new.tokens ≡ writer.old.tokens ++ gaps_object (plan_view plan.now) names.now gaps.now) }
 {
     writer.begin_object()?;
-    writer.key("closes")?;
-    write_closes(writer, alloc, plan, &gaps.closes)?;
     writer.key("fails")?;
     write_fails(writer, alloc, plan, &gaps.fails, names)?;
     writer.key("numbers")?;
     write_numbers(writer, plan, gaps.numbers)?;
-    writer.end_object()
-}
-
-/// Writes the texts of closes, or null if there are not two.
-fn write_closes(
-    writer: &mut Writer,
-    alloc: Global,
-    plan: &Plan,
-    closes: &Option<TwoTexts<'_>>,
-) -> Result<(), AllocError>
-    ensures before { OnOk result (writer.new.before ≡ writer.old.before) }
-    ensures tokens { OnOk result
-        (writer.new.tokens ≡ writer.old.tokens ++ closes_value (plan_view plan.now) closes.now) }
-{
-    match closes {
-        None => writer.null(),
-        Some(texts) => write_texts(writer, alloc, plan, texts),
-    }
-}
-
-fn write_texts(
-    writer: &mut Writer,
-    alloc: Global,
-    plan: &Plan,
-    texts: &TwoTexts<'_>,
-) -> Result<(), AllocError>
-    ensures before { OnOk result (writer.new.before ≡ writer.old.before) }
-    ensures tokens { OnOk result
-        (writer.new.tokens ≡ writer.old.tokens ++ texts_object (plan_view plan.now) texts.now) }
-{
-    writer.begin_object()?;
-    write_text(writer, "first", texts.first)?;
-    write_text(writer, "second", texts.second)?;
-    write_id(writer, alloc, plan, "context", texts.context)?;
     writer.end_object()
 }
 

@@ -5,9 +5,9 @@ ghost use Rattle.std.specs.List.{flat_map, slice_get};
 ghost use Rattle.ext_model.specs.Sizes.{most_numbers};
 ghost use Rattle.ext_plan.specs.Plans.{plan_view, step_key_view};
 ghost use Rattle.ext_plan.specs.StepCalls.{label_of};
-ghost use Rattle.ext_races.specs.RaceLines.{closes_if, closes_line, fails_if, found_text, id_of_node, line_limit, name_if, numbers_if, proved_text, race_line, race_lines, side_text};
+ghost use Rattle.ext_races.specs.RaceLines.{fails_if, found_text, id_of_node, line_limit, name_if, numbers_if, proved_text, race_line, race_lines, side_text};
 
-use crate::{Found, Gaps, Proved, Race, Side, TwoTexts};
+use crate::{Found, Gaps, Proved, Race, Side};
 use ext_model::{ContextNo, KeyNo};
 use ext_plan::{Plan, StepKey};
 use std::alloc::{AllocError, Global};
@@ -119,7 +119,7 @@ fn push_race(
 fn push_proved(
     text: &mut String,
     plan: &Plan,
-    proved: &Proved<'_>,
+    proved: &Proved,
     names: &[&StepKey],
 ) -> Result<(), AllocError>
     ensures { OnOk result (string_bytes text.new ≡ string_bytes text.old ++ proved_text (plan_view plan.now) names.now proved.now) }
@@ -135,41 +135,14 @@ fn push_proved(
 fn push_gaps(
     text: &mut String,
     plan: &Plan,
-    gaps: &Gaps<'_>,
+    gaps: &Gaps,
     names: &[&StepKey],
 ) -> Result<(), AllocError>
-    ensures { OnOk result (string_bytes text.new ≡ string_bytes text.old ++ codes "no races: one report is not proved\n" ++ closes_if (plan_view plan.now) gaps.now.closes ++ fails_if (plan_view plan.now) names.now gaps.now.fails ++ numbers_if (plan_view plan.now) gaps.now.numbers) }
+    ensures { OnOk result (string_bytes text.new ≡ string_bytes text.old ++ codes "no races: one report is not proved\n" ++ fails_if (plan_view plan.now) names.now gaps.now.fails ++ numbers_if (plan_view plan.now) gaps.now.numbers) }
 {
     text.push_str("no races: one report is not proved\n")?;
-    push_closes(text, plan, &gaps.closes)?;
     push_fails(text, plan, &gaps.fails, names)?;
     push_drawn(text, plan, gaps.numbers)
-}
-
-/// Adds the texts of closes, if there are two.
-fn push_closes(
-    text: &mut String,
-    plan: &Plan,
-    closes: &Option<TwoTexts<'_>>,
-) -> Result<(), AllocError>
-    ensures { OnOk result (string_bytes text.new ≡ string_bytes text.old ++ closes_if (plan_view plan.now) closes.now) }
-{
-    match closes {
-        None => Ok(()),
-        Some(texts) => push_texts(text, plan, texts),
-    }
-}
-
-fn push_texts(text: &mut String, plan: &Plan, texts: &TwoTexts<'_>) -> Result<(), AllocError>
-    ensures { OnOk result (string_bytes text.new ≡ string_bytes text.old ++ closes_line (plan_view plan.now) texts.now) }
-{
-    text.push_str("two texts of closes: ")?;
-    text.push_str(texts.first)?;
-    text.push_str(" and ")?;
-    text.push_str(texts.second)?;
-    text.push_str(" in ")?;
-    push_id(text, plan, texts.context)?;
-    text.push_str("\n")
 }
 
 /// Adds the computes that fail alike, if there are any.

@@ -103,7 +103,7 @@ pub(crate) fn touch_first<'p>(
 impl Touch<'_> {
     ghost use Rattle.ext_races.specs.Clashes.{agree, clashes, closes_differ, may_fail};
     ghost use Rattle.ext_races.specs.InnerPassing.{alike};
-    ghost use Rattle.ext_races.specs.InnerProving.{compute_alike, computes_with, fails_else, fails_in};
+    ghost use Rattle.ext_races.specs.InnerProving.{compute_alike, computes_with};
     ghost use Rattle.ext_races.specs.InnerTold.{touch_eq};
     ghost use Rattle.ext_races.specs.Races.{race_of, side_of};
 
@@ -184,20 +184,6 @@ impl Touch<'_> {
         ensures { result ≡ may_fail (touch_view self.now) }
     {
         self.changes && self.word.leaves_closeable() && self.text.as_bytes().starts_with(b"bad")
-    }
-
-    /// Tests whether it may leave a value in this context whose close fails.
-    pub(crate) fn fails_in(&self, context: ContextNo) -> bool
-        ensures { result ≡ fails_in context (touch_view self.now) }
-    {
-        self.may_fail() && self.context == context
-    }
-
-    /// Tests whether it may leave one there whose close fails with another text than this.
-    pub(crate) fn fails_else(&self, context: ContextNo, text: &str) -> bool
-        ensures { result ≡ fails_else context text.now (touch_view self.now) }
-    {
-        self.fails_in(context) && self.text != text
     }
 
     /// The race with the other touch. The node with the lower number comes first.

@@ -10,7 +10,7 @@ use Rattle.ext_plan_reading.specs.PlanNode.{PlanNode}
 use Rattle.ext_plan_reading.specs.Plans.{PlanText, lock_view, locks_view, node_view, steps_view}
 use Rattle.ext_report.proofs.Lines.{joined}
 use Rattle.ext_run.specs.Drawings.{IsTextOf, lock_words, node_words, test_words, word_if}
-use Rattle.ext_run.specs.Failures.{failures_at, failures_below}
+use Rattle.ext_run.specs.Failures.{Listing, failures_at, failures_below}
 use Rattle.ext_run.specs.declared.failures.NodeFault.{NodeFault}
 use Rattle.ext_run.specs.declared.fault.RunFault.{RunFault}
 
@@ -29,18 +29,18 @@ words-written node concurrent text a b c d mode first second third fourth =
     let two = joined text a b mode_words isolated_words one second in
     joined text c d ((mode_words ++ isolated_words) ++ all_locks) steps_words (joined text b c (mode_words ++ isolated_words) all_locks two three) fourth
 
-pub no-failures : (ids : List Id) (faults : List NodeFault) (text : List ℕ) → text ≡ [] → text ≡ failures_below ids faults 0
+pub no-failures : (line : Listing) (ids : List Id) (faults : List NodeFault) (text : List ℕ) → text ≡ [] → text ≡ failures_below line ids faults 0
 unfolding failures_below
-no-failures ids faults text none = none
+no-failures line ids faults text none = none
 
-below-suc : (ids : List Id) (faults : List NodeFault) (n : ℕ) → failures_below ids faults (suc n) ≡ failures_below ids faults n ++ failures_at ids (id_at ids n) n faults
+below-suc : (line : Listing) (ids : List Id) (faults : List NodeFault) (n : ℕ) → failures_below line ids faults (suc n) ≡ failures_below line ids faults n ++ failures_at line (id_at ids n) n faults
 unfolding failures_below
-below-suc ids faults n = refl
+below-suc line ids faults n = refl
 
-pub failures-more : (ids : List Id) (faults : List NodeFault) (n : ℕ) (id : List Pair) (text more : List ℕ) → id ≡ id_at ids n → text ≡ failures_below ids faults n → more ≡ text ++ failures_at ids id n faults
-    → more ≡ failures_below ids faults (n + 1)
-failures-more ids faults n id text more at so is =
-    is ∙ ap (λ t. t ++ failures_at ids id n faults) so ∙ ap (λ i. failures_below ids faults n ++ failures_at ids i n faults) at ∙ sym (below-suc ids faults n) ∙ ap (failures_below ids faults) (sym (add-one n))
+pub failures-more : (line : Listing) (ids : List Id) (faults : List NodeFault) (n : ℕ) (id : List Pair) (text more : List ℕ) → id ≡ id_at ids n → text ≡ failures_below line ids faults n → more ≡ text ++ failures_at line id n faults
+    → more ≡ failures_below line ids faults (n + 1)
+failures-more line ids faults n id text more at so is =
+    is ∙ ap (λ t. t ++ failures_at line id n faults) so ∙ ap (λ i. failures_below line ids faults n ++ failures_at line i n faults) at ∙ sym (below-suc line ids faults n) ∙ ap (failures_below line ids faults) (sym (add-one n))
 
 -- the text of what was read, with this behind it
 pub text-more : (of : PlanText → List ℕ) (more : List ℕ) (read : Result PlanText RunFault) (text new : List ℕ) → new ≡ text ++ more → IsTextOf of read text

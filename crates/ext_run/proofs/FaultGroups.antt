@@ -7,27 +7,26 @@ use Rattle.std.proofs.lemmas.Bool.{cases_Bool}
 use Rattle.std.proofs.lemmas.Grind.{flat_map-append}
 use Rattle.std.proofs.lemmas.List.{map-append, take_more}
 use Rattle.ext_ids.specs.Grammar.{Pair}
-use Rattle.ext_tree.specs.Trees.{Id}
 use Rattle.ext_report.specs.Groups.{AreGrouped, numbered, shown}
 use Rattle.ext_report.proofs.Groupings.{group_read}
 use Rattle.ext_run.specs.declared.failures.NodeFault.{NodeFault}
-use Rattle.ext_run.specs.Failures.{failure_line, failures_at}
+use Rattle.ext_run.specs.Failures.{Listing, failures_at}
 use Rattle.ext_run.specs.InnerFailures.{lines_of, nodes_of}
 
-told_numbered : (ids : List Id) (id : List Pair) (k : ℕ) (faults : List NodeFault) → lines_of ids id (numbered k (nodes_of faults) faults) ≡ failures_at ids id k faults
-told_numbered ids id k [] = refl
-told_numbered ids id k (fault ∷ faults) = elim (cases_Bool (fault.node == k)) [
-  | inl here ↦ rw here (ap (λ t. failure_line ids id fault ++ t) (told_numbered ids id k faults))
-  | inr elsewhere ↦ rw elsewhere (told_numbered ids id k faults)
+told_numbered : (line : Listing) (id : List Pair) (k : ℕ) (faults : List NodeFault) → lines_of line id (numbered k (nodes_of faults) faults) ≡ failures_at line id k faults
+told_numbered line id k [] = refl
+told_numbered line id k (fault ∷ faults) = elim (cases_Bool (fault.node == k)) [
+  | inl here ↦ rw here (ap (λ t. line id fault ++ t) (told_numbered line id k faults))
+  | inr elsewhere ↦ rw elsewhere (told_numbered line id k faults)
 ]
 
 -- the lines of a group are those of its node
-pub group_told : (ids : List Id) (id : List Pair) (count k : ℕ) (faults : List NodeFault) (numbers : List ℕ) (groups : List (Vec (Bor NodeFault))) (v : Vec (Bor NodeFault)) (refs : List (Bor NodeFault)) → k < count → k < length groups
-    → v ≡ get_or groups k v → refs ≡ v.items → numbers ≡ nodes_of faults → AreGrouped count numbers faults groups → lines_of ids id (shown refs) ≡ failures_at ids id k faults
-group_told ids id count k faults numbers groups v refs less within is same nodes are =
-    ap (λ rs. lines_of ids id (shown rs)) (same ∙ sym (group_read groups k v within is)) ∙ ap (lines_of ids id) (are.each k less ∙ ap (λ ns. numbered k ns faults) nodes) ∙ told_numbered ids id k faults
+pub group_told : (line : Listing) (id : List Pair) (count k : ℕ) (faults : List NodeFault) (numbers : List ℕ) (groups : List (Vec (Bor NodeFault))) (v : Vec (Bor NodeFault)) (refs : List (Bor NodeFault)) → k < count → k < length groups
+    → v ≡ get_or groups k v → refs ≡ v.items → numbers ≡ nodes_of faults → AreGrouped count numbers faults groups → lines_of line id (shown refs) ≡ failures_at line id k faults
+group_told line id count k faults numbers groups v refs less within is same nodes are =
+    ap (λ rs. lines_of line id (shown rs)) (same ∙ sym (group_read groups k v within is)) ∙ ap (lines_of line id) (are.each k less ∙ ap (λ ns. numbered k ns faults) nodes) ∙ told_numbered line id k faults
 
 -- one line more
-pub lines_more : (ids : List Id) (id : List Pair) (refs : List (Bor NodeFault)) (i : ℕ) (ref : Bor NodeFault) → i < length refs → ref ≡ get_or refs i ref
-    → lines_of ids id (shown (take (i + 1) refs)) ≡ lines_of ids id (shown (take i refs)) ++ failure_line ids id ref.now
-lines_more ids id refs i ref less is = rw (take_more refs i ref less, map-append, flat_map-append, ← is, append-nil) refl
+pub lines_more : (line : Listing) (id : List Pair) (refs : List (Bor NodeFault)) (i : ℕ) (ref : Bor NodeFault) → i < length refs → ref ≡ get_or refs i ref
+    → lines_of line id (shown (take (i + 1) refs)) ≡ lines_of line id (shown (take i refs)) ++ line id ref.now
+lines_more line id refs i ref less is = rw (take_more refs i ref less, map-append, flat_map-append, ← is, append-nil) refl

@@ -52,30 +52,37 @@ module _ (ids : List Id) where
   failure_line id fault =
       id_text id ++ codes ": " ++ string_bytes fault.text ++ codes " (" ++ place_text fault.place ++ codes ")\n"
 
-  -- The fault's line, if the fault is the node's.
+-- What is listed of a fault of the node with this id.
+abbrev pub Listing : Type 0
+Listing = List Pair → NodeFault → List ℕ
+
+module _ (line : Listing) where
+  -- What is listed of the fault, if it is the node's.
   abbrev pub failure_at : List Pair → ℕ → NodeFault → List ℕ
-  failure_at id node fault = if fault.node == node then failure_line id fault else []
+  failure_at id node fault = if fault.node == node then line id fault else []
 
   -- The faults of one node, in the order in which they were reported.
   abbrev pub failures_at : List Pair → ℕ → List NodeFault → List ℕ
   failures_at id node faults = flat_map (failure_at id node) faults
 
-  -- The faults of the first `n` nodes, in the order of the plan.
-  unfoldable pub failures_below : List NodeFault → ℕ → List ℕ
-  failures_below faults zero = []
-  failures_below faults (suc n) = failures_below faults n ++ failures_at (id_at ids n) n faults
+  module _ (ids : List Id) where
+    -- The faults of the first `n` nodes, in the order of the plan.
+    unfoldable pub failures_below : List NodeFault → ℕ → List ℕ
+    failures_below faults zero = []
+    failures_below faults (suc n) = failures_below faults n ++ failures_at (id_at ids n) n faults
 
-  -- The faults of all nodes.
-  abbrev pub failures_of : List NodeFault → List ℕ
-  failures_of faults = failures_below faults (length ids)
+    -- The faults of all nodes.
+    abbrev pub failures_of : List NodeFault → List ℕ
+    failures_of faults = failures_below faults (length ids)
 
-abbrev pub failures_in : List NodeFault → PlanText → List ℕ
-failures_in faults plan = failures_of (ids_of_nodes plan.nodes) faults
+-- What is listed of a plan's faults, in a form that has a line of each, and one behind them if faults were lost.
+abbrev pub listed : (List Id → Listing) → (Bool → List ℕ) → ToldFaults → PlanText → List ℕ
+listed line behind told plan =
+    failures_of (line (ids_of_nodes plan.nodes)) (ids_of_nodes plan.nodes) told.faults.items ++ behind told.lost
 
--- A last line, if faults were lost.
 abbrev pub lost_line : Bool → List ℕ
 lost_line are_lost = if are_lost then codes "further faults were lost: no memory\n" else []
 
--- Everything that is listed.
+-- All faults as lines.
 abbrev pub told_in : ToldFaults → PlanText → List ℕ
-told_in told plan = failures_in told.faults.items plan ++ lost_line told.lost
+told_in = listed failure_line lost_line

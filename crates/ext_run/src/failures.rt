@@ -5,12 +5,14 @@ ghost use Rattle.ext_plan_reading.specs.Plans.{plan_view};
 ghost use Rattle.ext_plan_reading.specs.ReadPlans.{IsRunnablePlan};
 ghost use Rattle.ext_run.specs.Reports.{plan_of_bytes};
 ghost use Rattle.ext_report.specs.Groups.{shown};
-ghost use Rattle.ext_run.specs.Failures.{IsAdded, NotesFault, call_text, callback_of, failure_line, failures_in, failures_of, lost_line, place_text, told_in};
-ghost use Rattle.ext_run.specs.InnerFailures.{lines_of, nodes_of};
+ghost use Rattle.ext_run.specs.FailureJson.{json_in};
+ghost use Rattle.ext_run.specs.Failures.{IsAdded, NotesFault, call_text, callback_of, failure_line, failures_of, place_text, told_in};
+ghost use Rattle.ext_run.specs.InnerFailures.{failures_in, line_in, lines_of, listed_in, lost_in, nodes_of};
 ghost use Rattle.ext_run.specs.Drawings.{TextAs};
 ghost use Rattle.ext_tree.specs.Trees.{id_at};
 ghost use Rattle.ext_ids.specs.Grammar.{id_text};
 
+use crate::failure_json::write_object;
 use crate::fault::RunFault;
 use ext_ids::UniqueId;
 use ext_lifecycle::{Call, FaultPlace, Kind, RunListener};
@@ -135,6 +137,15 @@ impl<R: Wait, L: RunListener> RunListener for Failures<'_, R, L> {
     }
 }
 
+/// The form in which faults are told.
+#[derive(Clone, Copy, Debug, PartialEq, Eq)]
+pub(crate) enum FaultForm {
+    /// A line for each.
+    Lines,
+    /// An object of JSON for each, on a line.
+    Json,
+}
+
 /// Returns the faults that were reported of a plan's nodes, as lines `ID: FAULT (PLACE)`. The place
 /// is for instance `test, step 1` or `before_each 0 of [engine:x], step 1`, or `close` for a value
 /// that could not be closed. The nodes are in the order of the plan, and the faults of each node in
@@ -151,58 +162,111 @@ pub fn failures_text(
 ) -> Result<String, RunFault>
     ensures { TextAs string_bytes (told_in told.now) result (plan_of_bytes size input.now) }
 {
-    let mut text = failure_lines(alloc, input, size, told.faults.as_slice())?;
-    write_lost(&mut text, told.lost)?;
+    text_in(alloc, input, size, told, FaultForm::Lines)
+}
+
+/// Returns the faults that were reported of a plan's nodes, as objects of JSON on a line each. They
+/// are those of `failures_text`, in the same order. An object has the members `id`, `fault`, `call`,
+/// `index`, `of` and `step`, in this order. `call` is the field of a callback, `test` or `close`.
+/// `index` is the callback's number among those of its field, and `of` the id of the node that
+/// registered it: both are null if it is none. `step` is null for `close`. If faults were lost, the
+/// last line is `{"lost":true}`.
+///
+/// Refused like `failures_text`, and takes memory for the same.
+pub fn failures_json(
+    alloc: Global,
+    input: &[u8],
+    size: Size,
+    told: &ToldFaults,
+) -> Result<String, RunFault>
+    ensures { TextAs string_bytes (json_in told.now) result (plan_of_bytes size input.now) }
+{
+    text_in(alloc, input, size, told, FaultForm::Json)
+}
+
+/// All faults in this form.
+fn text_in(
+    alloc: Global,
+    input: &[u8],
+    size: Size,
+    told: &ToldFaults,
+    form: FaultForm,
+) -> Result<String, RunFault>
+    ensures { TextAs string_bytes (listed_in form told.now) result (plan_of_bytes size input.now) }
+{
+    let mut text = failures_in(alloc, input, size, told.faults.as_slice(), form)?;
+    write_lost(&mut text, told.lost, form)?;
     Ok(text)
 }
 
 /// Writes the line that faults were lost at the end of a text, if some were.
-fn write_lost(text: &mut String, lost: bool) -> Result<(), AllocError>
-    ensures { OnOk result (string_bytes text.new ≡ string_bytes text.old ++ lost_line lost) }
+fn write_lost(text: &mut String, lost: bool, form: FaultForm) -> Result<(), AllocError>
+    ensures { OnOk result (string_bytes text.new ≡ string_bytes text.old ++ lost_in form lost) }
 {
-    if lost {
-        return text.push_str("further faults were lost: no memory\n");
+    if !lost {
+        return Ok(());
     }
-    Ok(())
+    match form {
+        FaultForm::Lines => text.push_str("further faults were lost: no memory\n"),
+        FaultForm::Json => text.push_str("{\"lost\":true}\n"),
+    }
 }
 
-/// The lines of the faults of a plan's nodes.
+/// The faults of a plan's nodes in this form.
 #[tactic(auto, unfolding(crate::specs::Reports::plan_of_bytes))]
-fn failure_lines(
+fn failures_in(
     alloc: Global,
     input: &[u8],
     size: Size,
     faults: &[NodeFault],
+    form: FaultForm,
 ) -> Result<String, RunFault>
-    ensures { TextAs string_bytes (failures_in faults.now) result (plan_of_bytes size input.now) }
+    ensures { TextAs string_bytes (failures_in form faults.now) result (plan_of_bytes size input.now) }
 {
     let Ok(text) = std::str::from_utf8(input) else {
         return Err(RunFault::Plan(PlanFault::NotUtf8));
     };
     match read_plan_within(alloc, text, size) {
-        Ok(plan) => Ok(failures_of_plan(alloc, &plan, faults)?),
+        Ok(plan) => Ok(failures_of_plan(alloc, &plan, faults, form)?),
         Err(fault) => Err(RunFault::Plan(fault)),
     }
 }
 
 /// The same for a plan that was read.
-fn failures_of_plan(alloc: Global, plan: &Plan, faults: &[NodeFault]) -> Result<String, AllocError>
+fn failures_of_plan(
+    alloc: Global,
+    plan: &Plan,
+    faults: &[NodeFault],
+    form: FaultForm,
+) -> Result<String, AllocError>
     requires { IsRunnablePlan (plan_view plan.now) }
-    ensures { IfOk result (λ text. string_bytes text ≡ failures_in faults.now (plan_view plan.now)) }
+    ensures { IfOk result (λ text. string_bytes text ≡ failures_in form faults.now (plan_view plan.now)) }
 {
     let tree = plan.tree(alloc)?;
-    failures_of_tree(alloc, &tree, faults)
+    failures_of_tree(alloc, &tree, faults, form)
 }
 
 /// The same for the tree of the plan's nodes.
-fn failures_of_tree(alloc: Global, tree: &Tree, faults: &[NodeFault]) -> Result<String, AllocError>
-    ensures { IfOk result (λ text. string_bytes text ≡ failures_of tree.now faults.now) }
+fn failures_of_tree(
+    alloc: Global,
+    tree: &Tree,
+    faults: &[NodeFault],
+    form: FaultForm,
+) -> Result<String, AllocError>
+    ensures { IfOk result (λ text. string_bytes text ≡ failures_of (line_in form tree.now) tree.now faults.now) }
 {
     let nodes = nodes_of(alloc, faults)?;
     let groups = grouped(alloc, faults, nodes.as_slice(), tree.len())?;
     let mut text = String::new(alloc);
     for node in 0..tree.len() {
-        write_failures(&mut text, tree, tree.id(node), groups[node].as_slice())?;
+        write_failures(
+            &mut text,
+            alloc,
+            tree,
+            tree.id(node),
+            groups[node].as_slice(),
+            form,
+        )?;
     }
     Ok(text)
 }
@@ -221,19 +285,38 @@ fn nodes_of(alloc: Global, faults: &[NodeFault]) -> Result<Vec<ContextNo>, Alloc
 /// Writes the faults of a node at the end of a text.
 fn write_failures(
     text: &mut String,
+    alloc: Global,
     tree: &Tree,
     id: &UniqueId,
     faults: &[&NodeFault],
+    form: FaultForm,
 ) -> Result<(), AllocError>
-    ensures { OnOk result (string_bytes text.new ≡ string_bytes text.old ++ lines_of tree.now id.now (shown faults.now)) }
+    ensures { OnOk result (string_bytes text.new ≡ string_bytes text.old ++ lines_of (line_in form tree.now) id.now (shown faults.now)) }
 {
     for fault in faults {
-        write_failure(text, tree, id, fault)?;
+        write_in_form(text, alloc, tree, id, fault, form)?;
     }
     Ok(())
 }
 
-/// Writes a fault of the node with this id at the end of a text.
+/// Writes a fault of the node with this id at the end of a text, in this form.
+fn write_in_form(
+    text: &mut String,
+    alloc: Global,
+    tree: &Tree,
+    id: &UniqueId,
+    fault: &NodeFault,
+    form: FaultForm,
+) -> Result<(), AllocError>
+    ensures { OnOk result (string_bytes text.new ≡ string_bytes text.old ++ line_in form tree.now id.now fault.now) }
+{
+    match form {
+        FaultForm::Lines => write_failure(text, tree, id, fault),
+        FaultForm::Json => write_object(text, alloc, tree, id, fault),
+    }
+}
+
+/// Writes the line of a fault of the node with this id at the end of a text.
 fn write_failure(
     text: &mut String,
     tree: &Tree,
@@ -294,7 +377,7 @@ fn write_callback(
 }
 
 /// Writes the id of a node at the end of a text, if the tree has it.
-fn write_id(text: &mut String, tree: &Tree, node: ContextNo) -> Result<(), AllocError>
+pub(crate) fn write_id(text: &mut String, tree: &Tree, node: ContextNo) -> Result<(), AllocError>
     ensures { OnOk result (string_bytes text.new ≡ string_bytes text.old ++ id_text (id_at tree.now node)) }
 {
     if node < tree.len() {

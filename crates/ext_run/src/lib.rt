@@ -6,7 +6,8 @@
 //! answers to its input.
 //!
 //! `check` reads a plan without running it, `check_lint` notes its mistakes, and `draw` draws it.
-//! `Failures` keeps the faults that a run reports, and `failures_text` repeats them. `read_input`,
+//! `Failures` keeps the faults that a run reports, and `failures_text` and `failures_json` repeat
+//! them. `read_input`,
 //! `faults_of_plan`, `explain` and `explain_keys` serve callers that say why a plan was refused, or
 //! a key had no place. `read_id` writes the lines of an id, `make_id` that of one made of parts, and
 //! `status_of` is the exit status of a program for any of these requests. This crate also exports
@@ -18,6 +19,7 @@
 
 mod checks;
 mod drawing;
+mod failure_json;
 mod failures;
 mod fault;
 mod id_lines;
@@ -43,7 +45,7 @@ pub use ext_plan_reading::{
 };
 pub use ext_report::ReportForm;
 pub use ext_tree::Tree;
-pub use failures::{Failures, NodeFault, ToldFaults, failures_text};
+pub use failures::{Failures, NodeFault, ToldFaults, failures_json, failures_text};
 pub use fault::RunFault;
 pub use id_lines::{id_text, make_id, read_id};
 pub use input::read_input;

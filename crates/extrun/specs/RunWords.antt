@@ -1,5 +1,5 @@
 -- What the words of a run ask for, by the rows that clap found: the texts under the name of each option.
-use Rattle.std.specs.Prelude.{◌≡◌, ◌↔◌, ◌<◌, ◌||◌, ℕ, Bool, true, false, codes, List, Option, Some, None, IsTrue, if◌then◌else◌, is_some}
+use Rattle.std.specs.Prelude.{◌≡◌, ◌↔◌, ◌<◌, ◌&&◌, ◌||◌, not, ℕ, Bool, true, false, codes, List, Option, Some, None, IsTrue, if◌then◌else◌, is_some}
 use Rattle.std.specs.Str.Parse.{IsNumeral, digits_value, without_leading_plus}
 use Rattle.clap.specs.Walk.{Row, first_of, one_of}
 use Rattle.ext_model.specs.declared.size.Size.TheVariants as sizes
@@ -82,19 +82,46 @@ AsksRun rows (tasks.Draw size) = ⊥
 AsksRun rows (tasks.CheckRaces size form) = ⊥
 AsksRun rows (tasks.Lint size) = ⊥
 
--- The task asks for colours, also where standard output is no terminal.
-abbrev pub asks_for_color : Task → Bool
-asks_for_color (tasks.Run options asked colors.Auto told) = false
-asks_for_color (tasks.Run options asked colors.Always told) = true
-asks_for_color (tasks.Run options asked colors.Never told) = false
-asks_for_color (tasks.Check size) = false
-asks_for_color (tasks.CheckAll size) = false
-asks_for_color (tasks.Draw size) = false
-asks_for_color (tasks.CheckRaces size form) = false
-asks_for_color (tasks.Lint size) = false
-
 -- Without a command: a run on four lanes, over the store for several threads, of a plan of usual size.
 abbrev pub wordless_run : Task
 wordless_run =
     tasks.Run (record { lanes = 4; plain = false; form = forms.Text; size = sizes.Usual }) false colors.Auto
     (record { progress = false; durations = false; failures = false; for_terminal = false })
+
+-- ---- at a terminal
+
+-- What becomes of a run. Other tasks stay.
+abbrev pub of_run : (Options → Bool → ColorChoice → Told → Task) → Task → Task
+of_run change (tasks.Run options asked color told) = change options asked color told
+of_run change (tasks.Check size) = tasks.Check size
+of_run change (tasks.CheckAll size) = tasks.CheckAll size
+of_run change (tasks.Draw size) = tasks.Draw size
+of_run change (tasks.CheckRaces size form) = tasks.CheckRaces size form
+of_run change (tasks.Lint size) = tasks.Lint size
+
+abbrev pub is_always : ColorChoice → Bool
+is_always colors.Auto = false
+is_always colors.Always = true
+is_always colors.Never = false
+
+-- Whether a report for people has colours. Where nothing is asked for it has some if they are wanted: if the environment
+-- has neither a `NO_COLOR` that is not empty nor a `TERM` of `dumb`. The kit has no contract for it, so that is any Bool.
+abbrev pub is_colored : Bool → ColorChoice → Bool
+is_colored wanted colors.Auto = wanted
+is_colored wanted colors.Always = true
+is_colored wanted colors.Never = false
+
+-- The form of the report: if none is asked for it is for people, at a terminal or where colours are asked for.
+abbrev pub form_at : Bool → Bool → Bool → ColorChoice → ReportForm → ReportForm
+form_at is_terminal wanted asked color form =
+    if not asked && (is_terminal || is_always color) then forms.Terminal (is_colored wanted color) else form
+
+-- The task with that form.
+abbrev pub shown_at : Bool → Bool → Task → Task
+shown_at is_terminal wanted = of_run (λ options asked color told.
+    tasks.Run (record options { form = form_at is_terminal wanted asked color options.form }) asked color told)
+
+-- The task whose words on standard error are for a terminal, if that is one.
+abbrev pub told_at : Bool → Task → Task
+told_at is_terminal = of_run (λ options asked color told.
+    tasks.Run options asked color (record told { for_terminal = told.for_terminal || is_terminal }))

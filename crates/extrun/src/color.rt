@@ -1,6 +1,6 @@
 //! What a run writes for people at a terminal, and whether it has colours.
-ghost use Rattle.std.specs.Prelude.{◌≡◌, false};
-ghost use Rattle.extrun.specs.RunWords.{asks_for_color};
+ghost use Rattle.std.specs.Prelude.{◌≡◌, Bool};
+ghost use Rattle.extrun.specs.RunWords.{form_at, is_always, is_colored, shown_at, told_at};
 
 use crate::command::{Task, Told};
 use ext_run::{Options, ReportForm};
@@ -20,35 +20,7 @@ pub(crate) enum ColorChoice {
 /// The task whose report is for people, if standard output is a terminal or colours are asked for,
 /// and if no form of the report is asked for. Otherwise it is the same task.
 pub(crate) fn shown_at<R: Env + AllocGlobal>(rt: &R, task: Task, is_terminal: bool) -> Task
-    ensures piped { is_terminal ≡ false → asks_for_color task ≡ false → result ≡ task }
-{
-    match task {
-        Task::Run {
-            options,
-            form_asked: false,
-            color,
-            told,
-        } if is_terminal || color == ColorChoice::Always => Task::Run {
-            options: Options {
-                lanes: options.lanes,
-                plain: options.plain,
-                form: ReportForm::Terminal {
-                    colored: is_colored(rt, color),
-                },
-                size: options.size,
-            },
-            form_asked: false,
-            color,
-            told,
-        },
-        other => other,
-    }
-}
-
-/// The task whose words on standard error are for a terminal, if that is one. Otherwise it is the
-/// same task.
-pub(crate) fn told_at(task: Task, is_terminal: bool) -> Task
-    ensures piped { is_terminal ≡ false → result ≡ task }
+    ensures { (wanted : Bool) × (result ≡ shown_at is_terminal wanted task) }
 {
     match task {
         Task::Run {
@@ -56,7 +28,51 @@ pub(crate) fn told_at(task: Task, is_terminal: bool) -> Task
             form_asked,
             color,
             told,
-        } if is_terminal => Task::Run {
+        } => Task::Run {
+            options: Options {
+                lanes: options.lanes,
+                plain: options.plain,
+                form: form_at(rt, options.form, form_asked, color, is_terminal),
+                size: options.size,
+            },
+            form_asked,
+            color,
+            told,
+        },
+        other => other,
+    }
+}
+
+/// The form of a run's report.
+fn form_at<R: Env + AllocGlobal>(
+    rt: &R,
+    form: ReportForm,
+    form_asked: bool,
+    color: ColorChoice,
+    is_terminal: bool,
+) -> ReportForm
+    ensures { (wanted : Bool) × (result ≡ form_at is_terminal wanted form_asked color form) }
+{
+    if form_asked || !(is_terminal || is_always(color)) {
+        return form;
+    }
+    ReportForm::Terminal {
+        colored: is_colored(rt, color),
+    }
+}
+
+/// The task whose words on standard error are for a terminal, if that is one. Otherwise it is the
+/// same task.
+pub(crate) fn told_at(task: Task, is_terminal: bool) -> Task
+    ensures { result ≡ told_at is_terminal task }
+{
+    match task {
+        Task::Run {
+            options,
+            form_asked,
+            color,
+            told,
+        } => Task::Run {
             options,
             form_asked,
             color,
@@ -64,21 +80,38 @@ pub(crate) fn told_at(task: Task, is_terminal: bool) -> Task
                 progress: told.progress,
                 durations: told.durations,
                 failures: told.failures,
-                for_terminal: true,
+                for_terminal: told.for_terminal || is_terminal,
             },
         },
         other => other,
     }
 }
 
+/// Tests whether colours are asked for where standard output is no terminal.
+fn is_always(color: ColorChoice) -> bool
+    ensures { result ≡ is_always color }
+{
+    match color {
+        ColorChoice::Always => true,
+        ColorChoice::Auto | ColorChoice::Never => false,
+    }
+}
+
 /// Tests whether a report at a terminal has colours: by the choice, or else unless the environment
 /// has a `NO_COLOR` that is not empty, or a `TERM` of `dumb`.
-fn is_colored<R: Env + AllocGlobal>(rt: &R, color: ColorChoice) -> bool {
+fn is_colored<R: Env + AllocGlobal>(rt: &R, color: ColorChoice) -> bool
+    ensures { (wanted : Bool) × (result ≡ is_colored wanted color) }
+{
     match color {
         ColorChoice::Always => true,
         ColorChoice::Never => false,
-        ColorChoice::Auto => !has_no_color(rt) && !is_dumb(rt),
+        ColorChoice::Auto => wants_colors(rt),
     }
+}
+
+/// Tests whether the user wants colours. No contract says so: the kit has none of the environment.
+fn wants_colors<R: Env + AllocGlobal>(rt: &R) -> bool {
+    !has_no_color(rt) && !is_dumb(rt)
 }
 
 /// Tests whether `NO_COLOR` is there and not empty.

@@ -1,12 +1,19 @@
 //! The failures and aborts of a run, repeated at its end on standard error.
-ghost use Rattle.std.specs.Prelude.{◌≡◌, ◌≤◌, false, IfErr, IfOk};
+ghost use Rattle.std.specs.Prelude.{◌≡◌, ◌≢◌, ◌≤◌, false, string_bytes, IfErr, IfOk};
 ghost use Rattle.std.specs.Io.KnownBytes.{Appends};
+ghost use Rattle.ext_run.specs.Drawings.{TextAs};
+ghost use Rattle.ext_run.specs.FailureJson.{json_in};
+ghost use Rattle.ext_run.specs.Failures.{told_in};
+ghost use Rattle.ext_run.specs.Reports.{plan_of_bytes};
 ghost use Rattle.extrun.specs.Tasks.{IsOneReported, IsRefused, IsReported};
 
 use crate::command::Told;
 use crate::durations::run_timed;
 use crate::screen::shown_text;
-use ext_run::{Failures, Options, RunFault, RunListener, Size, Summary, ToldFaults, failures_text};
+use ext_run::{
+    Failures, Options, ReportForm, RunFault, RunListener, Summary, ToldFaults, failures_json,
+    failures_text,
+};
 use std::alloc::Global;
 use std::io::Write;
 use std::sync::Wait;
@@ -56,7 +63,7 @@ where
     let outcome = run_timed(rt, input, writer, options, &failures, told.durations);
     if outcome.is_ok() {
         let faults = failures.into_told();
-        tell_failures(rt, input, options.size, &faults, told.for_terminal);
+        tell_failures(rt, input, options, &faults, told.for_terminal);
     }
     outcome
 }
@@ -66,24 +73,50 @@ where
 fn tell_failures<R: AllocGlobal + Eprint>(
     rt: &R,
     input: &[u8],
-    size: Size,
+    options: Options,
     faults: &ToldFaults,
     for_terminal: bool,
 ) {
-    let _ = match shown_failures(rt.alloc(), input, size, faults, for_terminal) {
+    let _ = match shown_failures(rt.alloc(), input, options, faults, for_terminal) {
         Ok(text) => eprint!(rt; "{}", text.as_str()),
-        Err(_) => eprintln!(rt; "further faults were lost: no memory"),
+        Err(_) => eprintln!(rt; "{}", lost_of(options.form)),
     };
 }
 
-/// The lines of the faults of the plan's nodes, for a terminal or not.
+/// The line that faults were lost.
+fn lost_of(form: ReportForm) -> &'static str {
+    match form {
+        ReportForm::Json => "{\"lost\":true}",
+        _ => "further faults were lost: no memory",
+    }
+}
+
+/// The faults of the plan's nodes as they are printed, for a terminal or not.
 fn shown_failures(
     alloc: Global,
     input: &[u8],
-    size: Size,
+    options: Options,
     faults: &ToldFaults,
     for_terminal: bool,
 ) -> Result<String, RunFault> {
-    let text = failures_text(alloc, input, size, faults)?;
+    let text = faults_in(alloc, input, options, faults)?;
     Ok(shown_text(alloc, text, for_terminal)?)
+}
+
+/// The faults of the plan's nodes: objects of JSON if the report is, and otherwise lines.
+fn faults_in(
+    alloc: Global,
+    input: &[u8],
+    options: Options,
+    faults: &ToldFaults,
+) -> Result<String, RunFault>
+    ensures json { options.form ≡ ReportForm.Json → TextAs string_bytes (json_in faults.now) result (plan_of_bytes options.size input.now) }
+    ensures lines { options.form ≢ ReportForm.Json → TextAs string_bytes (told_in faults.now) result (plan_of_bytes options.size input.now) }
+{
+    match options.form {
+        ReportForm::Json => failures_json(alloc, input, options.size, faults),
+        ReportForm::Text | ReportForm::Tree | ReportForm::Junit | ReportForm::Terminal { .. } => {
+            failures_text(alloc, input, options.size, faults)
+        }
+    }
 }

@@ -2,7 +2,8 @@
 use crate::same::same;
 use ext_model::{ContextNo, Fault};
 use ext_run::{
-    Call, Failures, FaultPlace, Kind, NoListener, RunListener, Size, ToldFaults, failures_text,
+    Call, Failures, FaultPlace, Kind, NoListener, RunListener, Size, ToldFaults, failures_json,
+    failures_text,
 };
 use std::alloc::{AllocError, Global};
 use std::sync::atomic::{AtomicU64, Ordering};
@@ -55,6 +56,48 @@ fn callbacks_are_told_by_their_field(rt: HostRuntime) -> Result<(), Fail> {
     let text = failures_text(alloc, PLAN.as_bytes(), Size::Usual, &told)?;
     let wanted =
         "[e:x]: no memory (before_all 2, step 1)\n[e:x]: no memory (after_all 0, step 4)\n[e:x]/[m:1]: no memory (before_each 0 of [e:x]/[m:1], step 0)\n";
+    same(&rt, text.as_str(), wanted, "the faults");
+    Ok(())
+}
+
+const AS_JSON: &str =
+    r#"{"id":"[e:x]","fault":"no memory","call":"before_all","index":2,"of":"[e:x]","step":1}
+{"id":"[e:x]/[m:1]","fault":"no memory","call":"close","index":null,"of":null,"step":null}
+{"id":"[e:x]/[m:1]","fault":"no memory","call":"before_each","index":0,"of":"[e:x]/[m:1]","step":5}
+{"id":"[e:x]/[m:2]","fault":"a \"b\"","call":"test","index":null,"of":null,"step":3}
+{"id":"[e:x]/[m:2]","fault":"second","call":"after_each","index":1,"of":"[e:x]","step":0}
+"#;
+
+/// Tests `failures_json`.
+#[test]
+fn faults_are_told_as_json(rt: HostRuntime) -> Result<(), Fail> {
+    let alloc = rt.alloc();
+    let mut told = ToldFaults::new(alloc);
+    told.note(alloc, 2, at(Kind::Test, 2, 0, 3), &fault(alloc, "a \"b\"")?);
+    told.note(alloc, 1, FaultPlace::Close, &Fault::Memory);
+    told.note(
+        alloc,
+        2,
+        at(Kind::AfterEach, 0, 1, 0),
+        &fault(alloc, "second")?,
+    );
+    told.note(alloc, 0, at(Kind::BeforeAll, 0, 2, 1), &Fault::Memory);
+    told.note(alloc, 1, at(Kind::BeforeEach, 1, 0, 5), &Fault::Memory);
+    let text = failures_json(alloc, PLAN.as_bytes(), Size::Usual, &told)?;
+    same(&rt, text.as_str(), AS_JSON, "the faults");
+    Ok(())
+}
+
+/// Tests `failures_json`.
+#[test]
+fn lost_faults_are_told_as_json(rt: HostRuntime) -> Result<(), Fail> {
+    let alloc = rt.alloc();
+    let mut told = ToldFaults::new(alloc);
+    told.note(alloc, 0, at(Kind::AfterAll, 0, 0, 4), &Fault::Memory);
+    told.lost = true;
+    let text = failures_json(alloc, PLAN.as_bytes(), Size::Usual, &told)?;
+    let wanted =
+        "{\"id\":\"[e:x]\",\"fault\":\"no memory\",\"call\":\"after_all\",\"index\":0,\"of\":\"[e:x]\",\"step\":4}\n{\"lost\":true}\n";
     same(&rt, text.as_str(), wanted, "the faults");
     Ok(())
 }

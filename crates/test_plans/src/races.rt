@@ -308,7 +308,7 @@ const PLANS: [([&str; 6], &str); 32] = [
             "",
             "test = []",
         ],
-        "no races: one report is not proved\ntwo texts of closes: bad1 and bad2 in [e:x]/[c:A]/[t:m]\n",
+        ONE,
     ),
     // two factories of one place that fail alike
     (
@@ -322,7 +322,7 @@ const PLANS: [([&str; 6], &str); 32] = [
         ],
         "no races: one report is not proved\nthe same beside one another: computefail a of [e:x]/[c:A]/[t:m] and computefail a of [e:x]/[c:A]/[t:n] in [e:x]/[c:A]\n",
     ),
-    // both; the closes of the root and of B tell one text each, and the values of A are computed
+    // the values of A are computed
     (
         [
             "before_all = [['put! a bad1']]",
@@ -332,7 +332,7 @@ const PLANS: [([&str; 6], &str); 32] = [
             "before_all = [['put! a bad2']]",
             "test = []",
         ],
-        "no races: one report is not proved\ntwo texts of closes: bad4 and bad3 in [e:x]/[c:A]/[t:n]\nthe same beside one another: computefail a of [e:x]/[c:A]/[t:m] and computefail a of [e:x]/[c:A]/[t:n] in [e:x]/[c:A]\n",
+        "no races: one report is not proved\nthe same beside one another: computefail a of [e:x]/[c:A]/[t:m] and computefail a of [e:x]/[c:A]/[t:n] in [e:x]/[c:A]\n",
     ),
     // locks say that one goes first, and not which
     (
@@ -500,7 +500,7 @@ const OBJECTS: [([&str; 6], &str); 4] = [
             "before_all = [['put! a bad1', 'put! b bad2']]",
             "test = []",
         ],
-        r#"{"races":[],"more":false,"proved":"nothing","gaps":{"closes":{"first":"bad1","second":"bad2","context":"[e:x]/[c:B]"},"fails":{"first":{"node":"[e:x]/[c:A]/[t:m]","word":"computefail","key":"a"},"second":{"node":"[e:x]/[c:A]/[t:n]","word":"computefail","key":"a"},"context":"[e:x]/[c:A]"},"numbers":null},"limit":null}"#,
+        r#"{"races":[],"more":false,"proved":"nothing","gaps":{"fails":{"first":{"node":"[e:x]/[c:A]/[t:m]","word":"computefail","key":"a"},"second":{"node":"[e:x]/[c:A]/[t:n]","word":"computefail","key":"a"},"context":"[e:x]/[c:A]"},"numbers":null},"limit":null}"#,
     ),
 ];
 
@@ -540,7 +540,7 @@ const PUTS: [(u32, Size, &str, &str); 4] = [
         257,
         Size::Usual,
         "no races: one report is not proved\nas many numbers as there are: 65535\n",
-        r#"{"races":[],"more":false,"proved":"nothing","gaps":{"closes":null,"fails":null,"numbers":65535},"limit":null}"#,
+        r#"{"races":[],"more":false,"proved":"nothing","gaps":{"fails":null,"numbers":65535},"limit":null}"#,
     ),
     (
         258,

@@ -1,21 +1,16 @@
-use Rattle.std.proofs.Common.{◌+◌, ◌*◌, ◌∙◌, ap, subst, sym}
-use Rattle.std.specs.Prelude.{is_some, ◌||◌}
+use Rattle.std.proofs.Common.{◌∙◌, subst, sym}
+use Rattle.std.specs.Prelude.{is_some}
 use Rattle.std.proofs.lemmas.Bool.{or_parts}
-use Rattle.std.proofs.lemmas.List.{length-map}
 use Rattle.ext_plan.specs.Plans.{plan_view}
-use Rattle.ext_races.specs.InnerGroups.{group_view, groups_view}
+use Rattle.ext_races.specs.InnerGroups.{groups_view}
 use Rattle.ext_races.specs.InnerProving.{SharesIn}
-use Rattle.ext_races.proofs.Grounds.{closes_are, fails_are, has_near, has_one, none_closes, none_fails, not_one}
+use Rattle.ext_races.proofs.Grounds.{fails_are, has_near, has_one, none_fails, not_one}
 use Rattle.ext_races.proofs.proving.proved_of.Goals as goal
 
 pub returns-then-has_any : goal.returns-then-has_any
 returns-then-has_any c =
-    let plan = plan_view c.args.plan.now in
-    let groups = groups_view c.args.groups.now in
-    let count = length-map c.args.groups.now group_view ∙ c.requires.count ∙ ap (λ n. n * (c.args.keys + 1)) (sym c.len-contexts.ensures.count) in
     record {
-      closes = closes_are plan groups c.args.keys c.requires.groups c.len-contexts.result count c.texts_in-closes.result c.texts_in-closes.ensures;
-      fails = fails_are plan groups c.args.keys c.requires.groups c.alike_in-fails.result c.alike_in-fails.ensures;
+      fails = fails_are (plan_view c.args.plan.now) (groups_view c.args.groups.now) c.args.keys c.requires.groups c.alike_in-fails.result c.alike_in-fails.ensures;
       numbers = c.requires.numbers;
       some = sym c.has_any.ensures ∙ c.if-has_any.true;
     }
@@ -24,14 +19,10 @@ pub returns-then-shares_any : goal.returns-then-shares_any
 returns-then-shares_any c =
     let plan = plan_view c.args.plan.now in
     let groups = groups_view c.args.groups.now in
-    let count = length-map c.args.groups.now group_view ∙ c.requires.count ∙ ap (λ n. n * (c.args.keys + 1)) (sym c.len-contexts.ensures.count) in
-    let parts = or_parts (is_some c.texts_in-closes.result || is_some c.alike_in-fails.result) c.args.numbers (sym c.has_any.ensures ∙ c.if-has_any.false) in
-    let kinds = or_parts (is_some c.texts_in-closes.result) (is_some c.alike_in-fails.result) parts.0 in
-    let are = closes_are plan groups c.args.keys c.requires.groups c.len-contexts.result count c.texts_in-closes.result c.texts_in-closes.ensures in
-    let closes = none_closes plan groups c.args.keys c.requires.groups c.texts_in-closes.result kinds.0 are in
-    let fails = none_fails plan groups c.args.keys c.requires.groups c.alike_in-fails.result kinds.1 c.alike_in-fails.ensures in
+    let parts = or_parts (is_some c.alike_in-fails.result) c.args.numbers (sym c.has_any.ensures ∙ c.if-has_any.false) in
+    let fails = none_fails plan groups c.args.keys c.requires.groups c.alike_in-fails.result parts.0 c.alike_in-fails.ensures in
     let two = subst (SharesIn plan groups) c.if-shares_any.true c.shares_any.ensures in (
-      has_near plan groups c.args.keys c.requires.groups c.requires.free c.requires.places (sym c.requires.numbers ∙ parts.1) closes fails,
+      has_near plan groups c.args.keys c.requires.groups c.requires.free c.requires.places (sym c.requires.numbers ∙ parts.1) fails,
       not_one plan groups c.args.keys c.requires.groups two.0 two.1 two.2,
     )
 
@@ -39,11 +30,7 @@ pub returns : goal.returns
 returns c =
     let plan = plan_view c.args.plan.now in
     let groups = groups_view c.args.groups.now in
-    let count = length-map c.args.groups.now group_view ∙ c.requires.count ∙ ap (λ n. n * (c.args.keys + 1)) (sym c.len-contexts.ensures.count) in
-    let parts = or_parts (is_some c.texts_in-closes.result || is_some c.alike_in-fails.result) c.args.numbers (sym c.has_any.ensures ∙ c.if-has_any.false) in
-    let kinds = or_parts (is_some c.texts_in-closes.result) (is_some c.alike_in-fails.result) parts.0 in
-    let are = closes_are plan groups c.args.keys c.requires.groups c.len-contexts.result count c.texts_in-closes.result c.texts_in-closes.ensures in
-    let closes = none_closes plan groups c.args.keys c.requires.groups c.texts_in-closes.result kinds.0 are in
-    let fails = none_fails plan groups c.args.keys c.requires.groups c.alike_in-fails.result kinds.1 c.alike_in-fails.ensures in
+    let parts = or_parts (is_some c.alike_in-fails.result) c.args.numbers (sym c.has_any.ensures ∙ c.if-has_any.false) in
+    let fails = none_fails plan groups c.args.keys c.requires.groups c.alike_in-fails.result parts.0 c.alike_in-fails.ensures in
     let none = subst (SharesIn plan groups) c.if-shares_any.false c.shares_any.ensures in
-    has_one plan groups c.args.keys c.requires.groups c.requires.free c.requires.places (sym c.requires.numbers ∙ parts.1) closes none.0 none.1 fails
+    has_one plan groups c.args.keys c.requires.groups c.requires.free c.requires.places (sym c.requires.numbers ∙ parts.1) none.0 none.1 fails

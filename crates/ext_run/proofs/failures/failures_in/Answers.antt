@@ -1,6 +1,6 @@
 use Rattle.std.proofs.Common.{true}
 use Rattle.ext_run.proofs.RunReports.{plan_of_utf8, plan_of_others, RefusedBy-plan}
-use Rattle.ext_run.proofs.failures.failure_lines.Goals as goal
+use Rattle.ext_run.proofs.failures.failures_in.Goals as goal
 
 pub returns-in_default : goal.returns-in_default
 returns-in_default c = plan_of_others c.args.size c.args.input.now c.in_default.ensures.cases.0

@@ -1,0 +1,79 @@
+-- Values whose closes fail at places that nodes share: a step of each node that changes such a place may leave the value there, and so may one of a node beside it.
+use Rattle.std.proofs.Common.{◌≡◌, ◌≢◌, ℕ, true, true≢false, drop, Contains, Some, refl, ap, sym, ◌∙◌, inl, inr}
+use Rattle.std.specs.Prelude.{◌&&◌, codes}
+use Rattle.std.proofs.lemmas.Bool.{and_from}
+use Rattle.ext_tree.specs.Keys.{KeyValue}
+use Rattle.ext_tree.specs.Trees.{IsParentOf}
+use Rattle.ext_plan.specs.Plans.{PlanText}
+use Rattle.ext_plan.specs.PlanCalls.{concurrent_of}
+use Rattle.ext_plan.specs.ReadPlans.{IsReadPlan, ids_of_nodes}
+use Rattle.ext_plan.specs.StepWords.{leaves_closeable}
+use Rattle.ext_plan.specs.Values.{ValueText, begins_with}
+use Rattle.ext_plan.specs.declared.word.Word.TheVariants as words
+use Rattle.ext_races.specs.Beside.{IsBeside}
+use Rattle.ext_races.specs.Clashes.{may_fail}
+use Rattle.ext_races.specs.MadeSteps.{plan_path}
+use Rattle.ext_races.specs.OneReports.{SharesValues}
+use Rattle.ext_races.specs.Touches.{TouchText, touches_made}
+use Rattle.ext_races.proofs.Equalities.{word_is}
+use Rattle.ext_one_report.specs.Shares.{shares_in, value_given}
+use Rattle.ext_one_report.specs.Within.{is_within}
+use Rattle.ext_one_report.proofs.ComputedAbove.{IsComputedIn}
+use Rattle.ext_one_report.proofs.Covered.{changed_in}
+use Rattle.ext_one_report.proofs.CoveredPlans.{changed_cases}
+use Rattle.ext_one_report.proofs.OfPlan.{IsLeftBeside, IsLeftWithin}
+use Rattle.ext_one_report.proofs.Orders.{Fails}
+use Rattle.ext_one_report.proofs.SharedBeside.{also_below, are_beside}
+use Rattle.ext_one_report.proofs.SharedFound.{changed_beside, changing_gives, own_word, shares_found}
+use Rattle.ext_one_report.proofs.SharedNodes.{outside}
+
+-- a touch that changes a place and gives such a value may leave it
+touch_fails : (plan : PlanText) → IsReadPlan plan → (t : TouchText) (v : ValueText) → Contains (touches_made plan) t → t.changes ≡ true → value_given t ≡ v → Fails v → (may_fail t ≡ true) × (t.text ≡ v.text)
+touch_fails plan read t v made changing gives fails =
+    let text_is : t.text ≡ v.text = ap (λ (x : ValueText). x.text) gives in
+    let acts_is = word_is t.acts words.ComputeCloseable (ap (λ (x : ValueText). x.closeable) gives ∙ fails.closes) in
+    let leaves : leaves_closeable t.word ≡ true = ap leaves_closeable (sym (own_word plan read t made changing) ∙ acts_is) in (
+      and_from (t.changes && leaves_closeable t.word) (begins_with (codes "bad") t.text) (and_from t.changes (leaves_closeable t.word) changing leaves) (ap (begins_with (codes "bad")) text_is ∙ fails.bad),
+      text_is,
+    )
+
+module _ (plan : PlanText) (read : IsReadPlan plan) (shares : SharesValues plan) where
+  pub fails_below : (node context : ℕ) (key : KeyValue) (v : ValueText) → shares_in plan node context key ≡ Some v → changed_in plan node context key ≡ true → Fails v → IsLeftWithin plan node context v.text
+  fails_below node context key v e changed fails = elim (changed_cases plan node context key changed) [
+    | inl own ↦ absurd (true≢false (sym own.below ∙ outside plan read shares node context key v e))
+    | inr one ↦
+        let is = shares_found plan read node context key v e in
+        let gives = changing_gives plan read shares node context key v is true one (one.changes refl) in
+        let left = touch_fails plan read one.touch v one.made (one.changes refl) gives.value fails in
+        record {
+          left = record { touch = one.touch; made = one.made; fails = left.0; context_is = one.context_is; text_is = left.1 };
+          within = one.below;
+        }
+  ]
+
+  pub fails_beside : (node context : ℕ) (key : KeyValue) (v : ValueText) → shares_in plan node context key ≡ Some v → ¬ IsComputedIn plan (drop 1 (plan_path plan node)) context key → Fails v
+      → IsLeftBeside plan node context v.text
+  fails_beside node context key v e none fails =
+      let is = shares_found plan read node context key v e in
+      let other = changed_beside plan read shares node context key v is none in
+      let left = touch_fails plan read other.two.touch v other.two.made other.changes other.value fails in
+      record {
+        left = record { touch = other.two.touch; made = other.two.made; fails = left.0; context_is = other.two.context_is; text_is = left.1 };
+        beside = λ below within. are_beside plan read below other.two.touch.node (also_below plan read node other.two.touch.node below other.two.beside within);
+      }
+
+-- nodes below two different concurrent children of a container may run beside one another
+pub children_beside : (plan : PlanText) → IsReadPlan plan → (parent child other n m : ℕ) → IsParentOf (ids_of_nodes plan.nodes) parent child → IsParentOf (ids_of_nodes plan.nodes) parent other → child ≢ other
+    → concurrent_of plan child ≡ true → concurrent_of plan other ≡ true → is_within plan child n ≡ true → is_within plan other m ≡ true → IsBeside plan n m
+children_beside plan read parent child other n m up up' differ concurrent concurrent' below below' = are_beside plan read n m (record {
+  container = parent;
+  child = child;
+  other = other;
+  child_is = up;
+  other_is = up';
+  below = below;
+  other_below = below';
+  differ = differ;
+  concurrent = concurrent;
+  other_concurrent = concurrent';
+})
