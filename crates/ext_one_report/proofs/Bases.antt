@@ -11,7 +11,7 @@ use Rattle.ext_plan.specs.ReadPlans.{IsReadPlan}
 use Rattle.ext_one_report.specs.Changing.{IsBelow, NodesChangeOnly}
 use Rattle.ext_engine.specs.Meeting.{first_seen}
 use Rattle.ext_parallel.specs.ParallelRun.{ParallelRun}
-use Rattle.ext_plain.specs.PlainRun.{node_run, run_opening}
+use Rattle.ext_plain.specs.PlainRun.{RunState, plain_run}
 use Rattle.ext_plain.specs.ValueStates.{value_opening}
 use Rattle.ext_one_report.proofs.StoredRuns.{stand_once, unnamed_keep_nothing}
 use Rattle.ext_races.specs.Touches.{keys_named, numbers_drawn}
@@ -24,6 +24,8 @@ use Rattle.ext_one_report.proofs.OfPlanStates.{opens_of_plan}
 use Rattle.ext_one_report.specs.FullRuns.{LacksNothing}
 use Rattle.ext_one_report.proofs.FullRuns.{setting_in}
 use Rattle.ext_one_report.proofs.Levels.{AreLevel, HoldsOnce}
+use Rattle.ext_one_report.proofs.MoreNumbers.{without_last_number}
+use Rattle.ext_one_report.proofs.Numbers.{enough_end, enough_numbers, enough_opening}
 use Rattle.ext_one_report.proofs.Whole.{changes_only, is_view, nothing_before, view}
 
 module _ (plan : PlanText) (lanes : ℕ) (results : List (ResultOf Fault)) (read : IsReadPlan plan) (run : ParallelRun plan lanes results) (full : LacksNothing plan lanes results run) where
@@ -48,11 +50,11 @@ module _ (plan : PlanText) (lanes : ℕ) (results : List (ResultOf Fault)) (read
       cells_are_at_places (setting_in plan its run.locks) plan run.store run.numbered.numbering node context number key read run.store_is.tree refl (is_view plan lanes results run full).places named below
 
   -- before the run the same stands at any places: nothing
-  pub opens_level : length (keys_named plan) ≤ plan.key_places → (places : Places) → AreLevel plan its places (first_seen run.first.first) (value_opening plan.keep_faults plan.key_places (most_numbers plan.size))
+  pub opens_level : length (keys_named plan) ≤ plan.key_places → (places : Places) → AreLevel plan its places (first_seen run.first.first) (value_opening plan.keep_faults plan.key_places (enough_numbers plan.size))
   opens_level few places =
-      subst (λ h. AreLevel plan its places h (value_opening plan.keep_faults plan.key_places (most_numbers plan.size))) (sym (nothing_before plan lanes results run full)) (record {
-        matches = first_matches its places plan.keep_faults plan.key_places (most_numbers plan.size);
-        numbered = first_is_numbered places plan.keep_faults plan.key_places (most_numbers plan.size);
+      subst (λ h. AreLevel plan its places h (value_opening plan.keep_faults plan.key_places (enough_numbers plan.size))) (sym (nothing_before plan lanes results run full)) (record {
+        matches = first_matches its places plan.keep_faults plan.key_places (enough_numbers plan.size);
+        numbered = first_is_numbered places plan.keep_faults plan.key_places (enough_numbers plan.size);
         memory = refl;
         keeps = ap (λ (l : Limits). l.keep_faults) run.store_is.limits;
         gave = record {
@@ -62,9 +64,15 @@ module _ (plan : PlanText) (lanes : ℕ) (results : List (ResultOf Fault)) (read
           room = few;
           limit = refl;
         };
-        of_plan = opens_of_plan plan plan.keep_faults plan.key_places (most_numbers plan.size);
+        of_plan = opens_of_plan plan plan.keep_faults plan.key_places (enough_numbers plan.size);
       })
 
-  -- at the end of the plain run there are numbers left
-  pub numbers_left : numbers_drawn plan < most_numbers plan.size → (node_run plan (length plan.nodes) (0 ∷ []) (run_opening [] plan)).state.store.drawn < most_numbers plan.size
-  numbers_left less = let most = draws_few plan read.runnable.tree in omega (arith, most, less)
+  -- at the end of the plain run with one number more there is one left,
+  pub numbers_left : numbers_drawn plan ≤ most_numbers plan.size → (enough_end plan).state.store.drawn < enough_numbers plan.size
+  numbers_left all = let most = draws_few plan read.runnable.tree in omega (arith, most, all)
+
+  -- and it reports what the plain run does
+  pub enough_results : numbers_drawn plan ≤ most_numbers plan.size → (enough_end plan).results ≡ plain_run plan
+  enough_results all =
+      let most = draws_few plan read.runnable.tree in
+      sym (ap (λ (r : RunState). r.results) (without_last_number (most_numbers plan.size) plan (length plan.nodes) (0 ∷ []) (enough_opening plan) refl (omega (arith, most, all))))

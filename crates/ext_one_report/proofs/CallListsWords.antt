@@ -2,7 +2,7 @@
 -- means that they end alike.
 -- JUnit 5 User Guide, "Relative Execution Order of User Code and Extensions". Which calls are made is a definition of [ext_lifecycle Lifecycle], and what they leave in a
 -- plain run one of [ext_plain NodeCalls].
-use Rattle.std.specs.Prelude.{ℕ, ◌≡◌, true, List, [], ◌∷◌, All, map, length}
+use Rattle.std.specs.Prelude.{ℕ, ◌≡◌, true, List, [], ◌∷◌, All, map}
 use Rattle.ext_history.specs.Histories.{seen_by}
 use Rattle.ext_lifecycle.specs.declared.call.Call.{Call}
 use Rattle.ext_lifecycle.specs.declared.outcome.Outcome.{Outcome}
@@ -11,14 +11,13 @@ use Rattle.ext_lifecycle.specs.FaultTexts.{fault_text}
 use Rattle.ext_lifecycle.specs.Lifecycle.{computed_in, endings_of, found_in}
 use Rattle.ext_plan.specs.Plans.{PlanText}
 use Rattle.ext_plan.specs.PlanCalls.{steps_of_call}
-use Rattle.ext_plan.specs.ReadPlans.{StayOnPath}
 use Rattle.ext_store.specs.Stores.{StoreView}
 use Rattle.ext_plain.specs.ValueStates.{ValueState}
 use Rattle.ext_plain.specs.NodeCalls.{CallsEnd, call_run}
 use Rattle.ext_parallel.specs.PlanSuites.{RunsCall}
 use Rattle.ext_parallel.specs.StoreCalls.{PlanLane}
 use Rattle.ext_one_report.proofs.MatchingWords.{RunView, Places, Matches, IsNumbered}
-use Rattle.ext_one_report.proofs.CallsWords.{AreBeside, StepWithin, StepsHaveRoom}
+use Rattle.ext_one_report.proofs.CallsWords.{StepsHaveRoom}
 use Rattle.ext_one_report.specs.FullRuns.{StepFinds}
 
 -- what a call of the node does to a lane, in the order of [ext_lifecycle Lifecycle]
@@ -34,10 +33,6 @@ pub record CallsAlike (run : RunView) (places : Places) (outcomes : List Outcome
   pub numbered : IsNumbered places end.state
 
 -- ---- when calls are compared
-
--- no step of the call goes up beyond the root, and all that they touch is among the places
-abbrev pub CallFits : PlanText → List ℕ → Places → Call → Type 0
-CallFits plan path places call = StayOnPath (length path) (steps_of_call plan call) × All (StepWithin plan.keys path places) (steps_of_call plan call)
 
 -- no call that was made ended for want of anything
 abbrev pub CallsFind : PlanText → List Call → List Outcome → Type 0
@@ -56,10 +51,3 @@ BeforesHaveRoom plan path [] s = Unit {0}
 BeforesHaveRoom plan path (call ∷ calls) s =
     StepsHaveRoom plan.keys path (steps_of_call plan call) s
     × (is_successful (call_run plan path call s).verdict ≡ true → BeforesHaveRoom plan path calls (call_run plan path call s).state)
-
--- Calls in the context of a path: on a lane, and from this state in a plain run
-pub record AreComparedCalls (run : RunView) (plan : PlanText) (path : List ℕ) (places : Places) (calls : List Call)
-    (before : PlanLane) (outcomes : List Outcome) (after : PlanLane) (s : ValueState) : Type 0 where
-  pub beside : AreBeside run path places before after s
-  pub fits : All (CallFits plan path places) calls
-  pub finds : CallsFind plan calls outcomes

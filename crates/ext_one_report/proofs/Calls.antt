@@ -9,8 +9,6 @@ use Rattle.ext_history.proofs.Lists.{bools}
 use Rattle.ext_tree.specs.Keys.{KeyValue}
 use Rattle.ext_tree.specs.Trees.{Id, IsPathOf, IsTree, IsWalk}
 use Rattle.ext_tree.proofs.KeyPlacing.{keeps_both}
-use Rattle.ext_tree.proofs.Walks.{one_path}
-use Rattle.ext_lifecycle.specs.declared.call.Call.{Call}
 use Rattle.ext_lifecycle.specs.declared.outcome.Outcome.{Outcome}
 use Rattle.ext_lifecycle.specs.declared.outcome.Verdict.{Verdict}
 use Rattle.ext_lifecycle.specs.declared.outcome.Verdict.TheVariants as verdicts
@@ -19,11 +17,10 @@ use Rattle.ext_lifecycle.specs.FaultTexts.{VerdictText, verdict_text}
 use Rattle.ext_lifecycle.specs.Lifecycle.{ending_of}
 use Rattle.ext_plan.specs.declared.word.Word.{Word}
 use Rattle.ext_plan.specs.declared.word.Word.TheVariants as words
-use Rattle.ext_plan.specs.Plans.{KeyText, PlanText, StepText, keyed, fail, abort}
+use Rattle.ext_plan.specs.Plans.{KeyText, StepText, keyed, fail, abort}
 use Rattle.ext_plan.specs.StepCalls.{label_of, start_of}
 use Rattle.ext_plan.specs.Steps.{height, step_key}
 use Rattle.ext_plan.specs.StoreKeys.{key_of_step}
-use Rattle.ext_plan.specs.PlanCalls.{steps_of_call}
 use Rattle.ext_store.specs.Stores.{StoreView, IsLaneOf}
 use Rattle.ext_store.specs.LaneCalls.{Frame}
 use Rattle.ext_cells.specs.Lanes.{CellsId, Lane}
@@ -31,14 +28,12 @@ use Rattle.ext_engine.specs.Order.{LaneGoesOn}
 use Rattle.ext_engine.proofs.Going.{goes_same, goes_then}
 use Rattle.ext_plain.specs.ValueStates.{enough, ValueState, with_memory, next_found, found_later}
 use Rattle.ext_plain.specs.StepRuns.{StepEnd, and_then, next_step, step_by, step_run, steps_run, unless_ended}
-use Rattle.ext_plain.specs.NodeCalls.{call_run}
 use Rattle.ext_plain.proofs.Kept.{IsKept, IsKeptNaming, step-kept-by, steps-kept-by}
 use Rattle.ext_plain.proofs.Memories.{step_by-with}
 use Rattle.ext_plain.proofs.Stepping.{steps_run-nil, steps_run-cons, steps-stop}
 use Rattle.ext_parallel.specs.Saying.{no_memory}
 use Rattle.ext_parallel.specs.StoreCalls.{HasFrame, PlanLane}
 use Rattle.ext_parallel.specs.StoreSteps.{StepRun, StepsRun}
-use Rattle.ext_parallel.specs.PlanSuites.{RunsCall}
 use Rattle.ext_one_report.proofs.MatchingWords.{RunView, IsRunView, Places, Matches, IsNumbered}
 use Rattle.ext_one_report.proofs.StepsWords.{EndAlike, IsAlone, IsLaneIn, WordEndsAlike}
 use Rattle.ext_one_report.specs.FullRuns.{FindsAll, StepFinds, name_of}
@@ -310,12 +305,3 @@ steps_alike run keys path places (step ∷ more) a o b s both ran =
           subst (λ (end : StepEnd). EndAlike run places o b end) (sym (plain_stops keys path step more s both.beside.memory ended))
           (subst (λ (x : Outcome). EndAlike run places x b next) (sym is.0) (subst (λ (x : PlanLane). EndAlike run places first x next) (sym is.1) one))
     ]
-
--- ---- a call of a node
-
-pub call_alike : (run : RunView) (plan : PlanText) (node : ℕ) (path : List ℕ) (places : Places) (call : Call) (a : PlanLane) (o : Outcome) (b : PlanLane) (s : ValueState)
-    → IsPathOf run.store.tree node path → AreComparedAll run plan.keys path places (steps_of_call plan call) a o b s → RunsCall plan run.store node call a o b
-    → EndAlike run places o b (call_run plan path call s)
-call_alike run plan node path places call a o b s is both ran =
-    let same : ran.path ≡ path = one_path run.store.tree both.beside.tree node ran.path path ran.path_is is in
-    steps_alike run plan.keys path places (steps_of_call plan call) a o b s both (subst (λ p. StepsRun run.store plan.keys p (steps_of_call plan call) a o b) same ran.steps)

@@ -1,4 +1,5 @@
 -- The end of a node's context on several lanes, at places where they are alone, and in the plain run.
+use Rattle.ext_one_report.proofs.Open.{Open}
 use Rattle.std.proofs.Common.{◌≡◌, ◌≢◌, ◌<◌, ◌≤◌, ℕ, Bool, true, false, List, [], ◌∷◌, length, map, Contains, Option, None, Some, refl, ap, sym, subst, ◌∙◌, eq-eqb}
 use Rattle.std.specs.Prelude.{All, IsPermutation, if◌then◌else◌, not, ◌&&◌, ◌==◌, option_map}
 use Rattle.std.proofs.lemmas.List.{length-map}
@@ -10,7 +11,7 @@ use Rattle.ext_model.specs.Closed.{first_of}
 use Rattle.ext_model.specs.Closing.{remaining}
 use Rattle.ext_model.specs.History.{History, slots_in, IsLegal}
 use Rattle.ext_model.specs.Plain.{Place}
-use Rattle.ext_model.specs.Sizes.{most_numbers}
+use Rattle.ext_one_report.proofs.Numbers.{enough_numbers}
 use Rattle.ext_tree.specs.Keys.{AreDifferent, KeyValue, global_namespace, key_of}
 use Rattle.ext_values.specs.Known.{known_at}
 use Rattle.ext_cells.specs.Lanes.{Lane}
@@ -36,7 +37,6 @@ use Rattle.ext_one_report.proofs.StandingsWords.{AreMatched}
 use Rattle.ext_one_report.proofs.StepsWords.{IsLaneIn}
 use Rattle.ext_one_report.proofs.CallLists.{told_alike}
 use Rattle.ext_one_report.proofs.OfPlan.{IsOfPlan, plan_leaves}
-use Rattle.ext_one_report.specs.Shares.{Open}
 use Rattle.ext_one_report.proofs.Closes.{ClosesEndLevel, IsClosedAlone, SealsCells, SealsPlaces}
 use Rattle.ext_one_report.proofs.FullRuns.{setting_in}
 use Rattle.ext_one_report.proofs.Levels.{AreLevel, HoldsOnce, besides}
@@ -156,7 +156,7 @@ module _ (plan : PlanText) (run : RunView) (locks : LocksView) (h : History) (to
           let in_tree : node < length run.store.tree = subst (λ (n : ℕ). node < n) (sym (ap length close.basis.tree ∙ length-map plan.nodes (λ (n : NodeText). n.id))) close.inside in
           subst (λ l. IsPermutation (there_of (λ number. closeable (run.meaning.values number)) l)
           (there_of (λ number. closeable (value_of s.values number)) (remaining (λ i. (seal_keys s.places node s).store.slots (node, i)) s.places))) seen_left
-          (same_remaining run close.basis.view node in_tree (seen_by lane.cells.view) (first_seen after) s (seal_keys s.places node s) (keys_named plan) (most_numbers plan.size)
+          (same_remaining run close.basis.view node in_tree (seen_by lane.cells.view) (first_seen after) s (seal_keys s.places node s) (keys_named plan) (enough_numbers plan.size)
           (λ key number has. level.matches.slots node key number (close.all key) has) (λ key number has free. lanes.sealed key number has free)
           (λ key none. level.matches.unnumbered node key (close.all key) none) (plain_seals_places node s) level.gave
           (λ number past. level.numbered.beyond node some_key number (close.all some_key) past) seen_in
@@ -182,7 +182,7 @@ module _ (plan : PlanText) (run : RunView) (locks : LocksView) (h : History) (to
       same_told ordered text other first second =
           let lanes = lanes_seal in
           let in_tree : node < length run.store.tree = subst (λ (n : ℕ). node < n) (sym (ap length close.basis.tree ∙ length-map plan.nodes (λ (n : NodeText). n.id))) close.inside in
-          same_first run close.basis.view node in_tree (seen_by lane.cells.view) (first_seen after) s (seal_keys s.places node s) (keys_named plan) (most_numbers plan.size)
+          same_first run close.basis.view node in_tree (seen_by lane.cells.view) (first_seen after) s (seal_keys s.places node s) (keys_named plan) (enough_numbers plan.size)
           (λ key number has. level.matches.slots node key number (close.all key) has) (λ key number has free. lanes.sealed key number has free)
           (λ key none. level.matches.unnumbered node key (close.all key) none) (plain_seals_places node s) level.gave
           (λ number past. level.numbered.beyond node some_key number (close.all some_key) past) seen_in
@@ -212,7 +212,7 @@ module _ (plan : PlanText) (run : RunView) (locks : LocksView) (h : History) (to
         let both = both_true (places context key) (not (context == node)) is in
         plain.others context number (not_one context node both.1) ∙ level.numbered.beyond context key number both.0 (subst (λ (keys : List KeyValue). length keys ≤ number) plain.keys past)
 
-    gave_few : GaveFew (keys_named plan) (most_numbers plan.size) t
+    gave_few : GaveFew (keys_named plan) (enough_numbers plan.size) t
     gave_few = record {
       values = ap length plain.values ∙ (level.gave.values ∙ sym plain.drawn);
       keys = record {

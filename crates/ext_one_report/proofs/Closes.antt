@@ -1,5 +1,6 @@
 -- What the end of a context leaves in a run on several lanes and in the plain run.
 -- JUnit 5 User Guide, "Keeping State in Extensions", and Javadoc `ExtensionContext.Store.CloseableResource`; seals, and what is told of closes, are own rules.
+use Rattle.ext_one_report.proofs.Open.{Open}
 use Rattle.std.specs.Prelude.{ℕ, ◌≡◌, ◌≢◌, ◌<◌, Bool, true, List, ◌∷◌, length, All, Option, None, Some}
 use Rattle.ext_model.specs.declared.look.Fault.{Fault}
 use Rattle.ext_model.specs.declared.slot.Slot.{Slot}
@@ -22,7 +23,6 @@ use Rattle.ext_plain.specs.PlainRun.{outcome_of}
 use Rattle.ext_one_report.proofs.CallListsWords.{CallsAlike}
 use Rattle.ext_one_report.proofs.MatchingWords.{HasNumberIn, Places, RunView, cell_of}
 use Rattle.ext_one_report.proofs.StepsWords.{IsLaneIn}
-use Rattle.ext_one_report.specs.Shares.{Open}
 use Rattle.ext_one_report.proofs.FullRuns.{setting_in}
 use Rattle.ext_one_report.proofs.Orders.{AreInOrder}
 use Rattle.ext_one_report.proofs.Levels.{AreLevel, besides}

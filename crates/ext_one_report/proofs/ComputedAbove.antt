@@ -1,5 +1,6 @@
 -- What the callbacks before all children of the nodes above a node have computed: none of these places is open for the node, and in the plain run something stands there or above.
 -- JUnit 5 User Guide, "Relative Execution Order of User Code and Extensions"; Javadoc `ExtensionContext.Store`, `getOrComputeIfAbsent`.
+use Rattle.ext_one_report.proofs.Open.{Open}
 use Rattle.std.proofs.Common.{refl}
 use Rattle.std.specs.Prelude.{ℕ, ◌≡◌, Bool, true, false, not, ◌&&◌, List, [], ◌∷◌, All, Contains, Option, None, Some, drop, is_some}
 use Rattle.std.proofs.lemmas.Bool.{and_parts}
@@ -14,7 +15,6 @@ use Rattle.ext_races.specs.Acts.{ActText, act_of}
 use Rattle.ext_races.specs.MadeSteps.{plan_path, steps_before}
 use Rattle.ext_races.specs.Touches.{is_removed}
 use Rattle.ext_plain.specs.ValueStates.{ValueState}
-use Rattle.ext_one_report.specs.Shares.{Open}
 use Rattle.ext_one_report.proofs.MatchingWords.{plain_slot}
 
 -- in the plain run nothing stands under the key in these contexts

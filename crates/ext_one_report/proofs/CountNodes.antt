@@ -20,7 +20,7 @@ use Rattle.ext_races.specs.Touches.{numbers_drawn}
 use Rattle.ext_races.proofs.Calls.{calls_are}
 use Rattle.ext_races.proofs.Paths.{path_is}
 use Rattle.ext_plain.specs.NodeCalls.{CallsEnd, call_run, make, make_all, make_befores, make_if_successful, no_calls}
-use Rattle.ext_plain.specs.PlainRun.{RunState, body_run, container_run, node_run, run_opening, test_node_run}
+use Rattle.ext_plain.specs.PlainRun.{RunState, body_run, container_run, node_run, test_node_run}
 use Rattle.ext_plain.specs.StepRuns.{StepEnd}
 use Rattle.ext_plain.specs.ValueStates.{ValueState}
 use Rattle.ext_plain.proofs.Below.{children-all}
@@ -32,6 +32,7 @@ use Rattle.ext_engine.proofs.Above.{Under, parent_first, same_child, under_child
 use Rattle.ext_one_report.proofs.CoveredTouches.{turn_is}
 use Rattle.ext_one_report.proofs.CountSteps.{Draws, GoesOn, draws_more, draws_none, draws_then, seals_draw, steps_draw}
 use Rattle.ext_one_report.proofs.CountSums.{all_stand, below, below_few, count_in_all, is_on, node_and_below, on_path, path_on, sum_same}
+use Rattle.ext_one_report.proofs.Numbers.{enough_end, enough_opening}
 
 -- ---- the calls of a node, one after another
 
@@ -262,10 +263,10 @@ module _ (plan : PlanText) where
 
 -- ---- the whole run
 
-pub draws_few : (plan : PlanText) → NodesAreTree plan → (node_run plan (length plan.nodes) (0 ∷ []) (run_opening [] plan)).state.store.drawn ≤ numbers_drawn plan
+pub draws_few : (plan : PlanText) → NodesAreTree plan → (enough_end plan).state.store.drawn ≤ numbers_drawn plan
 draws_few plan tree =
-    let opening : GoesOn plan.keep_faults (run_opening [] plan).state = record { values = refl; memory = refl; faults = refl } in
-    let whole = (node_draws plan tree (length plan.nodes) 0 (0 ∷ []) (run_opening [] plan) (refl, refl) opening).drawn in
+    let opening : GoesOn plan.keep_faults (enough_opening plan).state = record { values = refl; memory = refl; faults = refl } in
+    let whole = (node_draws plan tree (length plan.nodes) 0 (0 ∷ []) (enough_opening plan) (refl, refl) opening).drawn in
     let few = below_few (plan_path plan) (cost_of_node plan) (length plan.nodes) 0 in
     let all = numbers_are plan in
     omega (arith, whole, few, all)

@@ -19,12 +19,10 @@ use Rattle.ext_plan.specs.declared.word.Word.{Word}
 use Rattle.ext_races.specs.Acts.{ActText}
 use Rattle.ext_races.specs.MadeSteps.{calls_of, plan_path}
 use Rattle.ext_races.specs.Touches.{TouchText, keys_named, touches_made}
-use Rattle.ext_plan.specs.StepWords.{changes, looks_along}
-use Rattle.ext_races.proofs.Lists.{all_contained, contains_cases, contains_first, contains_later, contains_nothing}
+use Rattle.ext_plan.specs.StepWords.{changes}
+use Rattle.ext_races.proofs.Lists.{contains_cases, contains_first, contains_later, contains_nothing}
 use Rattle.ext_races.proofs.TouchNodes.{touch_within}
 use Rattle.ext_one_report.proofs.PlanCells.{changed_by}
-use Rattle.ext_one_report.proofs.CallListsWords.{CallFits}
-use Rattle.ext_one_report.proofs.CallsWords.{StepWithin}
 use Rattle.ext_one_report.proofs.StepsWords.{ActsWithin, LooksWithin, TouchesWithin}
 use Rattle.ext_one_report.proofs.MatchingWords.{Places}
 use Rattle.ext_one_report.proofs.Covered.{PlansAreCovered, changed_in, is_closed_by, touched_in}
@@ -32,8 +30,7 @@ use Rattle.ext_one_report.specs.Shares.{is_at, may_change_at}
 use Rattle.ext_one_report.specs.Within.{is_within}
 use Rattle.ext_one_report.proofs.CoveredCalls.{call_stays, made_path}
 use Rattle.ext_one_report.proofs.CoveredPaths.{below_below, has_context, holder_within, one_child, passed, path_holds, path_passes, path_starts, path_there, path_up}
-use Rattle.ext_one_report.proofs.CoveredTouches.{IsTouched, contains_drop, is_made, look_touches, step_of, touch_on_path, touches_all, touches_start}
-use Rattle.ext_one_report.proofs.WordCases.{acts_changing}
+use Rattle.ext_one_report.proofs.CoveredTouches.{IsTouched, is_made, step_of, touch_on_path, touches_start}
 
 -- ---- the node is on the path of the context
 
@@ -270,36 +267,6 @@ module _ (plan : PlanText) (read : IsReadPlan plan) where
         below_itself (start_of (drop act.up path)) (key_of_step plan.keys act.key) true
         (subst (λ p. IsTouched plan node (start_of (drop act.up p)) (place_of_key (keys_named plan) (key_of_step plan.keys act.key)) true) (sym along) one)
 
-    acts_within : (act : ActText) → Contains (steps_of_call plan call) (step_of act) → changes act.word ≡ true → ActsWithin plan.keys path (touched_in plan node) act.key act.up
-    acts_within act there changing =
-        touched_by plan node (start_of (drop act.up path)) (key_of_step plan.keys act.key)
-        (weaker plan node (start_of (drop act.up path)) (key_of_step plan.keys act.key) (acts_changed act there changing))
-
-    looked : (act : ActText) → Contains (steps_of_call plan call) (step_of act) → looks_along act.word ≡ true
-        → (at : ℕ) → act.up ≤ at → at < length (plan_path plan node) → IsTouched plan node (get_or (plan_path plan node) at 0) (place_of_key (keys_named plan) (key_of_step plan.keys act.key)) false
-    looked act there looks at high less = elim (cases_Bool (changes act.word)) [
-      | inl changing ↦
-          touches_all plan node act (is_made plan node call (step_of act) within among there) (get_or (plan_path plan node) at 0) changing looks (contains_drop act.up at (plan_path plan node) high less)
-      | inr still ↦ look_touches plan node call within among act there still looks at high less
-    ]
-
-    looks_within : (act : ActText) → Contains (steps_of_call plan call) (step_of act) → looks_along act.word ≡ true → LooksWithin plan.keys path (touched_in plan node) act.key act.up
-    looks_within act there looks =
-        let key = key_of_step plan.keys act.key in
-        from_drop (λ context. touched_in plan node context key ≡ true) act.up path (λ at high less.
-        touched_by plan node (get_or path at 0) key (below_itself (get_or path at 0) key false
-        (subst (λ p. IsTouched plan node (get_or p at 0) (place_of_key (keys_named plan) key) false) (sym along) (looked act there looks at high (subst (λ p. at < length p) along less)))))
-
-    step_within : (step : StepText) → Contains (steps_of_call plan call) step → StepWithin plan.keys path (touched_in plan node) step
-    step_within (keyed word key text up) there =
-        let act = an_act word key text up in
-        within_by plan.keys path (touched_in plan node) key up (looks_along word) (looks_within act there) (λ acts. acts_within act there (acts_changing word acts))
-    step_within (fail text) there = tt
-    step_within (abort text) there = tt
-
-    pub call_fits : CallFits plan path (touched_in plan node) call
-    call_fits = (call_stays plan read node path is call among, all_contained (StepWithin plan.keys path (touched_in plan node)) (steps_of_call plan call) step_within)
-
     pub step_changes : (step : StepText) (key : StepKeyText) (up : ℕ) → Contains (steps_of_call plan call) step → changed_by step ≡ Some (key, up)
         → IsTouchedBelow plan node (start_of (drop up path)) (key_of_step plan.keys key) true
     step_changes (keyed word name text height) key up there changed = elim (cases_Bool (changes word)) [
@@ -314,7 +281,6 @@ module _ (plan : PlanText) (read : IsReadPlan plan) where
 
 pub plans_are_covered : PlansAreCovered
 plans_are_covered plan read = record {
-  calls = λ node path call is among. call_fits plan read node call path is among;
   steps = λ node path call step key up is among there changed.
       changed_by_touch plan node (start_of (drop up path)) (key_of_step plan.keys key) (step_changes plan read node call path is among step key up there changed);
   own = λ node key less. changed_own plan node node key (record { below = within_itself plan read node less; less = less });

@@ -21,8 +21,7 @@ use Rattle.ext_races.specs.MadeSteps.{MadeText, calls_after, calls_before, calls
 use Rattle.ext_races.specs.Touches.{ComputeText, TouchText, below_act, below_computes, found_above, keys_named, look_at, reach, standing, touch_first, touch_of, touches_above, touches_along, touches_made, touches_of, touches_of_act}
 use Rattle.ext_plan.specs.StepWords.{changes, gives_value, looks_along}
 use Rattle.ext_races.proofs.Lists.{contains-flat_map, contains-flat_map_back, contains-map, contains-map_back, contains_at, contains_cases, contains_first, contains_later, contains_nothing}
-use Rattle.ext_races.proofs.StepTouches.{all_reach, reach_below}
-use Rattle.ext_one_report.proofs.WordCases.{computes_all}
+use Rattle.ext_races.proofs.StepTouches.{all_reach}
 
 -- ---- what a touch is of
 
@@ -194,27 +193,6 @@ pub above_all : (node key : ℕ) (act : ActText) (found : Option ComputeText) (a
 above_all node key act found above context looks there =
     subst (λ (b : Bool). Contains (if b then map (look_at node key act found) above else []) (look_at node key act found context)) (sym looks) (contains-map (look_at node key act found) above context there)
 
--- An act of a node touches a place
-record IsAlong (node key : ℕ) (act : ActText) (found : Option ComputeText) (path : List ℕ) (context : ℕ) : Type 0 where
-  pub touch : TouchText
-  pub there : Contains (touches_along node key act found path) touch
-  pub of : IsOf node key context touch
-
-along_all : (node key : ℕ) (act : ActText) (found : Option ComputeText) (path : List ℕ) (context : ℕ) → looks_along act.word ≡ true → Contains path context → IsAlong node key act found path context
-along_all node key act found [] context looks there = contains_nothing context there
-along_all node key act found (first ∷ above) context looks there = elim (contains_cases first context above there) [
-  | inl same ↦ record {
-    touch = touch_first node key act found first;
-    there = contains_first (touch_first node key act found first) (touches_above node key act found above);
-    of = subst (λ c. IsOf node key c (touch_first node key act found first)) same (first_of node key act found first);
-  }
-  | inr later ↦ record {
-    touch = look_at node key act found context;
-    there = contains_later (touch_first node key act found first) (look_at node key act found context) (touches_above node key act found above) (above_all node key act found above context looks later);
-    of = looks_of node key act found context;
-  }
-]
-
 -- A touch that the plan makes, by the node, at this context and this number of a key; it may change the place, where that is told
 pub record IsTouched (plan : PlanText) (node context number : ℕ) (told : Bool) : Type 0 where
   pub touch : TouchText
@@ -261,21 +239,6 @@ module _ (plan : PlanText) (node : ℕ) where
       key_is = refl;
       changes = λ told. refl;
     }
-
-    pub touches_reached : (context : ℕ) → looks_along act.word ≡ true → Contains reached context → IsTouched plan node context (number_in act) false
-    touches_reached context looks there =
-        let one = along_all node (number_in act) act found_here reached context looks there in
-        record {
-          touch = one.touch;
-          made = touch_made one.touch one.there;
-          node_is = one.of.0;
-          context_is = one.of.1;
-          key_is = one.of.2;
-          changes = λ told. absurd cc;
-        }
-
-    pub touches_all : (context : ℕ) → changes act.word ≡ true → looks_along act.word ≡ true → Contains (drop act.up (plan_path plan node)) context → IsTouched plan node context (number_in act) false
-    touches_all context changing looks there = touches_reached context looks (subst (λ p. Contains p context) (sym (reach_is changing)) there)
 
 -- ---- look-ups behind a compute
 
@@ -324,26 +287,3 @@ contains_drop zero at xs low less = contains_at xs at 0 less
 contains_drop (suc n) at [] low less = absurd (omega (arith, less))
 contains_drop (suc n) zero (x ∷ xs) low less = absurd (omega (arith, low))
 contains_drop (suc n) (suc at) (x ∷ xs) low less = contains_drop n at xs (omega (arith, low)) (omega (arith, less))
-
-module _ (plan : PlanText) (node : ℕ) (call : Call) (within : node < length plan.nodes) (among : Contains (calls_of plan node) call) where
-  -- a look-up touches each place that it asks, by itself or by a compute before it
-  pub look_touches : (act : ActText) → Contains (steps_of_call plan call) (step_of act) → changes act.word ≡ false → looks_along act.word ≡ true
-      → (at : ℕ) → act.up ≤ at → at < length (plan_path plan node) → IsTouched plan node (get_or (plan_path plan node) at 0) (place_of_key (keys_named plan) (key_of_step plan.keys act.key)) false
-  look_touches act there still looks at low less =
-      let path = plan_path plan node in
-      let key = key_of_step plan.keys act.key in
-      let is = is_made plan node call (step_of act) within among there in
-      elim (kept_or_computed plan.keys key is.front path at less) [
-        | inl kept ↦
-            let below = below_computes plan.keys key path is.front in
-            let here : Contains (drop act.up below) (get_or path at 0) = subst (Contains (drop act.up below)) kept.1 (contains_drop act.up at below low kept.0) in
-            touches_reached plan node act is (get_or path at 0) looks (subst (λ p. Contains (drop act.up p) (get_or path at 0)) (reach_below plan.keys is.front path act still) here)
-        | inr computed ↦
-            let one = computed.2 in
-            let all = computes_all one.one.word one.gives in
-            let before = subst (Contains is.front) (step_is computed.0 one.one one.is) computed.1 in
-            let of = is.among (step_of one.one) before in
-            let made = is_made plan node of.0 (step_of one.one) within of.1 of.2 in
-            subst (λ k. IsTouched plan node (get_or path at 0) (place_of_key (keys_named plan) k) false) one.same
-            (touches_all plan node one.one made (get_or path at 0) all.0 all.1 (contains_drop one.one.up at path one.low less))
-      ]

@@ -13,7 +13,6 @@ use Rattle.ext_plan.specs.StoreKeys.{key_of_step}
 use Rattle.ext_races.specs.MadeSteps.{calls_of}
 use Rattle.ext_one_report.proofs.PlanCells.{changed_by}
 use Rattle.ext_one_report.proofs.MatchingWords.{Places}
-use Rattle.ext_one_report.proofs.CallListsWords.{CallFits}
 
 -- ---- plans whose nodes keep apart
 
@@ -22,9 +21,7 @@ use Rattle.ext_one_report.proofs.CallListsWords.{CallFits}
 -- `touched` has the places that each node touches, itself or by the nodes below it, and `changes` those that it may change
 module _ (plan : PlanText) (touched changes : ℕ → Places) where
   pub record AreCovered : Type 0 where
-    -- the steps of a node's calls go up no further than to the root, and the node touches what they touch
-    pub calls : (node : ℕ) (path : List ℕ) (call : Call) → IsPathOf (ids_of_nodes plan.nodes) node path → Contains (calls_of plan node) call → CallFits plan path (touched node) call
-    -- it changes what they may change,
+    -- a node changes what the steps of its calls may change,
     pub steps : (node : ℕ) (path : List ℕ) (call : Call) (step : StepText) (key : StepKeyText) (up : ℕ) → IsPathOf (ids_of_nodes plan.nodes) node path → Contains (calls_of plan node) call
         → Contains (steps_of_call plan call) step → changed_by step ≡ Some (key, up) → changes node (start_of (drop up path)) (key_of_step plan.keys key) ≡ true
     -- and all places of its own context, which is closed at its end

@@ -27,6 +27,12 @@ cut_at [] place e there = absurd (cc there)
 cut_at (x ∷ h) zero e there = ([], h, ap (λ (y : Event ℕ). y ∷ h) (cc there))
 cut_at (x ∷ h) (suc place) e there = let r = cut_at h place e there in (x ∷ r.0, r.1, ap (λ l. x ∷ l) r.2)
 
+-- and how long what stands before it is
+pub cut_there : (h : History) (place : ℕ) (e : Event ℕ) → slice_get h place ≡ Some e → (before : History) × (later : History) × (h ≡ before ++ e ∷ later) × (length before ≡ place)
+cut_there [] place e there = absurd (cc there)
+cut_there (x ∷ h) zero e there = ([], h, ap (λ (y : Event ℕ). y ∷ h) (cc there), refl)
+cut_there (x ∷ h) (suc place) e there = let r = cut_there h place e there in (x ∷ r.0, r.1, ap (λ (l : History). x ∷ l) r.2, ap suc r.3)
+
 pub in_whole : (a b : History) (place : ℕ) (e : Event ℕ) → slice_get a place ≡ Some e → slice_get (a ++ b) place ≡ Some e
 in_whole [] b place e there = absurd (cc there)
 in_whole (x ∷ a) b zero e there = there
@@ -36,6 +42,9 @@ pub behind_part : (a b : History) (k place : ℕ) → place ≡ length a + k →
 behind_part [] b k place is = let e : place ≡ k = omega (arith, is) in ap (λ n. slice_get b n) e
 behind_part (x ∷ a) b k zero is = absurd (omega (arith, is))
 behind_part (x ∷ a) b k (suc place) is = behind_part a b k place (omega (arith, is))
+
+pub behind_whole : (a b : History) (k : ℕ) (e : Event ℕ) → slice_get b k ≡ Some e → slice_get (a ++ b) (length a + k) ≡ Some e
+behind_whole a b k e there = behind_part a b k (length a + k) refl ∙ there
 
 -- what stands in a part of a history stands there in the history
 pub in_part : (a b : History) (place : ℕ) (e : Event ℕ) → place < length a → slice_get (a ++ b) place ≡ Some e → slice_get a place ≡ Some e

@@ -112,7 +112,7 @@ on_fail cell lane number =
     let first : Event ℕ = by lane (Claim cell) in
     ap (λ b. cond b (first ∷ cond b (last ∷ []) []) (cond b (last ∷ []) [])) (eq-eqb cell cell refl)
 
-only_fail : (cell lane number : ℕ) → OnlyAt cell (by lane (Claim cell) ∷ by lane (Keep number) ∷ by lane (Fail cell number) ∷ [])
+pub only_fail : (cell lane number : ℕ) → OnlyAt cell (by lane (Claim cell) ∷ by lane (Keep number) ∷ by lane (Fail cell number) ∷ [])
 only_fail cell lane number = λ other off.
     let last : Event ℕ = by lane (Fail cell number) in
     let first : Event ℕ = by lane (Claim cell) in

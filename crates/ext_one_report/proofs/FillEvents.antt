@@ -1,5 +1,5 @@
--- Fills of a cell between two moments of a history, where all events there compute one value: there is at most one, and there is one if nothing stood there first and the value stands there in the end.
-use Rattle.std.proofs.Common.{◌≡◌, ℕ, zero, suc, ◌+◌, ◌<◌, ◌≤◌, ◌⊎◌, inl, inr, true, [], ◌∷◌, ◌++◌, length, length-append, Option, Some, None, fold, refl, ap, sym, subst, ◌∙◌, arith, append_assoc, nat_eq, eq-eqb}
+-- Fills of a cell between two moments of a history, where all events there compute one thing: there is at most one, and there is one if that is a value, nothing stood there first and the value stands there in the end.
+use Rattle.std.proofs.Common.{◌≡◌, ℕ, suc, ◌+◌, ◌<◌, ◌≤◌, ◌⊎◌, inl, inr, true, [], ◌∷◌, ◌++◌, length, length-append, Option, Some, None, fold, refl, ap, sym, subst, ◌∙◌, arith, append_assoc, nat_eq, eq-eqb}
 use Rattle.std.specs.Prelude.{if◌then◌else◌, slice_get}
 use mathlib.Core.List.{IsPrefix}
 use Rattle.std.proofs.lemmas.Bool.{cases_lt, eqb-true}
@@ -16,9 +16,9 @@ use Rattle.ext_model.specs.State.{State}
 use Rattle.ext_model.proofs.Versions.{after-append}
 use Rattle.ext_model.proofs.Words.{after-push}
 use Rattle.ext_plan.specs.Values.{ValueText}
-use Rattle.ext_one_report.proofs.Events.{behind_part, in_part, in_whole}
-use Rattle.ext_one_report.proofs.MatchingWords.{RunView, cell_of}
-use Rattle.ext_one_report.proofs.Open.{Computes, Stands}
+use Rattle.ext_one_report.proofs.Events.{behind_part, cut_there, in_part, in_whole}
+use Rattle.ext_one_report.proofs.MatchingWords.{RunView, TextMeaning, cell_of}
+use Rattle.ext_one_report.proofs.Open.{Computes, Given, IsEntry, Stands, of_fault, of_nothing, of_value}
 use Rattle.ext_one_report.proofs.Sees.{at_place}
 use Rattle.ext_one_report.proofs.SharedNodesCells.{Between, none_between, stands_stay}
 
@@ -37,39 +37,36 @@ pub record IsFilledBetween (h g j : History) (cell : ℕ) : Type 0 where
 -- two fills of it are one: after the first the value stands there, and nobody claims such a cell
 abbrev pub FilledOnce : Type 0
 FilledOnce =
-    (run : RunView) (limits : Limits) (h g j : History) (context number : ℕ) (v : ValueText) → IsLegal limits h → IsPrefix g j → IsPrefix j h → Between h g j (cell_of run number context) (Computes run v)
+    (run : RunView) (limits : Limits) (h g j : History) (context number : ℕ) (v : Given) → IsLegal limits h → IsPrefix g j → IsPrefix j h → Between h g j (cell_of run number context) (Computes run v)
     → (p q : ℕ) (one other : Event ℕ) (value also : ℕ) → length g ≤ p → p < length j → length g ≤ q → q < length j → slice_get h p ≡ Some one → slice_get h q ≡ Some other
     → one.act ≡ Fill (cell_of run number context) value → other.act ≡ Fill (cell_of run number context) also → p ≡ q
 
 -- where nothing stood and the value came to stand there, it was filled meanwhile
 abbrev pub FilledSince : Type 0
 FilledSince =
-    (run : RunView) (h g j : History) (context number : ℕ) (v : ValueText) → IsPrefix g j → IsPrefix j h → Between h g j (cell_of run number context) (Computes run v)
-    → slots_in (cell_of run number) g context ≡ None → Stands run.meaning v (slots_in (cell_of run number) j context) → IsFilledBetween h g j (cell_of run number context)
+    (run : RunView) (h g j : History) (context number : ℕ) (v : ValueText) → IsPrefix g j → IsPrefix j h → Between h g j (cell_of run number context) (Computes run (of_value v))
+    → slots_in (cell_of run number) g context ≡ None → Stands run.meaning (of_value v) (slots_in (cell_of run number) j context) → IsFilledBetween h g j (cell_of run number context)
 
 -- ---- where it is filled, the value stands
-
--- what stands before an event, up to it
-cut_there : (h : History) (place : ℕ) (e : Event ℕ) → slice_get h place ≡ Some e → (before : History) × (later : History) × (h ≡ before ++ e ∷ later) × (length before ≡ place)
-cut_there [] place e there = absurd (cc there)
-cut_there (x ∷ h) zero e there = ([], h, ap (λ (y : Event ℕ). y ∷ h) (cc there), refl)
-cut_there (x ∷ h) (suc place) e there = let r = cut_there h place e there in (x ∷ r.0, r.1, ap (λ (l : History). x ∷ l) r.2, ap suc r.3)
 
 is_on_itself : (cell value : ℕ) (act : Act ℕ) → act ≡ Fill cell value → is_on nat_eq cell act ≡ true
 is_on_itself cell value act is = ap (is_on nat_eq cell) is ∙ eq-eqb cell cell refl
 
+-- an entry that is so stands there
+stands_as : (meaning : TextMeaning) (v : Given) (x : Option Slot) (value : ℕ) → x ≡ Some (slot.Entry value) → IsEntry meaning v value → Stands meaning v x
+stands_as meaning (of_value w) x value there is = record { number = value; there = there; means = is }
+stands_as meaning (of_fault text) x value there is = absurd is
+stands_as meaning (of_nothing text) x value there is = absurd is
+
 -- the value stands directly after a fill
-stands_after : (run : RunView) (v : ValueText) (before : History) (e : Event ℕ) (cell value : ℕ) → e.act ≡ Fill cell value → Computes run v e.act → Stands run.meaning v ((state_after (before ++ e ∷ [])).slots cell)
+stands_after : (run : RunView) (v : Given) (before : History) (e : Event ℕ) (cell value : ℕ) → e.act ≡ Fill cell value → Computes run v e.act → Stands run.meaning v ((state_after (before ++ e ∷ [])).slots cell)
 stands_after run v before e cell value is computes =
     let old : Option Slot = (state_after before).slots cell in
     let here : (apply nat_eq (state_after before) e).slots cell ≡ slot_after e.lane e.act old = ap (λ b. if b then slot_after e.lane e.act old else old) (is_on_itself cell value e.act is) in
-    record {
-      number = value;
-      there = ap (λ (s : State ℕ). s.slots cell) (after-push before e) ∙ (here ∙ ap (λ (act : Act ℕ). slot_after e.lane act old) is);
-      means = subst (Computes run v) is computes;
-    }
+    stands_as run.meaning v ((state_after (before ++ e ∷ [])).slots cell) value (ap (λ (s : State ℕ). s.slots cell) (after-push before e) ∙ (here ∙ ap (λ (act : Act ℕ). slot_after e.lane act old) is))
+    (subst (Computes run v) is computes)
 
-module _ (run : RunView) (limits : Limits) (h g j : History) (cell : ℕ) (v : ValueText) (legal : IsLegal limits h) (within : IsPrefix j h) (computed : Between h g j cell (Computes run v)) where
+module _ (run : RunView) (limits : Limits) (h g j : History) (cell : ℕ) (v : Given) (legal : IsLegal limits h) (within : IsPrefix j h) (computed : Between h g j cell (Computes run v)) where
   -- after a fill there is no other event
   none_later : (p q : ℕ) (one other : Event ℕ) (value also : ℕ) → length g ≤ p → p < q → q < length j → slice_get h p ≡ Some one → slice_get h q ≡ Some other → one.act ≡ Fill cell value → other.act ≡ Fill cell also → ⊥
   none_later p q one other value also low less high there_p there_q is is_also =
@@ -98,15 +95,15 @@ filled_once run limits h g j context number v legal on within computed p q one o
 
 -- ---- where it stands, it was filled
 
--- what an event of those who compute the value leaves in its cell: no value, if it is no fill
-fills_or_none : (run : RunView) (v : ValueText) (cell lane : ℕ) (act : Act ℕ) (x : Option Slot) → is_on nat_eq cell act ≡ true → Computes run v act
+-- what an event of those who compute there leaves in its cell: no value, if it is no fill
+fills_or_none : (run : RunView) (v : Given) (cell lane : ℕ) (act : Act ℕ) (x : Option Slot) → is_on nat_eq cell act ≡ true → Computes run v act
     → ((value : ℕ) × (act ≡ Fill cell value)) ⊎ ((number : ℕ) → ¬ (slot_after lane act x ≡ Some (slot.Entry number)))
 fills_or_none run v cell lane (Keep number) x on computes = absurd computes
 fills_or_none run v cell lane (Put at number) x on computes = absurd computes
 fills_or_none run v cell lane (Remove at) x on computes = absurd computes
 fills_or_none run v cell lane (Claim at) x on computes = inr (λ number is. cc is)
 fills_or_none run v cell lane (Fill at number) x on computes = inl (number, ap (λ c. Fill c number) (eqb-true at cell on))
-fills_or_none run v cell lane (Fail at number) x on computes = absurd computes
+fills_or_none run v cell lane (Fail at number) x on computes = inr (λ number is. cc is)
 fills_or_none run v cell lane (Abandon at) x on computes = inr (λ number is. cc is)
 fills_or_none run v cell lane (Seal at) x on computes = absurd computes
 
@@ -122,10 +119,10 @@ later_among : (cell : ℕ) (e : Event ℕ) (more : History) → IsFilledAmong ce
 later_among cell e more it = record { place = suc it.place; event = it.event; value = it.value; there = it.there; act = it.act }
 
 filled_among : (run : RunView) (v : ValueText) (cell : ℕ) (more : History) (s : State ℕ) → ((number : ℕ) → ¬ (s.slots cell ≡ Some (slot.Entry number)))
-    → ((k : ℕ) (e : Event ℕ) → slice_get more k ≡ Some e → is_on nat_eq cell e.act ≡ true → Computes run v e.act) → Stands run.meaning v ((fold (apply nat_eq) s more).slots cell) → IsFilledAmong cell more
+    → ((k : ℕ) (e : Event ℕ) → slice_get more k ≡ Some e → is_on nat_eq cell e.act ≡ true → Computes run (of_value v) e.act) → Stands run.meaning (of_value v) ((fold (apply nat_eq) s more).slots cell) → IsFilledAmong cell more
 filled_among run v cell [] s none computed stands = absurd (none stands.number stands.there)
 filled_among run v cell (e ∷ more) s none computed stands = elim (bools (is_on nat_eq cell e.act)) [
-  | inl on ↦ elim (fills_or_none run v cell e.lane e.act (s.slots cell) on (computed 0 e refl on)) [
+  | inl on ↦ elim (fills_or_none run (of_value v) cell e.lane e.act (s.slots cell) on (computed 0 e refl on)) [
     | inl fill ↦ record { place = 0; event = e; value = fill.0; there = refl; act = fill.1 }
     | inr still ↦ later_among cell e more (filled_among run v cell more (apply nat_eq s e)
         (λ number is. still number (ap (λ b. if b then slot_after e.lane e.act (s.slots cell) else s.slots cell) (sym on) ∙ is)) (λ k x there is. computed (suc k) x there is) stands)
@@ -148,5 +145,5 @@ filled_since run h g j context number v on within computed empty stands =
     let parts : state_after j ≡ fold (apply nat_eq) (state_after g) more = ap state_after (sym on.1) ∙ after-append g more in
     let it = filled_among run v cell more (state_after g) (λ n is. cc (sym is ∙ empty))
     (λ k e there is. computed (length g + k) e (low k) (high k e there) (whole k e there) (at_place cell (place_of e.act) is))
-    (subst (λ (s : State ℕ). Stands run.meaning v (s.slots cell)) parts stands) in
+    (subst (λ (s : State ℕ). Stands run.meaning (of_value v) (s.slots cell)) parts stands) in
     record { place = length g + it.place; event = it.event; value = it.value; low = low it.place; high = high it.place it.event it.there; there = whole it.place it.event it.there; act = it.act }

@@ -14,9 +14,8 @@ use Rattle.ext_history.proofs.Once.{Once}
 use Rattle.ext_tree.specs.Keys.{KeyValue}
 use Rattle.ext_plan.specs.Values.{ValueText}
 use Rattle.ext_plain.specs.ValueStates.{ValueState}
-use Rattle.ext_one_report.specs.Shares.{Open}
 use Rattle.ext_one_report.proofs.MatchingWords.{HasNumberIn, RunView, cell_of, plain_slot}
-use Rattle.ext_one_report.proofs.Open.{at_place, still_open}
+use Rattle.ext_one_report.proofs.Open.{Given, Open, at_place, of_value, still_open, values_of}
 
 -- a place: a context and a key
 abbrev pub Spot : Type 0
@@ -52,7 +51,7 @@ pub record IsFilledIn (run : RunView) (h : History) (before after : List PlanLan
 -- the value stands there by now
 pub record IsSettled (o later : Open) (spot : Spot) : Type 0 where
   pub value : ValueText
-  pub was_open : o spot.0 spot.1 ≡ Some value
+  pub was_open : o spot.0 spot.1 ≡ Some (of_value value)
   pub closed : later spot.0 spot.1 ≡ None
 
 -- From these open places to fewer, in a plain run from this state: `mine` are the places that the lanes filled themselves (`Filled`), `theirs` those that the plain run filled. But for these both computed as many
@@ -63,7 +62,7 @@ pub record Fills (Filled : Spot → Type 0) (o later : Open) (s : ValueState) (l
   pub theirs_once : Once theirs
   pub mine_settled : (spot : Spot) → Contains mine spot → IsSettled o later spot
   pub mine_filled : (spot : Spot) → Contains mine spot → Filled spot
-  pub filled_mine : (spot : Spot) (v : ValueText) → o spot.0 spot.1 ≡ Some v → Filled spot → Contains mine spot
+  pub filled_mine : (spot : Spot) (v : ValueText) → o spot.0 spot.1 ≡ Some (of_value v) → Filled spot → Contains mine spot
   pub theirs_settled : (spot : Spot) → Contains theirs spot → IsSettled o later spot
   pub theirs_none : (spot : Spot) → Contains theirs spot → plain_slot s spot.0 spot.1 ≡ None
   pub none_theirs : (spot : Spot) → IsSettled o later spot → plain_slot s spot.0 spot.1 ≡ None → Contains theirs spot
@@ -90,31 +89,37 @@ computed_told ran results = sum_by (λ one. computed_at results one.result.node)
 
 -- nothing was filled where it is open
 abbrev pub FillsNone : Type 1
-FillsNone = (Filled : Spot → Type 0) (o : Open) (s : ValueState) (n : ℕ) → ((spot : Spot) (v : ValueText) → o spot.0 spot.1 ≡ Some v → Filled spot → ⊥) → Fills Filled o o s n n
+FillsNone = (Filled : Spot → Type 0) (o : Open) (s : ValueState) (n : ℕ) → ((spot : Spot) (v : ValueText) → o spot.0 spot.1 ≡ Some (of_value v) → Filled spot → ⊥) → Fills Filled o o s n n
 
 -- one place was settled: each of both either filled it, or found a value there
 abbrev pub FillsOne : Type 1
 FillsOne =
-    (Filled : Spot → Type 0) (o : Open) (s : ValueState) (context : ℕ) (key : KeyValue) (v : ValueText) (lanes plain : ℕ) → o context key ≡ Some v
+    (Filled : Spot → Type 0) (o : Open) (s : ValueState) (context : ℕ) (key : KeyValue) (v : ValueText) (lanes plain : ℕ) → o context key ≡ Some (of_value v)
     → ((lanes ≡ 1) × Filled (context, key)) ⊎ ((lanes ≡ 0) × ¬ Filled (context, key))
     → ((plain ≡ 1) × (plain_slot s context key ≡ None)) ⊎ ((plain ≡ 0) × (plain_slot s context key ≢ None))
-    → ((spot : Spot) (w : ValueText) → o spot.0 spot.1 ≡ Some w → Filled spot → spot ≡ (context, key))
+    → ((spot : Spot) (w : ValueText) → o spot.0 spot.1 ≡ Some (of_value w) → Filled spot → spot ≡ (context, key))
     → Fills Filled o (still_open (at_place context key) o) s lanes plain
+
+-- one place was settled where no value is: nothing was filled
+abbrev pub FillsNoValue : Type 1
+FillsNoValue =
+    (Filled : Spot → Type 0) (o : Open) (s : ValueState) (context : ℕ) (key : KeyValue) (n : ℕ) → values_of o context key ≡ None
+    → ((spot : Spot) (w : ValueText) → o spot.0 spot.1 ≡ Some (of_value w) → Filled spot → ⊥) → Fills Filled o (still_open (at_place context key) o) s n n
 
 -- the same by other words
 abbrev pub FillsAs : Type 1
 FillsAs =
-    (Filled Also : Spot → Type 0) (o later : Open) (s : ValueState) (lanes plain more others : ℕ) → ((spot : Spot) (v : ValueText) → o spot.0 spot.1 ≡ Some v → Filled spot → Also spot)
-    → ((spot : Spot) (v : ValueText) → o spot.0 spot.1 ≡ Some v → Also spot → Filled spot) → lanes ≡ more → plain ≡ others → Fills Filled o later s lanes plain → Fills Also o later s more others
+    (Filled Also : Spot → Type 0) (o later : Open) (s : ValueState) (lanes plain more others : ℕ) → ((spot : Spot) (v : ValueText) → o spot.0 spot.1 ≡ Some (of_value v) → Filled spot → Also spot)
+    → ((spot : Spot) (v : ValueText) → o spot.0 spot.1 ≡ Some (of_value v) → Also spot → Filled spot) → lanes ≡ more → plain ≡ others → Fills Filled o later s lanes plain → Fills Also o later s more others
 
 -- one part after another
 abbrev pub FillsThen : Type 1
 FillsThen =
     (First Second Filled : Spot → Type 0) (o mid last : Open) (s t : ValueState) (lanes plain more others : ℕ)
-    → ((context : ℕ) (key : KeyValue) (v : ValueText) → mid context key ≡ Some v → o context key ≡ Some v)
-    → ((context : ℕ) (key : KeyValue) (v : ValueText) → last context key ≡ Some v → mid context key ≡ Some v)
-    → ((context : ℕ) (key : KeyValue) (v : ValueText) → mid context key ≡ Some v → plain_slot t context key ≡ plain_slot s context key)
-    → ((spot : Spot) (v : ValueText) → o spot.0 spot.1 ≡ Some v → Filled spot → First spot ⊎ Second spot)
+    → ((context : ℕ) (key : KeyValue) (v : Given) → mid context key ≡ Some v → o context key ≡ Some v)
+    → ((context : ℕ) (key : KeyValue) (v : Given) → last context key ≡ Some v → mid context key ≡ Some v)
+    → ((context : ℕ) (key : KeyValue) (v : Given) → mid context key ≡ Some v → plain_slot t context key ≡ plain_slot s context key)
+    → ((spot : Spot) (v : ValueText) → o spot.0 spot.1 ≡ Some (of_value v) → Filled spot → First spot ⊎ Second spot)
     → ((spot : Spot) → First spot → Filled spot) → ((spot : Spot) → Second spot → Filled spot)
     -- where a value stands nothing is filled later
     → ((spot : Spot) → IsSettled o mid spot → Second spot → ⊥)
@@ -124,25 +129,27 @@ FillsThen =
 abbrev pub FillsBeside : Type 1
 FillsBeside =
     (First Second Filled : Spot → Type 0) (wide mid next own left : Open) (s t : ValueState) (lanes plain more others : ℕ)
-    → ((context : ℕ) (key : KeyValue) (v : ValueText) → mid context key ≡ Some v → wide context key ≡ Some v)
-    → ((context : ℕ) (key : KeyValue) (v : ValueText) → own context key ≡ Some v → wide context key ≡ Some v)
+    → ((context : ℕ) (key : KeyValue) (v : Given) → mid context key ≡ Some v → wide context key ≡ Some v)
+    → ((context : ℕ) (key : KeyValue) (v : Given) → own context key ≡ Some v → wide context key ≡ Some v)
     → ((spot : Spot) → IsSettled wide next spot → IsSettled wide mid spot ⊎ IsSettled own left spot)
     → ((spot : Spot) → IsSettled wide mid spot → IsSettled wide next spot) → ((spot : Spot) → IsSettled own left spot → IsSettled wide next spot)
-    → ((context : ℕ) (key : KeyValue) (v : ValueText) → mid context key ≡ Some v → plain_slot t context key ≡ plain_slot s context key)
+    → ((context : ℕ) (key : KeyValue) (v : Given) → mid context key ≡ Some v → plain_slot t context key ≡ plain_slot s context key)
     → ((spot : Spot) → IsSettled wide mid spot → plain_slot t spot.0 spot.1 ≢ None)
-    → ((spot : Spot) (v : ValueText) → wide spot.0 spot.1 ≡ Some v → Filled spot → First spot ⊎ Second spot)
+    → ((spot : Spot) (v : ValueText) → wide spot.0 spot.1 ≡ Some (of_value v) → Filled spot → First spot ⊎ Second spot)
     → ((spot : Spot) → First spot → Filled spot) → ((spot : Spot) → Second spot → Filled spot)
-    → ((spot : Spot) (v : ValueText) → wide spot.0 spot.1 ≡ Some v → Second spot → own spot.0 spot.1 ≡ Some v)
+    → ((spot : Spot) (v : ValueText) → wide spot.0 spot.1 ≡ Some (of_value v) → Second spot → own spot.0 spot.1 ≡ Some (of_value v))
     -- a place is filled once
-    → ((spot : Spot) (v : ValueText) → wide spot.0 spot.1 ≡ Some v → First spot → Second spot → ⊥)
+    → ((spot : Spot) (v : ValueText) → wide spot.0 spot.1 ≡ Some (of_value v) → First spot → Second spot → ⊥)
     → Fills First wide mid s lanes plain → Fills Second own left t more others → Fills Filled wide next s (lanes + more) (plain + others)
 
 -- Of places that were open for these alone as many were filled in both: nothing stood there at first, and where a value stands in the end it was filled meanwhile
 abbrev pub FillsNarrow : Type 1
 FillsNarrow =
     (Filled : Spot → Type 0) (wide left o later : Open) (s : ValueState) (lanes plain : ℕ)
-    → ((context : ℕ) (key : KeyValue) (v : ValueText) → o context key ≡ Some v → Filled (context, key) → wide context key ≡ Some v)
+    -- where a place is open for both, the same is computed
+    → ((context : ℕ) (key : KeyValue) (v w : Given) → o context key ≡ Some v → wide context key ≡ Some w → v ≡ w)
+    → ((context : ℕ) (key : KeyValue) (v : ValueText) → o context key ≡ Some (of_value v) → Filled (context, key) → wide context key ≡ Some (of_value v))
     → ((spot : Spot) → IsSettled o later spot → IsSettled wide left spot)
-    → ((spot : Spot) (v : ValueText) → o spot.0 spot.1 ≡ Some v → IsSettled wide left spot → IsSettled o later spot)
+    → ((spot : Spot) (v : ValueText) → o spot.0 spot.1 ≡ Some (of_value v) → IsSettled wide left spot → IsSettled o later spot)
     → ((spot : Spot) → IsSettled wide left spot → o spot.0 spot.1 ≡ None → (plain_slot s spot.0 spot.1 ≡ None) × Filled spot)
     → Fills Filled wide left s lanes plain → Fills Filled o later s lanes plain

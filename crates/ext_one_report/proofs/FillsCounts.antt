@@ -7,14 +7,13 @@ use Rattle.std.proofs.lemmas.List.Sums.{sum_by-append, sum_by-cons}
 use Rattle.ext_history.proofs.Lists.{contains_cons, contains_here, contains_later, contains_none}
 use Rattle.ext_history.proofs.Once.{Once}
 use Rattle.ext_lifecycle.specs.FaultTexts.{NodeOutcome}
-use Rattle.ext_tree.specs.Keys.{KeyValue}
 use Rattle.ext_plan.specs.Values.{ValueText}
 use Rattle.ext_plain.specs.ValueStates.{ValueState}
 use Rattle.ext_engine.specs.RunLaws.{HasRun, nodes_of}
 use Rattle.ext_engine.specs.TreeRun.{Ran}
-use Rattle.ext_one_report.specs.Shares.{Open}
 use Rattle.ext_one_report.proofs.Fills.{Fills, IsSettled, Spot, computed_at, computed_of, computed_told}
-use Rattle.ext_one_report.proofs.Open.{some_or_none}
+use Rattle.ext_one_report.proofs.Open.{Open, of_value, some_or_none, values_of}
+use Rattle.ext_one_report.specs.Shares.{SharesNothing}
 
 -- ---- one node
 
@@ -136,7 +135,7 @@ told_is_total results (one ∷ ran) once within none =
 
 -- Where more places are open, but no more are settled or filled
 pub fills_wider : (Filled : Spot → Type 0) (o wide later next : Open) (s : ValueState) (lanes plain : ℕ) → ((spot : Spot) → IsSettled o later spot → IsSettled wide next spot)
-    → ((spot : Spot) → IsSettled wide next spot → IsSettled o later spot) → ((spot : Spot) (v : ValueText) → wide spot.0 spot.1 ≡ Some v → Filled spot → (w : ValueText) × (o spot.0 spot.1 ≡ Some w))
+    → ((spot : Spot) → IsSettled wide next spot → IsSettled o later spot) → ((spot : Spot) (v : ValueText) → wide spot.0 spot.1 ≡ Some (of_value v) → Filled spot → (w : ValueText) × (o spot.0 spot.1 ≡ Some (of_value w)))
     → Fills Filled o later s lanes plain → Fills Filled wide next s lanes plain
 fills_wider Filled o wide later next s lanes plain there back among fills = record {
   mine = fills.mine;
@@ -156,12 +155,12 @@ fills_wider Filled o wide later next s lanes plain there back among fills = reco
 pub fills_counted : (Filled : Spot → Type 0) (o later : Open) (s : ValueState) (lanes plain more others : ℕ) → lanes ≡ more → plain ≡ others → Fills Filled o later s lanes plain → Fills Filled o later s more others
 fills_counted Filled o later s lanes plain more others one other fills = subst (λ n. Fills Filled o later s n others) one (subst (λ n. Fills Filled o later s lanes n) other fills)
 
--- where no place is open both have computed as many
-pub none_filled_apart : (Filled : Spot → Type 0) (o later : Open) (s : ValueState) (lanes plain : ℕ) → ((context : ℕ) (key : KeyValue) → o context key ≡ None) → Fills Filled o later s lanes plain → lanes ≡ plain
+-- where no value is open both have computed as many
+pub none_filled_apart : (Filled : Spot → Type 0) (o later : Open) (s : ValueState) (lanes plain : ℕ) → SharesNothing (values_of o) → Fills Filled o later s lanes plain → lanes ≡ plain
 none_filled_apart Filled o later s lanes plain none fills = by fills.mine fills.theirs (λ spot has. never spot (fills.mine_settled spot has)) (λ spot has. never spot (fills.theirs_settled spot has)) fills.balance
   where
     never : (spot : Spot) → IsSettled o later spot → ⊥
-    never spot is = let e : Some is.value ≡ None = sym is.was_open ∙ none spot.0 spot.1 in absurd (cc e)
+    never spot is = let e : Some is.value ≡ None = sym (ap (λ x. values_of (λ c k. x) spot.0 spot.1) is.was_open) ∙ none spot.0 spot.1 in absurd (cc e)
 
     by : (mine theirs : List Spot) → ((spot : Spot) → Contains mine spot → ⊥) → ((spot : Spot) → Contains theirs spot → ⊥) → lanes + length theirs ≡ plain + length mine → lanes ≡ plain
     by [] [] no_mine no_theirs balance = omega (arith, balance)

@@ -8,11 +8,10 @@ use Rattle.ext_history.proofs.Once.{Once, once-append}
 use Rattle.ext_tree.specs.Keys.{KeyValue}
 use Rattle.ext_plan.specs.Values.{ValueText}
 use Rattle.ext_plain.specs.ValueStates.{ValueState}
-use Rattle.ext_one_report.specs.Shares.{Open}
-use Rattle.ext_one_report.proofs.Fills.{Fills, FillsAs, FillsBeside, FillsNarrow, FillsNone, FillsOne, FillsThen, IsSettled, Spot}
+use Rattle.ext_one_report.proofs.Fills.{Fills, FillsAs, FillsBeside, FillsNarrow, FillsNone, FillsNoValue, FillsOne, FillsThen, IsSettled, Spot}
 use Rattle.ext_one_report.proofs.MatchingWords.{plain_slot}
 use Rattle.ext_one_report.proofs.OnCells.{passes, passes_not}
-use Rattle.ext_one_report.proofs.Open.{at_place, some_or_none, still_open}
+use Rattle.ext_one_report.proofs.Open.{Given, Open, at_place, of_value, some_or_none, still_open, values_of}
 use Rattle.ext_one_report.proofs.OpenFits.{at_itself, is_at_place}
 
 -- ---- lists in which nothing stands twice
@@ -164,9 +163,9 @@ listed here n Has (inr none) = record {
   back = λ it. absurd (none.1 it);
 }
 
-module _ (o : Open) (context : ℕ) (key : KeyValue) (v : ValueText) (is_open : o context key ≡ Some v) where
-  settles_itself : IsSettled o (still_open (at_place context key) o) (context, key)
-  settles_itself = record { value = v; was_open = is_open; closed = ap (λ b. if b then None else o context key) (at_itself context key) }
+module _ (o : Open) (context : ℕ) (key : KeyValue) where
+  settles_itself : (v : ValueText) → o context key ≡ Some (of_value v) → IsSettled o (still_open (at_place context key) o) (context, key)
+  settles_itself v is_open = record { value = v; was_open = is_open; closed = ap (λ b. if b then None else o context key) (at_itself context key) }
 
   settles_no_other : (spot : Spot) → IsSettled o (still_open (at_place context key) o) spot → spot ≡ (context, key)
   settles_no_other spot settled = elim (bools (at_place context key spot.0 spot.1)) [
@@ -191,39 +190,58 @@ fills_one Filled o s context key v lanes plain is_open in_lanes in_plain only =
       filled_mine = λ spot w is filled. let same = only spot w is filled in subst (Contains a.list) (sym same) (a.back (subst Filled same filled));
       theirs_settled = λ spot there. settled spot (b.inside spot there);
       theirs_none = b.has;
-      none_theirs = λ spot was empty. let same = settles_no_other o context key v is_open spot was in subst (Contains b.list) (sym same) (b.back (subst (λ (at : Spot). plain_slot s at.0 at.1 ≡ None) same empty));
+      none_theirs = λ spot was empty. let same = settles_no_other o context key spot was in subst (Contains b.list) (sym same) (b.back (subst (λ (at : Spot). plain_slot s at.0 at.1 ≡ None) same empty));
       balance = let p = a.size in let q = b.size in omega (arith, p, q);
     }
+
+pub fills_no_value : FillsNoValue
+fills_no_value Filled o s context key n no_value none = record {
+  mine = [];
+  theirs = [];
+  mine_once = tt;
+  theirs_once = tt;
+  mine_settled = λ spot there. absurd (contains_none spot there);
+  mine_filled = λ spot there. absurd (contains_none spot there);
+  filled_mine = λ spot v is filled. absurd (none spot v is filled);
+  theirs_settled = λ spot there. absurd (contains_none spot there);
+  theirs_none = λ spot there. absurd (contains_none spot there);
+  none_theirs = λ spot settled empty.
+      let same = settles_no_other o context key spot settled in
+      let is : o context key ≡ Some (of_value settled.value) = subst (λ (at : Spot). o at.0 at.1 ≡ Some (of_value settled.value)) same settled.was_open in
+      absurd (cc (sym no_value ∙ ap (λ x. values_of (λ c k. x) context key) is));
+  balance = refl;
+}
 
 -- ---- one part after another
 
 -- what was open is settled by now, or open still
-settled_or_open : (o later : Open) (spot : Spot) (v : ValueText) → o spot.0 spot.1 ≡ Some v → IsSettled o later spot ⊎ ((w : ValueText) × (later spot.0 spot.1 ≡ Some w))
-settled_or_open o later spot v is = elim (some_or_none (later spot.0 spot.1)) [
+settled_or_open : (o later : Open) (spot : Spot) (v : ValueText) → ((w : Given) → later spot.0 spot.1 ≡ Some w → o spot.0 spot.1 ≡ Some w) → o spot.0 spot.1 ≡ Some (of_value v)
+    → IsSettled o later spot ⊎ (later spot.0 spot.1 ≡ Some (of_value v))
+settled_or_open o later spot v within is = elim (some_or_none (later spot.0 spot.1)) [
   | inl none ↦ inl (record { value = v; was_open = is; closed = none })
-  | inr some ↦ inr some
+  | inr some ↦ let same : Some some.0 ≡ Some (of_value v) = sym (within some.0 some.1) ∙ is in inr (some.1 ∙ same)
 ]
 
 -- where fewer are open, none is open that was not
-none_of_fewer : (o fewer : Option ValueText) → ((v : ValueText) → fewer ≡ Some v → o ≡ Some v) → o ≡ None → fewer ≡ None
+none_of_fewer : (o fewer : Option Given) → ((v : Given) → fewer ≡ Some v → o ≡ Some v) → o ≡ None → fewer ≡ None
 none_of_fewer o None within none = refl
 none_of_fewer o (Some v) within none = absurd (cc (sym (within v refl) ∙ none))
 
-module _ (o mid last : Open) (first : (context : ℕ) (key : KeyValue) (v : ValueText) → mid context key ≡ Some v → o context key ≡ Some v)
-    (second : (context : ℕ) (key : KeyValue) (v : ValueText) → last context key ≡ Some v → mid context key ≡ Some v) where
+module _ (o mid last : Open) (first : (context : ℕ) (key : KeyValue) (v : Given) → mid context key ≡ Some v → o context key ≡ Some v)
+    (second : (context : ℕ) (key : KeyValue) (v : Given) → last context key ≡ Some v → mid context key ≡ Some v) where
   settled_early : (spot : Spot) → IsSettled o mid spot → IsSettled o last spot
   settled_early spot it = record { value = it.value; was_open = it.was_open; closed = none_of_fewer (mid spot.0 spot.1) (last spot.0 spot.1) (second spot.0 spot.1) it.closed }
 
   settled_late : (spot : Spot) → IsSettled mid last spot → IsSettled o last spot
-  settled_late spot it = record { value = it.value; was_open = first spot.0 spot.1 it.value it.was_open; closed = it.closed }
+  settled_late spot it = record { value = it.value; was_open = first spot.0 spot.1 (of_value it.value) it.was_open; closed = it.closed }
 
   settled_once : (spot : Spot) → IsSettled o mid spot → IsSettled mid last spot → ⊥
   settled_once spot one two = cc (sym two.was_open ∙ one.closed)
 
   settled_by : (spot : Spot) → IsSettled o last spot → IsSettled o mid spot ⊎ IsSettled mid last spot
-  settled_by spot it = elim (settled_or_open o mid spot it.value it.was_open) [
+  settled_by spot it = elim (settled_or_open o mid spot it.value (first spot.0 spot.1) it.was_open) [
     | inl early ↦ inl early
-    | inr open_still ↦ inr (record { value = open_still.0; was_open = open_still.1; closed = it.closed })
+    | inr open_still ↦ inr (record { value = it.value; was_open = open_still; closed = it.closed })
   ]
 
 pub fills_then : FillsThen
@@ -242,9 +260,9 @@ fills_then First Second Filled o mid last s t lanes plain more others first seco
   ];
   filled_mine = λ spot v is filled. elim (by_either spot v is filled) [
     | inl a ↦ Contains-append_left one.mine two.mine spot (one.filled_mine spot v is a)
-    | inr b ↦ elim (settled_or_open o mid spot v is) [
+    | inr b ↦ elim (settled_or_open o mid spot v (first spot.0 spot.1) is) [
       | inl early ↦ absurd (never spot early b)
-      | inr open_still ↦ Contains-append_right one.mine two.mine spot (two.filled_mine spot open_still.0 open_still.1 b)
+      | inr open_still ↦ Contains-append_right one.mine two.mine spot (two.filled_mine spot v open_still b)
     ]
   ];
   theirs_settled = λ spot there. elim (Contains-append_cases one.theirs two.theirs spot there) [
@@ -253,11 +271,11 @@ fills_then First Second Filled o mid last s t lanes plain more others first seco
   ];
   theirs_none = λ spot there. elim (Contains-append_cases one.theirs two.theirs spot there) [
     | inl a ↦ one.theirs_none spot a
-    | inr b ↦ let it = two.theirs_settled spot b in sym (same spot.0 spot.1 it.value it.was_open) ∙ two.theirs_none spot b
+    | inr b ↦ let it = two.theirs_settled spot b in sym (same spot.0 spot.1 (of_value it.value) it.was_open) ∙ two.theirs_none spot b
   ];
   none_theirs = λ spot it empty. elim (settled_by o mid last first second spot it) [
     | inl early ↦ Contains-append_left one.theirs two.theirs spot (one.none_theirs spot early empty)
-    | inr late ↦ Contains-append_right one.theirs two.theirs spot (two.none_theirs spot late (same spot.0 spot.1 late.value late.was_open ∙ empty))
+    | inr late ↦ Contains-append_right one.theirs two.theirs spot (two.none_theirs spot late (same spot.0 spot.1 (of_value late.value) late.was_open ∙ empty))
   ];
   balance =
       let p = one.balance in
@@ -296,16 +314,16 @@ fills_beside First Second Filled wide mid next own left s t lanes plain more oth
     | inl a ↦ one.theirs_none spot a
     | inr b ↦
         let it = two.theirs_settled spot b in
-        elim (settled_or_open wide mid spot it.value (own_is spot.0 spot.1 it.value it.was_open)) [
+        elim (settled_or_open wide mid spot it.value (first spot.0 spot.1) (own_is spot.0 spot.1 (of_value it.value) it.was_open)) [
           | inl before ↦ absurd (stands spot before (two.theirs_none spot b))
-          | inr open_still ↦ sym (same spot.0 spot.1 open_still.0 open_still.1) ∙ two.theirs_none spot b
+          | inr open_still ↦ sym (same spot.0 spot.1 (of_value it.value) open_still) ∙ two.theirs_none spot b
         ]
   ];
   none_theirs = λ spot it empty. elim (by_either spot it) [
     | inl a ↦ Contains-append_left one.theirs two.theirs spot (one.none_theirs spot a empty)
-    | inr b ↦ elim (settled_or_open wide mid spot b.value (own_is spot.0 spot.1 b.value b.was_open)) [
+    | inr b ↦ elim (settled_or_open wide mid spot b.value (first spot.0 spot.1) (own_is spot.0 spot.1 (of_value b.value) b.was_open)) [
       | inl before ↦ Contains-append_left one.theirs two.theirs spot (one.none_theirs spot before empty)
-      | inr open_still ↦ Contains-append_right one.theirs two.theirs spot (two.none_theirs spot b (same spot.0 spot.1 open_still.0 open_still.1 ∙ empty))
+      | inr open_still ↦ Contains-append_right one.theirs two.theirs spot (two.none_theirs spot b (same spot.0 spot.1 (of_value b.value) open_still ∙ empty))
     ]
   ];
   balance =
@@ -331,22 +349,24 @@ its o list = filter (is_open_at o) list
 abbrev others : Open → List Spot → List Spot
 others o list = filter (not_open_at o) list
 
-value_there : (o : Option ValueText) → is_some o ≡ true → (v : ValueText) × (o ≡ Some v)
+value_there : (o : Option Given) → is_some o ≡ true → (v : Given) × (o ≡ Some v)
 value_there None is = absurd (cc is)
 value_there (Some v) is = (v, refl)
 
-no_value : (o : Option ValueText) → not (is_some o) ≡ true → o ≡ None
+no_value : (o : Option Given) → not (is_some o) ≡ true → o ≡ None
 no_value None is = refl
 no_value (Some v) is = absurd (cc is)
 
-module _ (Filled : Spot → Type 0) (wide left o later : Open) (s : ValueState) (lanes plain : ℕ) (back : (spot : Spot) (v : ValueText) → o spot.0 spot.1 ≡ Some v → IsSettled wide left spot → IsSettled o later spot)
+module _ (Filled : Spot → Type 0) (wide left o later : Open) (s : ValueState) (lanes plain : ℕ) (same : (context : ℕ) (key : KeyValue) (v w : Given) → o context key ≡ Some v → wide context key ≡ Some w → v ≡ w)
+    (back : (spot : Spot) (v : ValueText) → o spot.0 spot.1 ≡ Some (of_value v) → IsSettled wide left spot → IsSettled o later spot)
     (rest : (spot : Spot) → IsSettled wide left spot → o spot.0 spot.1 ≡ None → (plain_slot s spot.0 spot.1 ≡ None) × Filled spot) (fills : Fills Filled wide left s lanes plain) where
   settles_its : (list : List Spot) → ((spot : Spot) → Contains list spot → IsSettled wide left spot) → (spot : Spot) → Contains (its o list) spot → IsSettled o later spot
   settles_its list settled spot there =
       let it = value_there (o spot.0 spot.1) (has_passed (is_open_at o) list spot there) in
-      back spot it.0 it.1 (settled spot (contains_from_filter (is_open_at o) list spot there))
+      let now = settled spot (contains_from_filter (is_open_at o) list spot there) in
+      back spot now.value (it.1 ∙ ap (λ v. Some v) (same spot.0 spot.1 it.0 (of_value now.value) it.1 now.was_open)) now
 
-  in_its : (list : List Spot) (spot : Spot) (v : ValueText) → o spot.0 spot.1 ≡ Some v → Contains list spot → Contains (its o list) spot
+  in_its : (list : List Spot) (spot : Spot) (v : Given) → o spot.0 spot.1 ≡ Some v → Contains list spot → Contains (its o list) spot
   in_its list spot v is there = contains_filter (is_open_at o) list spot (ap is_some is) there
 
   -- of the others as many were filled in both
@@ -364,23 +384,23 @@ module _ (Filled : Spot → Type 0) (wide left o later : Open) (s : ValueState) 
   still_balanced : lanes + length (its o fills.theirs) ≡ plain + length (its o fills.mine)
   still_balanced =
       let both = fills.balance in
-      let same = same_others in
+      let many = same_others in
       let a = length-filter_both (is_open_at o) (not_open_at o) (λ spot. refl) fills.mine in
       let b = length-filter_both (is_open_at o) (not_open_at o) (λ spot. refl) fills.theirs in
-      omega (arith, both, same, a, b)
+      omega (arith, both, many, a, b)
 
 pub fills_narrow : FillsNarrow
-fills_narrow Filled wide left o later s lanes plain within into back rest fills =
+fills_narrow Filled wide left o later s lanes plain same within into back rest fills =
     record {
       mine = its o fills.mine;
       theirs = its o fills.theirs;
       mine_once = once_filter (is_open_at o) fills.mine fills.mine_once;
       theirs_once = once_filter (is_open_at o) fills.theirs fills.theirs_once;
-      mine_settled = settles_its Filled wide left o later s lanes plain back rest fills fills.mine fills.mine_settled;
+      mine_settled = settles_its Filled wide left o later s lanes plain same back rest fills fills.mine fills.mine_settled;
       mine_filled = λ spot there. fills.mine_filled spot (contains_from_filter (is_open_at o) fills.mine spot there);
-      filled_mine = λ spot v is filled. in_its Filled wide left o later s lanes plain back rest fills fills.mine spot v is (fills.filled_mine spot v (within spot.0 spot.1 v is filled) filled);
-      theirs_settled = settles_its Filled wide left o later s lanes plain back rest fills fills.theirs fills.theirs_settled;
+      filled_mine = λ spot v is filled. in_its Filled wide left o later s lanes plain same back rest fills fills.mine spot (of_value v) is (fills.filled_mine spot v (within spot.0 spot.1 v is filled) filled);
+      theirs_settled = settles_its Filled wide left o later s lanes plain same back rest fills fills.theirs fills.theirs_settled;
       theirs_none = λ spot there. fills.theirs_none spot (contains_from_filter (is_open_at o) fills.theirs spot there);
-      none_theirs = λ spot it empty. in_its Filled wide left o later s lanes plain back rest fills fills.theirs spot it.value it.was_open (fills.none_theirs spot (into spot it) empty);
-      balance = still_balanced Filled wide left o later s lanes plain back rest fills;
+      none_theirs = λ spot it empty. in_its Filled wide left o later s lanes plain same back rest fills fills.theirs spot (of_value it.value) it.was_open (fills.none_theirs spot (into spot it) empty);
+      balance = still_balanced Filled wide left o later s lanes plain same back rest fills;
     }

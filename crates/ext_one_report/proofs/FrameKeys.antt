@@ -2,7 +2,7 @@
 use Rattle.std.proofs.Common.{◌≡◌, ◌<◌, ℕ, zero, suc, true, List, [], length, All, IfSome, Contains, refl, sym, subst}
 use Rattle.std.proofs.lemmas.List.Elements.{All-contains}
 use Rattle.ext_model.specs.declared.event.Act.TheVariants.{Seal}
-use Rattle.ext_model.specs.Sizes.{most_numbers}
+use Rattle.ext_one_report.proofs.Numbers.{enough_numbers}
 use Rattle.ext_tree.specs.Keys.{KeyValue}
 use Rattle.ext_tree.specs.Trees.{IsPathOf}
 use Rattle.ext_lifecycle.specs.declared.call.Call.{Call}
@@ -67,8 +67,8 @@ module _ (names : List KeyValue) (numbers : ℕ) where
   }
 
 pub nodes_give_few : (plan : PlanText) (levels node : ℕ) (path : List ℕ) (r : RunState) → NodesAreTree plan → IsPathOf (ids_of_nodes plan.nodes) node path
-    → GaveFew (keys_named plan) (most_numbers plan.size) r.state → GaveFew (keys_named plan) (most_numbers plan.size) (node_run plan levels path r).state
+    → GaveFew (keys_named plan) (enough_numbers plan.size) r.state → GaveFew (keys_named plan) (enough_numbers plan.size) (node_run plan levels path r).state
 nodes_give_few plan levels node path r tree is few =
     let names = keys_named plan in
-    let numbers = most_numbers plan.size in
+    let numbers = enough_numbers plan.size in
     nodes_keep plan (Any names numbers) (GaveFew names numbers) (few_keep names numbers plan tree refl) tree levels node path r tt is few

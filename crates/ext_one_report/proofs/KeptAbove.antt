@@ -1,5 +1,6 @@
 -- In a plain run what the callbacks before all children of a container computed stands there or above, from their end on, if no step of the plan removes the key.
 -- Javadoc `ExtensionContext.Store`, `getOrComputeIfAbsent`; what a plain run is stands in [ext_plain PlainRun].
+use Rattle.ext_one_report.proofs.Open.{Given, Open}
 use Rattle.std.proofs.Common.{◌≡◌, ◌<◌, ◌⊎◌, ℕ, inl, inr, Bool, true, false, true≢false, List, [], ◌∷◌, drop, length, Option, None, Some, is_some, refl, ap, sym, subst, ◌∙◌}
 use Rattle.std.specs.Prelude.{Contains, if◌then◌else◌}
 use Rattle.std.specs.List.{flat_map}
@@ -15,7 +16,6 @@ use Rattle.ext_lifecycle.specs.Endings.{all_successful, is_successful}
 use Rattle.ext_plan.specs.Plans.{PlanText, StepText}
 use Rattle.ext_plan.specs.PlanCalls.{registered, steps_of_call, test_of}
 use Rattle.ext_plan.specs.ReadPlans.{IsReadPlan, NodesAreTree, ids_of_nodes}
-use Rattle.ext_plan.specs.Values.{ValueText}
 use Rattle.ext_races.specs.Acts.{act_of}
 use Rattle.ext_races.specs.MadeSteps.{MadeText, calls_before, calls_of, made_by, plan_path, steps_before, steps_made}
 use Rattle.ext_races.specs.Touches.{is_removed, removes_key}
@@ -26,7 +26,6 @@ use Rattle.ext_plain.specs.ContextEnds.{seal_keys}
 use Rattle.ext_plain.specs.StepRuns.{StepEnd}
 use Rattle.ext_plain.specs.NodeCalls.{CallsEnd, befores_run, call_run, make, make_befores, make_if_successful, no_calls}
 use Rattle.ext_plain.specs.PlainRun.{RunState, node_run}
-use Rattle.ext_one_report.specs.Shares.{Open}
 use Rattle.ext_one_report.proofs.CallLists.{if_made, stays, successful_more}
 use Rattle.ext_one_report.proofs.ComputedAbove.{ComputesAt, IsClosedAbove, IsComputedIn, all_clear}
 use Rattle.ext_one_report.proofs.CoveredTouches.{is_made}
@@ -98,12 +97,12 @@ module _ (plan : PlanText) (node : ℕ) (key : KeyValue) (kept : is_removed plan
 
 -- ---- what is so above
 
-none_later : (x y : Option ValueText) → ((v : ValueText) → x ≡ Some v → y ≡ Some v) → y ≡ None → x ≡ None
+none_later : (x y : Option Given) → ((v : Given) → x ≡ Some v → y ≡ Some v) → y ≡ None → x ≡ None
 none_later None y fewer none = refl
 none_later (Some v) y fewer none = absurd (cc (sym none ∙ fewer v refl))
 
 -- fewer places are open
-pub fewer_closed : (plan : PlanText) (nodes : List ℕ) (o later : Open) (s : ValueState) → ((context : ℕ) (key : KeyValue) (v : ValueText) → later context key ≡ Some v → o context key ≡ Some v) → IsClosedAbove plan nodes o s
+pub fewer_closed : (plan : PlanText) (nodes : List ℕ) (o later : Open) (s : ValueState) → ((context : ℕ) (key : KeyValue) (v : Given) → later context key ≡ Some v → o context key ≡ Some v) → IsClosedAbove plan nodes o s
     → IsClosedAbove plan nodes later s
 fewer_closed plan nodes o later s fewer closed = record {
   none = λ context key computed. none_later (later context key) (o context key) (fewer context key) (closed.none context key computed);
@@ -171,7 +170,7 @@ above_or_own plan node (first ∷ above) is n among = elim (contains_cons first 
 
 -- what they computed and what was computed above stands there or above
 pub body_closed : (plan : PlanText) → IsReadPlan plan → (node : ℕ) (path : List ℕ) → IsPathOf (ids_of_nodes plan.nodes) node path → is_some (test_of plan node) ≡ false
-    → (o later : Open) (s : ValueState) → IsClosedAbove plan (drop 1 (plan_path plan node)) o s → ((context : ℕ) (key : KeyValue) (v : ValueText) → later context key ≡ Some v → o context key ≡ Some v)
+    → (o later : Open) (s : ValueState) → IsClosedAbove plan (drop 1 (plan_path plan node)) o s → ((context : ℕ) (key : KeyValue) (v : Given) → later context key ≡ Some v → o context key ≡ Some v)
     → ((context : ℕ) (key : KeyValue) → IsComputedIn plan (node ∷ []) context key → later context key ≡ None)
     → all_successful (befores_run plan false node path s).calls ≡ true
     → IsClosedAbove plan path later (befores_run plan false node path s).state

@@ -12,7 +12,6 @@ use Rattle.ext_model.specs.History.{History, lane_of}
 use Rattle.ext_tree.specs.Keys.{KeyValue}
 use Rattle.ext_plan.specs.Plans.{PlanText}
 use Rattle.ext_plan.specs.PlanCalls.{steps_of_call}
-use Rattle.ext_plan.specs.Values.{ValueText}
 use Rattle.ext_engine.specs.Meeting.{HasSeenWithin, first_seen}
 use Rattle.ext_engine.specs.Order.{AllGoOn, CallsGoOn, IsMadeIn}
 use Rattle.ext_engine.proofs.Acts.{Acts, heads_go, same_made, shorter}
@@ -24,8 +23,7 @@ use Rattle.ext_parallel.specs.StoreCalls.{PlanLane}
 use Rattle.ext_one_report.proofs.MatchingWords.{HasNumberIn, Places, RunView, cell_of}
 use Rattle.ext_one_report.proofs.StepsWords.{IsAlone, IsLaneIn}
 use Rattle.ext_one_report.proofs.Calls.{lane_before, steps_go}
-use Rattle.ext_one_report.proofs.Open.{Computes, OnlyComputed}
-use Rattle.ext_one_report.specs.Shares.{Open}
+use Rattle.ext_one_report.proofs.Open.{Computes, Given, OnlyComputed, Open}
 use Rattle.ext_one_report.proofs.FullRuns.{CallsInView}
 use Rattle.ext_one_report.proofs.SharedNodesWords.{AreComputed, AreOwn}
 
@@ -116,9 +114,9 @@ pub is_on_place : (cell : ℕ) (act : Act ℕ) → place_of act ≡ Some cell �
 is_on_place cell act is = ap (λ o. is_at nat_eq cell o) is ∙ eq-eqb cell cell refl
 
 module _ (run : RunView) (h : History) where
-  -- what comes at open places computes their values
+  -- what comes at open places computes what is left there
   pub computed_more : (open_at : Open) (xs ys : List PlanLane) (more : History) → IsPrefix (first_seen ys) h → first_seen ys ≡ first_seen xs ++ more → AreComputed run h open_at xs ys
-      → (context : ℕ) (key : KeyValue) (number : ℕ) (v : ValueText) → open_at context key ≡ Some v → HasNumberIn run key number
+      → (context : ℕ) (key : KeyValue) (number : ℕ) (v : Given) → open_at context key ≡ Some v → HasNumberIn run key number
       → (e : Event ℕ) → Contains more e → is_on nat_eq (cell_of run number context) e.act ≡ true → Computes run v e.act
   computed_more open_at xs ys more within is computed context key number v opened has e there on =
       let come = has_come h xs ys more within is e there in
@@ -139,7 +137,7 @@ module _ (run : RunView) (h : History) where
           ];
     }
 
-    -- and is shown at open places only that their values are computed
+    -- and is shown at open places only what computes there
     pub first_is_shown : (open_at : Open) → AreComputed run h open_at (a ∷ rest) (b ∷ rest) → OnlyComputed run open_at a.cells.view b.cells.view
     first_is_shown open_at computed = record {
       each = λ more is context key number v opened has e there on. computed_more open_at (a ∷ rest) (b ∷ rest) more within is computed context key number v opened has e there on;

@@ -2,7 +2,7 @@
 -- JUnit 5 User Guide, "Relative Execution Order of User Code and Extensions" and "Parallel Execution".
 use Rattle.std.specs.Prelude.{◌≡◌, ℕ, ◌<◌, ◌&&◌, ◌==◌, not, [], length, Some}
 use Rattle.ext_model.specs.History.{History, state_after}
-use Rattle.ext_model.specs.Sizes.{most_numbers}
+use Rattle.ext_one_report.proofs.Numbers.{enough_numbers}
 use Rattle.ext_tree.specs.Keys.{KeyValue}
 use Rattle.ext_plan.specs.Plans.{PlanText}
 use Rattle.ext_races.specs.Touches.{keys_named}
@@ -30,7 +30,7 @@ pub record AreLevel (plan : PlanText) (run : RunView) (places : Places) (h : His
   pub numbered : IsNumbered places s
   pub memory : s.memory ≡ []
   pub keeps : run.store.id.cells.limits.keep_faults ≡ s.keep_faults
-  pub gave : GaveFew (keys_named plan) (most_numbers plan.size) s
+  pub gave : GaveFew (keys_named plan) (enough_numbers plan.size) s
   pub of_plan : IsOfPlan plan s
 
 -- ---- after a node

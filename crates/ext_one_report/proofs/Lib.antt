@@ -36,6 +36,7 @@ pub mod CoveredPlans
 pub mod CoveredTouches
 pub mod Covers
 pub mod Dealt
+pub mod EndedClaims
 pub mod Events
 pub mod FailClaimed
 pub mod FailComputes
@@ -62,6 +63,8 @@ pub mod Levels
 pub mod Made
 pub mod Matching
 pub mod MatchingWords
+pub mod MoreNumbers
+pub mod MoreNumbersSteps
 pub mod Near
 pub mod NodeCalls
 pub mod NodePlaces
@@ -71,6 +74,7 @@ pub mod NodeTold
 pub mod NodeTrees
 pub mod NodesAlone
 pub mod Numbered
+pub mod Numbers
 pub mod OfPlan
 pub mod OfPlanCalls
 pub mod OfPlanEnds
@@ -84,6 +88,7 @@ pub mod Open
 pub mod OpenCallLists
 pub mod OpenCalls
 pub mod OpenEnds
+pub mod OpenFails
 pub mod OpenFills
 pub mod OpenFits
 pub mod OpenGoing
@@ -118,6 +123,7 @@ pub mod SharedCalls
 pub mod SharedClosesOpen
 pub mod SharedEvents
 pub mod SharedEventsActs
+pub mod SharedEventsClaims
 pub mod SharedEventsFrozen
 pub mod SharedEventsSeen
 pub mod SharedEventsWords
@@ -162,7 +168,6 @@ pub mod StoreCells
 pub mod Stored
 pub mod StoredRuns
 pub mod StoredWords
-pub mod TestCalls
 pub mod TestCallsWords
 pub mod TestRooms
 pub mod ToldLacks

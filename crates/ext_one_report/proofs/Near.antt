@@ -1,4 +1,5 @@
 -- Each run that lacks nothing, of a plan whose nodes may compute the same beside one another, tells near what the plain run does; and exactly that where they keep apart.
+use Rattle.ext_one_report.proofs.Open.{Open, values_of}
 use Rattle.std.proofs.Common.{◌≡◌, inl, inr, ◌⊎◌, ℕ, ◌<◌, true, List, [], ◌∷◌, length, drop, get_or, map, Some, None, refl, ap, sym, subst, ◌∙◌, arith, zero-add}
 use Rattle.std.specs.Prelude.{Contains, is_some, option_map, slice_get}
 use Rattle.std.specs.List.{sum_by}
@@ -7,6 +8,7 @@ use Rattle.std.proofs.lemmas.Option.{slice_get-get_or, slice_get-map, slice_get_
 use Rattle.ext_history.proofs.Lists.{contains_here, contains_later, contains_none}
 use Rattle.ext_history.proofs.Once.{Once, contains-from_map}
 use Rattle.ext_model.specs.declared.look.Fault.{Fault}
+use Rattle.ext_model.specs.History.{Limits}
 use Rattle.ext_lifecycle.specs.FaultTexts.{NodeOutcome, fault_text}
 use Rattle.ext_lifecycle.specs.Results.{ResultOf, skipped_result, with_fault_told}
 use Rattle.ext_plan.specs.Plans.{NodeText, PlanText}
@@ -18,13 +20,13 @@ use Rattle.ext_engine.specs.Suites.{SuiteView}
 use Rattle.ext_engine.specs.TreeRun.{Ran}
 use Rattle.ext_parallel.specs.ParallelRun.{ParallelRun}
 use Rattle.ext_parallel.specs.PlanSuites.{suite_of}
-use Rattle.ext_plain.specs.PlainRun.{node_run, plain_run, run_opening, skipped_from}
+use Rattle.ext_plain.specs.PlainRun.{plain_run, skipped_from}
 use Rattle.ext_one_report.proofs.Runs.{run_lanes}
 use Rattle.ext_one_report.proofs.MatchingWords.{RunView}
 use Rattle.ext_one_report.proofs.Covered.{changed_in, touched_in}
 use Rattle.ext_one_report.proofs.CoveredPlans.{plans_are_covered}
-use Rattle.ext_one_report.specs.Shares.{Open, SharesNothing, shares_in, AreToldNear}
-use Rattle.ext_one_report.proofs.Shared.{AreShared}
+use Rattle.ext_one_report.specs.Shares.{SharedValues, SharesNothing, shares_in, AreToldNear}
+use Rattle.ext_one_report.proofs.Shared.{AreShared, given_in}
 use Rattle.ext_one_report.specs.FullRuns.{LacksNothing}
 use Rattle.ext_one_report.proofs.Fills.{computed_at, computed_of, computed_told}
 use Rattle.ext_one_report.proofs.FillsCounts.{computed_is, none_filled_apart, of_first, told_first, told_is_total}
@@ -33,13 +35,14 @@ use Rattle.ext_one_report.specs.OneReport.{AreNearReports, NearReport, OneReport
 use Rattle.ext_races.specs.MadeSteps.{plan_path}
 use Rattle.ext_races.specs.OneReports.{HasNearReport}
 use Rattle.ext_one_report.proofs.SharedNodesWords.{AllToldNear, BeginsNear, EndsNear, IsSharedBasis}
-use Rattle.ext_one_report.proofs.Bases.{at_places, changed, holds_once, its, numbers_left, only, opens_level}
+use Rattle.ext_one_report.proofs.Bases.{at_places, changed, enough_results, holds_once, its, numbers_left, only, opens_level}
 use Rattle.ext_one_report.proofs.ComputedAbove.{IsClosedAbove}
 use Rattle.ext_one_report.proofs.LanesAlone.{view_moves}
 use Rattle.ext_one_report.proofs.NodeTrees.{its_path}
+use Rattle.ext_one_report.proofs.Numbers.{enough_end, enough_opening}
 use Rattle.ext_one_report.proofs.Results.{length_results, length_skipped, same_by_places, skipped_at, stands_or_not}
 use Rattle.ext_one_report.proofs.Whole.{each_once, is_view, lanes_apart, lanes_in, one_each, run_in_view}
-use Rattle.ext_one_report.proofs.SharedApart.{apart_shares_nothing, apart_shares_values}
+use Rattle.ext_one_report.proofs.SharedApart.{apart_shares_nothing, apart_shares_values, values_are_shared}
 use Rattle.ext_one_report.proofs.SharedNodesEnds.{nodes_end_near}
 use Rattle.ext_one_report.proofs.SharedPlans.{plans_are_shared}
 
@@ -50,11 +53,11 @@ none_open context key = None
 module _ (nodes : List NodeText) (suite : SuiteView) (ran : List Ran) (results : List (ResultOf Fault)) (after : List NodeOutcome)
     (tests : (node : ℕ) → suite.is_test node ≡ is_some (test_in (slice_get nodes node))) (one : IsOneEach suite (λ node. ⊥) (length nodes) ran results) (shares : ℕ → Open)
     (told : AllToldNear shares ran (skipped_from 0 nodes) after) (once : Once (nodes_of ran)) (as_many : computed_of ran ≡ computed_told ran after) where
-  itself : (shared : Open) (a b : NodeOutcome) → a ≡ b → AreToldNear shared a b
+  itself : (shared : SharedValues) (a b : NodeOutcome) → a ≡ b → AreToldNear shared a b
   itself shared a b same = subst (λ x. AreToldNear shared a x) same (record { same = refl; counts = refl; exact = λ nothing. refl })
 
   at : (k : ℕ) (here there : NodeOutcome) → k < length nodes → HasRun ran k ⊎ (¬ HasRun ran k) → option_map (with_fault_told fault_text) (slice_get results k) ≡ Some here → slice_get after k ≡ Some there
-      → AreToldNear (shares k) here there
+      → AreToldNear (values_of (shares k)) here there
   at k here there within (inl has) is is' =
       let r = contains-from_map (λ (x : Ran). x.result.node) ran k has in
       let t = told.each r.0 r.1 in
@@ -62,13 +65,13 @@ module _ (nodes : List NodeText) (suite : SuiteView) (ran : List Ran) (results :
       let theirs : Some t.0 ≡ Some there = sym (ap (λ n. slice_get after n) (sym r.2) ∙ t.1) ∙ is' in
       let here_is : with_fault_told fault_text r.0.result ≡ here = cc mine in
       let there_is : t.0 ≡ there = cc theirs in
-      subst (λ n. AreToldNear (shares n) here there) r.2
-      (subst (λ x. AreToldNear (shares r.0.result.node) x there) here_is (subst (λ x. AreToldNear (shares r.0.result.node) (with_fault_told fault_text r.0.result) x) there_is t.2))
+      subst (λ n. AreToldNear (values_of (shares n)) here there) r.2
+      (subst (λ x. AreToldNear (values_of (shares r.0.result.node)) x there) here_is (subst (λ x. AreToldNear (values_of (shares r.0.result.node)) (with_fault_told fault_text r.0.result) x) there_is t.2))
   at k here there within (inr none) is is' =
       let mine : Some (skipped_result k (is_some (test_in (slice_get nodes k)))) ≡ Some here = sym (ap (λ o. option_map (with_fault_told fault_text) o) (one.of_skipped k within none) ∙ ap (λ b. Some (skipped_result k b)) (tests k)) ∙ is in
       let theirs : Some (skipped_result k (is_some (test_in (slice_get nodes k)))) ≡ Some there =
       sym (told.others k none ∙ skipped_at nodes 0 k within ∙ ap (λ n. Some (skipped_result n (is_some (test_in (slice_get nodes k))))) (zero-add k)) ∙ is' in
-      itself (shares k) here there (cc (sym mine ∙ theirs))
+      itself (values_of (shares k)) here there (cc (sym mine ∙ theirs))
 
   -- ---- how many values all nodes computed
 
@@ -111,7 +114,7 @@ module _ (nodes : List NodeText) (suite : SuiteView) (ran : List Ran) (results :
       told.others k none ∙ skipped_at nodes 0 k (omega (arith, less, count)) ∙ ap (λ n. Some (skipped_result n (is_some (test_in (slice_get nodes k))))) (zero-add k) in
       computed_is after k (skipped_result k (is_some (test_in (slice_get nodes k)))) skipped))))
 
-  pub near_reports : AreNearReports shares (map (with_fault_told fault_text) results) after
+  pub near_reports : AreNearReports (λ node. values_of (shares node)) (map (with_fault_told fault_text) results) after
   near_reports = record {
     count = length-map results (with_fault_told fault_text) ∙ length_results nodes suite ran results one ∙ sym told.count;
     computed = totals;
@@ -143,9 +146,10 @@ module _ (plan : PlanText) (lanes : ℕ) (results : List (ResultOf Fault)) (read
     at_places = λ node context number key named within below. at_places plan lanes results read run full node context number key named below;
     once = holds_once plan lanes results read run full;
     legal = run.shared.legal;
+    keeps = ap (λ (l : Limits). l.keep_faults) run.store_is.limits;
   }
 
-  begins : BeginsNear plan mine run.locks run.shared.history (touched_in plan) (changed_in plan) cells_changed shares 0 none_open run.first run.after (run_opening [] plan)
+  begins : BeginsNear plan mine run.locks run.shared.history (touched_in plan) (changed_in plan) cells_changed shares 0 none_open run.first run.after (enough_opening plan)
   begins =
       let all = run_lanes plan lanes results run in
       let theirs = (whole_alone (setting_in plan mine run.locks) (view_moves plan mine) 16 0 run.first run.ran run.after (run_in_view plan lanes results run full) run.shared.history all).0 in
@@ -169,25 +173,27 @@ module _ (plan : PlanText) (lanes : ℕ) (results : List (ResultOf Fault)) (read
       }
     where
       -- no node is above the root
-      none_above : IsClosedAbove plan (drop 1 (plan_path plan 0)) none_open (run_opening [] plan).state
+      none_above : IsClosedAbove plan (drop 1 (plan_path plan 0)) none_open (enough_opening plan).state
       none_above =
-          let nothing : IsClosedAbove plan [] none_open (run_opening [] plan).state = record {
+          let nothing : IsClosedAbove plan [] none_open (enough_opening plan).state = record {
             none = λ context key computed. refl;
             stands = λ context key computed. let there = computed.among in absurd (contains_none computed.node there);
           } in
-          subst (λ l. IsClosedAbove plan l none_open (run_opening [] plan).state) (ap (λ l. drop 1 l) (its_path plan read.runnable.tree 0 (0 ∷ []) (refl, refl))) nothing
+          subst (λ l. IsClosedAbove plan l none_open (enough_opening plan).state) (ap (λ l. drop 1 l) (its_path plan read.runnable.tree 0 (0 ∷ []) (refl, refl))) nothing
 
-  ends : EndsNear plan mine run.locks run.shared.history (touched_in plan) (changed_in plan) cells_changed shares 0 none_open run.first run.ran run.after (run_opening [] plan) (node_run plan (length plan.nodes) (0 ∷ []) (run_opening [] plan))
+  ends : EndsNear plan mine run.locks run.shared.history (touched_in plan) (changed_in plan) cells_changed shares 0 none_open run.first run.ran run.after (enough_opening plan) (enough_end plan)
   ends =
-      nodes_end_near plan mine run.locks run.shared.history (touched_in plan) (changed_in plan) cells_changed shares 16 (length plan.nodes) 0 (0 ∷ []) none_open run.first run.ran run.after (run_opening [] plan) basis (refl, refl)
+      nodes_end_near plan mine run.locks run.shared.history (touched_in plan) (changed_in plan) cells_changed shares 16 (length plan.nodes) 0 (0 ∷ []) none_open run.first run.ran run.after (enough_opening plan) basis (refl, refl)
       (omega arith) (run_in_view plan lanes results run full) begins (numbers_left plan lanes results read run full has.numbers)
 
-  pub told_near : AreNearReports shares (map (with_fault_told fault_text) results) (plain_run plan)
-  told_near = near_reports plan.nodes (suite_of plan) run.ran results (plain_run plan) (λ node. refl) (one_each plan lanes results run full read) shares ends.told
-      (each_once plan lanes results run full read) (none_filled_apart _ none_open _ _ _ _ (λ context key. refl) ends.fills)
+  pub told_near : AreNearReports (λ node. values_of (shares node)) (map (with_fault_told fault_text) results) (plain_run plan)
+  told_near =
+      subst (AreNearReports (λ node. values_of (shares node)) (map (with_fault_told fault_text) results)) (enough_results plan lanes results read run full has.numbers)
+      (near_reports plan.nodes (suite_of plan) run.ran results (enough_end plan).results (λ node. refl) (one_each plan lanes results run full read) shares ends.told
+      (each_once plan lanes results run full read) (none_filled_apart _ none_open _ _ _ _ (λ context key. refl) ends.fills))
 
 -- reports that are near are the same where no node shares a value
-pub same_reports : (shares : ℕ → Open) (here there : List NodeOutcome) → ((node : ℕ) → SharesNothing (shares node)) → AreNearReports shares here there → here ≡ there
+pub same_reports : (shares : ℕ → SharedValues) (here there : List NodeOutcome) → ((node : ℕ) → SharesNothing (shares node)) → AreNearReports shares here there → here ≡ there
 same_reports shares here there nothing near = same_by_places here there near.count same
   where
     same : (k : ℕ) → k < length here → slice_get here k ≡ slice_get there k
@@ -202,7 +208,8 @@ same_reports shares here there nothing near = same_by_places here there near.cou
 
 pub near_report : NearReport
 near_report plan lanes results read has run full =
-    told_near plan lanes results read has run full (shares_in plan) (plans_are_shared plan (its plan lanes results read run full) read has.alike run.store_is.tree)
+    subst (λ (shares : ℕ → SharedValues). AreNearReports shares (map (with_fault_told fault_text) results) (plain_run plan)) (λ i node. values_are_shared plan node i)
+    (told_near plan lanes results read has run full (given_in plan) (plans_are_shared plan (its plan lanes results read run full) read has.alike run.store_is.tree))
 
 -- So plans whose nodes keep apart have one report, as those whose nodes share values have near ones: no node of them shares a value
 pub one_report : OneReport

@@ -4,13 +4,11 @@ use Rattle.std.specs.Prelude.{All, Contains}
 use Rattle.std.proofs.lemmas.List.Elements.{Contains-get_or}
 use Rattle.ext_history.proofs.Lists.{contains_here, contains_later}
 use Rattle.ext_tree.specs.Keys.{KeyValue}
-use Rattle.ext_lifecycle.specs.declared.call.Call.{Call}
-use Rattle.ext_plan.specs.Plans.{KeyText, PlanText, StepKeyText, StepText, keyed, fail, abort}
+use Rattle.ext_plan.specs.Plans.{KeyText, StepKeyText, StepText, keyed, fail, abort}
 use Rattle.ext_plan.specs.StepCalls.{start_of}
 use Rattle.ext_plan.specs.Steps.{height}
 use Rattle.ext_plan.specs.StepWords.{looks_along}
 use Rattle.ext_plan.specs.StoreKeys.{key_of_step}
-use Rattle.ext_one_report.proofs.CallListsWords.{CallFits}
 use Rattle.ext_one_report.proofs.CallsWords.{StepWithin}
 use Rattle.ext_one_report.proofs.MatchingWords.{Places}
 use Rattle.ext_one_report.proofs.StepsWords.{TouchesWithin}
@@ -37,8 +35,3 @@ module _ (keys : List KeyText) (path : List ℕ) (places more : Places) (each : 
   step_more (keyed word key text up) less is = touches_more (looks_along word) key up less is
   step_more (fail text) less is = tt
   step_more (abort text) less is = tt
-
--- a call that fits some places fits others, where these have all of them that are in a context of the path
-pub fits_more : (plan : PlanText) (path : List ℕ) (places more : Places) (call : Call) → ((context : ℕ) (key : KeyValue) → Contains path context → places context key ≡ true → more context key ≡ true)
-    → CallFits plan path places call → CallFits plan path more call
-fits_more plan path places more call each fits = (fits.0, (λ k d within. step_more plan.keys path places more each _ (fits.0 k d within) (fits.1 k d within)))

@@ -2,7 +2,7 @@
 use Rattle.std.proofs.Common.{◌≡◌, ℕ, fold, List, [], ◌∷◌, length, ◌∙◌}
 use Rattle.std.specs.Prelude.{All}
 use Rattle.std.proofs.lemmas.List.Elements.{All-head, All-tail}
-use Rattle.ext_model.specs.Sizes.{most_numbers}
+use Rattle.ext_one_report.proofs.Numbers.{enough_numbers}
 use Rattle.ext_tree.specs.Trees.{IsParentOf, IsPathOf}
 use Rattle.ext_plan.specs.Plans.{PlanText}
 use Rattle.ext_plan.specs.ReadPlans.{IsReadPlan, ids_of_nodes}
@@ -30,7 +30,7 @@ results_long plan levels path r count is = node-kept plan (λ results. length re
 -- a plain run between two nodes, that finds all memory, has given few numbers and holds only what steps of the plan leave
 pub record IsFine (plan : PlanText) (r : RunState) : Type 0 where
   pub memory : r.state.memory ≡ []
-  pub gave : GaveFew (keys_named plan) (most_numbers plan.size) r.state
+  pub gave : GaveFew (keys_named plan) (enough_numbers plan.size) r.state
   pub of_plan : IsOfPlan plan r.state
   pub count : length r.results ≡ length plan.nodes
 

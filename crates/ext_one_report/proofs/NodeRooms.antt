@@ -2,7 +2,7 @@
 use Rattle.std.proofs.Common.{◌≡◌, ℕ, ◌<◌, ◌≤◌, Bool, true, false, List, [], ◌∷◌, ◌++◌, length, refl, ap, sym, subst, ◌∙◌, arith}
 use Rattle.std.specs.Prelude.{All, Contains, ◌&&◌, if◌then◌else◌}
 use Rattle.std.proofs.lemmas.List.Elements.{All-cons, All-head, All-nil, All-tail}
-use Rattle.ext_model.specs.Sizes.{most_numbers}
+use Rattle.ext_one_report.proofs.Numbers.{enough_numbers}
 use Rattle.ext_tree.specs.Keys.{KeyValue}
 use Rattle.ext_tree.specs.Trees.{IsPathOf}
 use Rattle.ext_lifecycle.specs.declared.call.Call.{Call}
@@ -157,14 +157,14 @@ module _ (plan : PlanText) (run : RunView) (read : IsReadPlan plan) (node : ℕ)
   pub record Holds (s : ValueState) : Type 0 where
     pub memory : s.memory ≡ []
     pub keeps : run.store.id.cells.limits.keep_faults ≡ s.keep_faults
-    pub gave : GaveFew (keys_named plan) (most_numbers plan.size) s
+    pub gave : GaveFew (keys_named plan) (enough_numbers plan.size) s
     pub of_plan : IsOfPlan plan s
 
   holds : (call : Call) (s : ValueState) → Own call → Holds s → Holds (call_run plan path call s).state
   holds call s own before = record {
     memory = steps_memory plan.keys path (steps_of_call plan call) s before.memory;
     keeps = before.keeps ∙ sym (steps_faults plan.keys path (steps_of_call plan call) s);
-    gave = few_are_given (keys_named plan) (most_numbers plan.size) plan.keys path (steps_of_call plan call) s before.gave (names_keys call own);
+    gave = few_are_given (keys_named plan) (enough_numbers plan.size) plan.keys path (steps_of_call plan call) s before.gave (names_keys call own);
     of_plan = call_of plan node path call s read its own before.memory before.of_plan;
   }
 

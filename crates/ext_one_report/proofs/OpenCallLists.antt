@@ -1,6 +1,6 @@
--- The calls of a node, some of whose steps compute values at open places, end near those of a plain run.
+-- The calls of a node, some of whose steps compute at open places, end near those of a plain run.
 use Rattle.std.proofs.Common.{◌≡◌, ℕ, ◌+◌, inl, inr, true, false, List, [], ◌∷◌, ◌++◌, map, refl, ap, sym, subst, ◌∙◌, append_assoc, append-nil, true≢false, arith}
-use Rattle.std.specs.Prelude.{All, ◌&&◌, if◌then◌else◌}
+use Rattle.std.specs.Prelude.{All, ◌&&◌}
 use Rattle.std.specs.List.{flat_map}
 use Rattle.std.proofs.lemmas.List.{map-append}
 use Rattle.std.proofs.lemmas.List.Elements.{Contains-append_cases}
@@ -20,7 +20,7 @@ use Rattle.ext_engine.specs.Order.{LaneGoesOn}
 use Rattle.ext_engine.proofs.Going.{goes_same}
 use Rattle.ext_plain.specs.ValueStates.{ValueState}
 use Rattle.ext_plain.specs.StepRuns.{StepEnd}
-use Rattle.ext_plain.specs.NodeCalls.{CallsEnd, and_call, call_run, make, make_all, make_befores, no_calls}
+use Rattle.ext_plain.specs.NodeCalls.{CallsEnd, and_call, call_run, make_all, make_befores, no_calls}
 use Rattle.ext_parallel.specs.StoreCalls.{PlanLane}
 use Rattle.ext_parallel.specs.StoreSteps.{StepsRun}
 use Rattle.ext_one_report.specs.FullRuns.{StepFinds}
@@ -28,22 +28,15 @@ use Rattle.ext_one_report.proofs.CallsWords.{StepsHaveRoom}
 use Rattle.ext_one_report.proofs.CallListsWords.{BeforesHaveRoom, CallsFind, CallsHaveRoom, Makes}
 use Rattle.ext_one_report.proofs.MatchingWords.{Places, RunView}
 use Rattle.ext_one_report.proofs.Calls.{all_first, all_later, steps_faults, steps_go, steps_lane, steps_memory, told_so}
-use Rattle.ext_one_report.proofs.CallLists.{all_go, befores_go, if_made, successful_more}
-use Rattle.ext_one_report.specs.Shares.{Open}
+use Rattle.ext_one_report.proofs.CallLists.{all_go, befores_go, if_made, stays, successful_more}
 use Rattle.ext_one_report.proofs.Fills.{Fills, IsFilledBy}
-use Rattle.ext_one_report.proofs.Open.{ComputesOpen, also, still_open}
+use Rattle.ext_one_report.proofs.Open.{ComputesOpen, Open, also, still_open}
 use Rattle.ext_one_report.proofs.OpenSteps.{AreBesideOpen}
 use Rattle.ext_one_report.proofs.OpenCalls.{AllCallsEndNear, BeforesEndNear, BeforesFit, CallFitsOpen, CallsNear, LeavesNear, NoneOpen}
 use Rattle.ext_one_report.proofs.OpenFits.{fits_later, still_twice}
 use Rattle.ext_one_report.proofs.OpenGoing.{beside_first, beside_later, both_fill, left_then, then_settled}
 use Rattle.ext_one_report.proofs.OpenEnds.{Near}
 use Rattle.ext_one_report.proofs.OpenLists.{StepsNear, computes_before, left_itself, steps_near}
-
--- ---- whether all were successful
-
-stays_ended : (does : Call → ValueState → StepEnd) (calls : List Call) (e : CallsEnd) → all_successful e.calls ≡ false → make_befores does calls e ≡ e
-stays_ended does [] e ends = refl
-stays_ended does (call ∷ calls) e ends = ap (make_befores does calls) (ap (λ go. if go then make does e call else e) ends) ∙ stays_ended does calls e ends
 
 -- ---- what is said, counted and left
 
@@ -175,7 +168,7 @@ module _ (run : RunView) (plan : PlanText) (node : ℕ) (path : List ℕ) (path_
 
   -- ---- calls up to the first that is not successful
 
-  -- Such calls end near, and where all are successful all whose values they compute are settled
+  -- Such calls end near, and where all are successful all that they compute is settled
   pub record BeforesNear (calls : List Call) (places : Places) (open_at : Open) (a : PlanLane) (s : ValueState) (before : ℕ) (new all : List Outcome) (b : PlanLane) (e : CallsEnd) : Type 0 where
     pub ends : Calls run places open_at a s before new all b e
     pub settles : all_successful e.calls ≡ true → NoneOpen plan.keys path (still_open ends.left.settled open_at) (flat_map (steps_of_call plan) calls)
@@ -224,7 +217,7 @@ module _ (run : RunView) (plan : PlanText) (node : ℕ) (path : List ℕ) (path_
               ends = both_left call places open_at a o m b e.state made.4 further both one e.computed made.1 _ _ last;
               settles = λ fine. absurd (true≢false (sym fine ∙ (good ∙ ended)));
             } in
-            subst (λ x. BeforesNear (call ∷ calls) places open_at a e.state e.computed os (done ++ os) b x) (sym (first ∙ stays_ended (call_run plan path) calls (and_call e end) (good ∙ ended)))
+            subst (λ x. BeforesNear (call ∷ calls) places open_at a e.state e.computed os (done ++ os) b x) (sym (first ∙ stays (call_run plan path) calls (and_call e end) (good ∙ ended)))
             (subst (λ l. BeforesNear (call ∷ calls) places open_at a e.state e.computed os l b (and_call e end)) (joined done made.1 os o made.3)
             (subst (λ new. BeforesNear (call ∷ calls) places open_at a e.state e.computed new ((done ++ o ∷ []) ++ made.1) b (and_call e end)) (sym made.3) stops))
       ]

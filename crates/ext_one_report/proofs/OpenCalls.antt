@@ -19,7 +19,6 @@ use Rattle.ext_plan.specs.PlanCalls.{steps_of_call}
 use Rattle.ext_plan.specs.ReadPlans.{StayOnPath}
 use Rattle.ext_plan.specs.StepCalls.{start_of}
 use Rattle.ext_plan.specs.StoreKeys.{key_of_step}
-use Rattle.ext_plan.specs.Values.{ValueText}
 use Rattle.ext_plain.specs.ValueStates.{ValueState}
 use Rattle.ext_plain.specs.NodeCalls.{CallsEnd, call_run, make_all, make_befores, no_calls}
 use Rattle.ext_parallel.specs.StoreCalls.{PlanLane}
@@ -30,8 +29,7 @@ use Rattle.ext_one_report.proofs.MatchingWords.{HasNumberIn, IsNumbered, Matches
 use Rattle.ext_one_report.proofs.TestCallsWords.{MakesTest, TestFinds, TestHasRoom, afters_round, befores_round, plain_test}
 use Rattle.ext_one_report.proofs.Orders.{Orders}
 use Rattle.ext_one_report.proofs.Fills.{Fills, IsFilledBy}
-use Rattle.ext_one_report.proofs.Open.{AreNear, ComputesOpen, also, place_of_step, still_open}
-use Rattle.ext_one_report.specs.Shares.{Open}
+use Rattle.ext_one_report.proofs.Open.{AreNear, ComputesOpen, FailsOpen, Given, Open, also, is_left, place_of_step, still_open}
 use Rattle.ext_one_report.proofs.OpenSteps.{AreBesideOpen, StandsInBoth}
 
 -- ---- which steps may be made
@@ -39,15 +37,17 @@ use Rattle.ext_one_report.proofs.OpenSteps.{AreBesideOpen, StandsInBoth}
 -- the step changes no place above an open one
 abbrev pub LeavesAbove : RunView → List KeyText → List ℕ → Open → StepText → Type 0
 LeavesAbove run keys path open_at step =
-    (key : StepKeyText) (up context : ℕ) (v : ValueText) (above : List ℕ) → changed_by step ≡ Some (key, up) → open_at context (key_of_step keys key) ≡ Some v → IsPathOf run.store.tree context (context ∷ above)
+    (key : StepKeyText) (up context : ℕ) (v : Given) (above : List ℕ) → changed_by step ≡ Some (key, up) → open_at context (key_of_step keys key) ≡ Some v → IsPathOf run.store.tree context (context ∷ above)
     → Contains above (start_of (drop up path)) → ⊥
 
--- Steps one by one: what a step touches is among the places, and is above no open one where it changes it; or it computes the value of an open place, which is one of the places for the steps behind it
+-- Steps one by one: what a step touches is among the places, and is above no open one where it changes it; or it computes what is left at an open place, which is one of the places for the steps behind it;
+-- or its factory fails at an open place where nothing is kept
 abbrev pub StepsFit : RunView → List KeyText → List ℕ → Places → Open → List StepText → Type 0
 StepsFit run keys path places open_at [] = Unit {0}
 StepsFit run keys path places open_at (step ∷ more) =
     (StepWithin keys path places step × LeavesAbove run keys path open_at step × StepsFit run keys path places open_at more)
     ⊎ (ComputesOpen keys path open_at step × StepsFit run keys path (also (place_of_step keys path step) places) (still_open (place_of_step keys path step) open_at) more)
+    ⊎ (FailsOpen keys path open_at step × StepsFit run keys path places open_at more)
 
 abbrev pub CallFitsOpen : RunView → PlanText → List ℕ → Places → Open → Call → Type 0
 CallFitsOpen run plan path places open_at call = StayOnPath (length path) (steps_of_call plan call) × StepsFit run plan.keys path places open_at (steps_of_call plan call)
@@ -58,7 +58,7 @@ pub record NoneOpen (keys : List KeyText) (path : List ℕ) (open_at : Open) (st
 
 -- of the open places these are settled, and so are all whose values the steps compute
 pub record AreSettled (keys : List KeyText) (path : List ℕ) (open_at : Open) (settled : Places) (steps : List StepText) : Type 0 where
-  pub were_open : (context : ℕ) (key : KeyValue) → settled context key ≡ true → (v : ValueText) × (open_at context key ≡ Some v)
+  pub were_open : (context : ℕ) (key : KeyValue) → settled context key ≡ true → (v : Given) × (open_at context key ≡ Some v)
   pub none_left : NoneOpen keys path (still_open settled open_at) steps
 
 -- Calls that are made up to the first that is not successful: each fits where all is settled that those before it compute
@@ -75,18 +75,18 @@ FitsBehind run plan path places open_at befores call =
 
 -- ---- how calls end
 
--- What steps or calls between two moments have left: at some open places, which are settled, the value stands in both runs; the others they have not touched
+-- What steps or calls between two moments have left: at some open places, which are settled, the same value or fault stands in both runs; the others they have not touched, but to fail where nothing is kept
 pub record LeavesNear (run : RunView) (places : Places) (open_at : Open) (before : PlanLane) (s : ValueState) (after : PlanLane) (t : ValueState) : Type 0 where
   pub settled : Places
   pub matches : Matches run (also settled places) (seen_by after.cells.view) t
   pub numbered : IsNumbered (also settled places) t
   pub near : AreNear run (still_open settled open_at) (seen_by after.cells.view) t
-  pub were_open : (context : ℕ) (key : KeyValue) → settled context key ≡ true → (v : ValueText) × (open_at context key ≡ Some v)
+  pub were_open : (context : ℕ) (key : KeyValue) → settled context key ≡ true → (v : Given) × (open_at context key ≡ Some v)
   -- their keys have numbers on the lanes, so that what stands there goes on to be compared
   pub named : (context : ℕ) (key : KeyValue) → settled context key ≡ true → (number : ℕ) × HasNumberIn run key number
-  pub stand : (context : ℕ) (key : KeyValue) (v : ValueText) → settled context key ≡ true → open_at context key ≡ Some v → StandsInBoth run v context key (seen_by after.cells.view) t
-  pub unchanged : (context : ℕ) (key : KeyValue) (v : ValueText) → settled context key ≡ false → open_at context key ≡ Some v → plain_slot t context key ≡ plain_slot s context key
-  pub untouched : (context : ℕ) (key : KeyValue) (number : ℕ) (v : ValueText) → settled context key ≡ false → open_at context key ≡ Some v → HasNumberIn run key number
+  pub stand : (context : ℕ) (key : KeyValue) (v : Given) → settled context key ≡ true → open_at context key ≡ Some v → StandsInBoth run v context key (seen_by after.cells.view) t
+  pub unchanged : (context : ℕ) (key : KeyValue) (v : Given) → settled context key ≡ false → open_at context key ≡ Some v → plain_slot t context key ≡ plain_slot s context key
+  pub untouched : (context : ℕ) (key : KeyValue) (number : ℕ) (v : Given) → settled context key ≡ false → open_at context key ≡ Some v → is_left v ≡ true → HasNumberIn run key number
       → (more : History) → seen_by after.cells.view ≡ seen_by before.cells.view ++ more → (e : Event ℕ) → Contains more e → is_on nat_eq (cell_of run number context) e.act ≡ true → e.lane ≢ before.cells.view.number
   pub rises : s.store.drawn ≤ t.store.drawn
   -- at the places where the same stood both runs give numbers in one order

@@ -1,33 +1,25 @@
 -- One step at open places and others: it ends near that of the plain run, and leaves places near.
 use Rattle.std.proofs.Common.{◌≡◌, ℕ, ◌+◌, ◌<◌, ◌≤◌, ◌⊎◌, inl, inr, Bool, true, false, true≢false, List, [], ◌∷◌, ◌++◌, length, drop, Contains, Option, None, Some, refl, ap, sym, subst, ◌∙◌, arith, nat_eq}
-use Rattle.std.specs.Prelude.{◌≢◌, ◌||◌, codes}
+use Rattle.std.specs.Prelude.{◌≢◌, ◌||◌}
 use Rattle.std.proofs.lemmas.List.Elements.{All-contains_itself}
 use Rattle.ext_history.specs.Histories.{seen_by}
 use Rattle.ext_history.proofs.Lists.{bools}
 use Rattle.ext_model.specs.declared.event.Event.{Event}
-use Rattle.ext_model.specs.declared.slot.Slot.{Slot}
-use Rattle.ext_model.specs.declared.slot.Slot.TheVariants as slot
 use Rattle.ext_model.specs.Events.{is_on}
 use Rattle.ext_model.specs.History.{History, IsLegal, slots_in, state_after}
-use Rattle.ext_tree.specs.Keys.{IsKeyNumber, KeyValue}
+use Rattle.ext_tree.specs.Keys.{KeyValue}
 use Rattle.ext_tree.specs.Trees.{IsPathOf}
-use Rattle.ext_tree.proofs.KeyPlacing.{number_stays}
 use Rattle.ext_lifecycle.specs.declared.outcome.Outcome.{Outcome}
 use Rattle.ext_lifecycle.specs.FaultTexts.{verdict_text}
-use Rattle.ext_plan.specs.declared.word.Word.TheVariants as words
-use Rattle.ext_plan.specs.Plans.{KeyText, StepKeyText, StepText, keyed, fail, abort}
-use Rattle.ext_plan.specs.StepCalls.{call_of, label_of, start_of}
+use Rattle.ext_plan.specs.Plans.{KeyText, StepKeyText, StepText}
+use Rattle.ext_plan.specs.StepCalls.{start_of}
 use Rattle.ext_plan.specs.Steps.{height, step_key}
 use Rattle.ext_plan.specs.StoreKeys.{key_of_step}
-use Rattle.ext_plan.specs.Values.{ValueText}
-use Rattle.ext_store_core.specs.declared.fault.Refusal.{Refusal}
-use Rattle.ext_store_core.specs.declared.fault.Refusal.TheVariants as refusal
 use Rattle.ext_engine.specs.Order.{LaneGoesOn}
-use Rattle.ext_plain.specs.ValueStates.{ValueState, value_of}
+use Rattle.ext_plain.specs.ValueStates.{ValueState}
 use Rattle.ext_plain.specs.StepRuns.{StepEnd, step_run}
-use Rattle.ext_parallel.specs.Saying.{EndsRefused}
 use Rattle.ext_parallel.specs.StoreCalls.{HasFrame, PlanLane}
-use Rattle.ext_parallel.specs.StoreSteps.{PlacesItsKey, StepComputes, StepRun, StepsRun}
+use Rattle.ext_parallel.specs.StoreSteps.{PlacesItsKey, StepRun, StepsRun}
 use Rattle.ext_one_report.proofs.PlanCells.{changed_by}
 use Rattle.ext_one_report.proofs.CallsWords.{AreComparedAll, StepHasRoom, StepWithin}
 use Rattle.ext_one_report.specs.FullRuns.{StepFinds}
@@ -46,16 +38,15 @@ use Rattle.ext_one_report.proofs.OrdersSteps.{step_leaves_there}
 use Rattle.ext_history.proofs.Legal.{legal_begun}
 use Rattle.ext_one_report.proofs.Fills.{Fills, IsFilledBy}
 use Rattle.ext_one_report.proofs.FillsLaws.{fills_none}
-use Rattle.ext_one_report.proofs.Open.{AreNear, ComputesOpen, MayStand, StandsOrNot, also, at_place, is_open, place_of_step, still_open}
-use Rattle.ext_one_report.specs.Shares.{Open}
-use Rattle.ext_one_report.proofs.OpenSteps.{AreBesideOpen, StepEndsNear}
+use Rattle.ext_one_report.proofs.Open.{AreNear, ComputesOpen, FailsOpen, Given, MayStand, Open, StandsOrNot, also, at_place, is_left, is_open, of_value, place_of_step, still_open}
+use Rattle.ext_one_report.proofs.OpenSteps.{AreBesideOpen, StepEndsNear, StepFailsNear}
 use Rattle.ext_one_report.proofs.OpenCalls.{LeavesAbove, LeavesNear}
 use Rattle.ext_one_report.proofs.OpenFills.{fills_on}
 use Rattle.ext_one_report.proofs.OpenFits.{IsOpenStep, is_at_place, at_itself, open_step}
 use Rattle.ext_one_report.proofs.OpenSingles.{IsChanged, changed_place, changes_within, elsewhere, is_changed, may_change, one_of, only_one, single_is, single_run}
 use Rattle.ext_one_report.proofs.Standing.{computing_keeps_near}
-use Rattle.ext_one_report.proofs.OpenStep.{opens_end_near}
-use Rattle.ext_one_report.proofs.WordCases.{finds_none}
+use Rattle.ext_one_report.proofs.OpenFails.{fails_end_near}
+use Rattle.ext_one_report.proofs.OpenStep.{knows_more, opens_end_near, or_not_more}
 
 -- How steps end: both say the same, and together have computed and found as many values; each run computed those at open places that it filled
 pub record Near (run : RunView) (places : Places) (open_at : Open) (a : PlanLane) (s : ValueState) (o : Outcome) (b : PlanLane) (end : StepEnd) : Type 0 where
@@ -73,15 +64,15 @@ or_none : (a : Bool) → a ≡ a || false
 or_none true = refl
 or_none false = refl
 
--- the lane makes no event at an open place
+-- the lane makes no event at an open place where something is left
 abbrev pub TouchesNone : RunView → Open → PlanLane → PlanLane → Type 0
 TouchesNone run open_at a b =
-    (context : ℕ) (key : KeyValue) (number : ℕ) (v : ValueText) → open_at context key ≡ Some v → HasNumberIn run key number → (more : History) → seen_by b.cells.view ≡ seen_by a.cells.view ++ more
+    (context : ℕ) (key : KeyValue) (number : ℕ) (v : Given) → open_at context key ≡ Some v → is_left v ≡ true → HasNumberIn run key number → (more : History) → seen_by b.cells.view ≡ seen_by a.cells.view ++ more
     → (e : Event ℕ) → Contains more e → is_on nat_eq (cell_of run number context) e.act ≡ true → e.lane ≢ a.cells.view.number
 
 pub left_open : (run : RunView) (places : Places) (open_at : Open) (a : PlanLane) (s : ValueState) (b : PlanLane) (t : ValueState)
     → Matches run places (seen_by b.cells.view) t → IsNumbered places t → AreNear run open_at (seen_by b.cells.view) t
-    → ((context : ℕ) (key : KeyValue) (v : ValueText) → open_at context key ≡ Some v → plain_slot t context key ≡ plain_slot s context key)
+    → ((context : ℕ) (key : KeyValue) (v : Given) → open_at context key ≡ Some v → plain_slot t context key ≡ plain_slot s context key)
     → TouchesNone run open_at a b → s.store.drawn ≤ t.store.drawn → Orders run places (seen_by a.cells.view) (seen_by b.cells.view) s t
     → LeavesNear run places open_at a s b t
 left_open run places open_at a s b t matches numbered near unchanged untouched rises orders =
@@ -95,14 +86,14 @@ left_open run places open_at a s b t matches numbered near unchanged untouched r
       named = λ c k here. absurd (cc here);
       stand = λ c k v here is. absurd (cc here);
       unchanged = λ c k v off is. unchanged c k v is;
-      untouched = λ c k n v off is has more now e there on. untouched c k n v is has more now e there on;
+      untouched = λ c k n v off is leaves has more now e there on. untouched c k n v is leaves has more now e there on;
       rises = rises;
       orders = orders;
     }
 
 pub open_settled : (run : RunView) (places : Places) (open_at : Open) (a : PlanLane) (s : ValueState) (b : PlanLane) (t : ValueState)
     (matches : Matches run places (seen_by b.cells.view) t) (numbered : IsNumbered places t) (near : AreNear run open_at (seen_by b.cells.view) t)
-    (unchanged : (context : ℕ) (key : KeyValue) (v : ValueText) → open_at context key ≡ Some v → plain_slot t context key ≡ plain_slot s context key)
+    (unchanged : (context : ℕ) (key : KeyValue) (v : Given) → open_at context key ≡ Some v → plain_slot t context key ≡ plain_slot s context key)
     (untouched : TouchesNone run open_at a b) (rises : s.store.drawn ≤ t.store.drawn) (orders : Orders run places (seen_by a.cells.view) (seen_by b.cells.view) s t)
     → (left_open run places open_at a s b t matches numbered near unchanged untouched rises orders).settled ≡ none_settled
 unfolding left_open
@@ -111,18 +102,10 @@ open_settled run places open_at a s b t matches numbered near unchanged untouche
 -- the lane fills no place that it does not touch
 pub fills_untouched : (run : RunView) (open_at : Open) (a b : PlanLane) (s : ValueState) (n : ℕ) → TouchesNone run open_at a b → Fills (IsFilledBy run a b) open_at open_at s n n
 fills_untouched run open_at a b s n untouched = fills_none (IsFilledBy run a b) open_at s n (λ spot v is filled.
-    untouched spot.0 spot.1 filled.number v is filled.has filled.more filled.is filled.event filled.there (fills_on (cell_of run filled.number spot.0) filled.value filled.event.act filled.act) filled.own)
+    untouched spot.0 spot.1 filled.number (of_value v) is refl filled.has filled.more filled.is filled.event filled.there (fills_on (cell_of run filled.number spot.0) filled.value filled.event.act filled.act) filled.own)
 
-opened : (open_at : Open) (context : ℕ) (key : KeyValue) (v : ValueText) → open_at context key ≡ Some v → is_open open_at context key ≡ true
+opened : (open_at : Open) (context : ℕ) (key : KeyValue) (v : Given) → open_at context key ≡ Some v → is_open open_at context key ≡ true
 opened open_at context key v is = ap (λ o. is_open (λ c k. o) context key) is
-
-values_stand : (s t : ValueState) (v : ValueText) (x : Option Slot) → ((number : ℕ) (value : ValueText) → value_of s.values number ≡ Some value → value_of t.values number ≡ Some value)
-    → StandsOrNot (plain_meaning s.values) v x → StandsOrNot (plain_meaning t.values) v x
-values_stand s t v None more is = tt
-values_stand s t v (Some (slot.Entry number)) more is = more number v is
-values_stand s t v (Some (slot.Fault number)) more is = is
-values_stand s t v (Some (slot.Claim lane)) more is = is
-values_stand s t v (Some (slot.Sealed kept)) more is = is
 
 -- ---- a step that keeps within places where the lane is alone
 
@@ -167,16 +150,16 @@ module _ (run : RunView) (keys : List KeyText) (path : List ℕ) (places : Place
       (λ other key up there is. may_change keys path step key up (subst (λ (x : StepText). changed_by x ≡ Some (key, up)) (sym (only_one step other there)) is)) both.memory)
 
   -- no open place is the one that it changes, which is among the places
-  not_open : (c : ℕ) (k : KeyValue) (v : ValueText) → open_at c k ≡ Some v → IsChanged keys path step c k → ⊥
+  not_open : (c : ℕ) (k : KeyValue) (v : Given) → open_at c k ≡ Some v → IsChanged keys path step c k → ⊥
   not_open c k v is it = true≢false (sym (changes_within keys path places step c k below within it) ∙ both.beside.apart c k v is)
 
-  same_slot : (c : ℕ) (k : KeyValue) (v : ValueText) → open_at c k ≡ Some v → plain_slot next.state c k ≡ plain_slot s c k
+  same_slot : (c : ℕ) (k : KeyValue) (v : Given) → open_at c k ≡ Some v → plain_slot next.state c k ≡ plain_slot s c k
   same_slot c k v is = elim (bools (changes c k)) [
     | inl on ↦ absurd (not_open c k v is (is_changed keys path step c k on))
     | inr off ↦ leaves_else.slots c k off refl (λ number past. both.near.numbered.beyond c k number (opened open_at c k v is) past)
   ]
 
-  same_above : (c : ℕ) (k : KeyValue) (v : ValueText) (above : List ℕ) → open_at c k ≡ Some v → IsPathOf run.store.tree c (c ∷ above) → (x : ℕ) → Contains above x → places x k ≡ true
+  same_above : (c : ℕ) (k : KeyValue) (v : Given) (above : List ℕ) → open_at c k ≡ Some v → IsPathOf run.store.tree c (c ∷ above) → (x : ℕ) → Contains above x → places x k ≡ true
       → plain_slot next.state x k ≡ plain_slot s x k
   same_above c k v above is on x there here = elim (bools (changes x k)) [
     | inl changed ↦
@@ -196,7 +179,7 @@ module _ (run : RunView) (keys : List KeyText) (path : List ℕ) (places : Place
         subst (λ h. MayStand run.meaning v ((state_after h).slots (cell_of run n c))) goes.seen.1
         (computing_keeps_near run run.store.id.cells.limits v (cell_of run n c) (seen_by a.cells.view) more legal (both.near.lanes c k n v is has)
         (λ e there on. both.computed.each more (sym goes.seen.1) c k n v is has e there on));
-    plain = λ c k v is. values_stand s next.state v (plain_slot next.state c k) leaves_else.values
+    plain = λ c k v is. or_not_more (plain_meaning s.values) (plain_meaning next.state.values) v (plain_slot next.state c k) (knows_more changes no_context s next.state leaves_else)
         (subst (StandsOrNot (plain_meaning s.values) v) (sym (same_slot c k v is)) (both.near.plain c k v is));
     above = λ c k v path' is on. λ n d inside.
         same_above c k v path' is on _ (All-contains_itself path' n d inside) (both.beside.above c k v path' is on n d inside) ∙ both.near.above c k v path' is on n d inside;
@@ -207,7 +190,7 @@ module _ (run : RunView) (keys : List KeyText) (path : List ℕ) (places : Place
   }
 
   untouched : TouchesNone run open_at a b
-  untouched c k n v is has more now e there on = elsewhere run keys path step a o b both.view both.lane all c k n (not_open c k v is) has more now e there on
+  untouched c k n v is leaves has more now e there on = elsewhere run keys path step a o b both.view both.lane all c k n (not_open c k v is) has more now e there on
 
   -- off the place that it changes both runs leave what stood
   stood_off : (c : ℕ) (k : KeyValue) (m n : ℕ) → places c k ≡ true → changes c k ≡ false → StandWith run c k (seen_by b.cells.view) next.state m n → StandWith run c k (seen_by a.cells.view) s m n
@@ -279,41 +262,7 @@ module _ (run : RunView) (keys : List KeyText) (path : List ℕ) (places : Place
         (subst (λ n. Fills (IsFilledBy run a b) open_at open_at s o.computed n) ends_alike.computed (fills_untouched run open_at a b s o.computed untouched));
   }
 
--- ---- a step that computes the value of an open place
-
-refused_none : (name label : List ℕ) (why : Refusal) (o : Outcome) → EndsRefused name label why o → o.computed + o.found ≡ 0
-refused_none name label (refusal.Busy at) o ends = absurd ends
-refused_none name label (refusal.Closed at) o ends = omega (arith, ends.computed_are, ends.found_are)
-refused_none name label refusal.Contended o ends = absurd ends
-refused_none name label refusal.Exhausted o ends = omega (arith, ends.computed_are, ends.found_are)
-refused_none name label refusal.DirectoryFull o ends = omega (arith, ends.computed_are, ends.found_are)
-refused_none name label refusal.Unplaced o ends = absurd ends
-refused_none name label refusal.Memory o ends = omega (arith, ends.1, ends.2)
-
--- it has named its key, where it is not refused
-module _ (run : RunView) (keys : List KeyText) (path : List ℕ) (a : PlanLane) (o : Outcome) (b : PlanLane) (once : o.computed + o.found ≡ 1) where
-  computes_named : (name : List ℕ) (key : StepKeyText) (up : ℕ) (value : ValueText) → StepComputes run.store (call_of keys path name key up) value a o b → (number : ℕ) × IsKeyNumber b.keys (key_of_step keys key) number
-  computes_named name key up value (inl made) = (made.0, made.1)
-  computes_named name key up value (inr refused) =
-      let none = refused_none name (label_of keys key) refused.0 o refused.2.1 in
-      absurd (omega (arith, once, none))
-
-  renamed : (step : StepText) (key : StepKeyText) (up : ℕ) (name : StepKeyText) (height : ℕ) → changed_by step ≡ Some (key, up) → changed_by step ≡ Some (name, height)
-      → (number : ℕ) × IsKeyNumber b.keys (key_of_step keys key) number → (number : ℕ) × IsKeyNumber b.keys (key_of_step keys name) number
-  renamed step key up name height is so number =
-      let one : Some (key, up) ≡ Some (name, height) = sym is ∙ so in
-      let pair : (key, up) ≡ (name, height) = cc one in
-      (number.0, subst (λ (p : StepKeyText × ℕ). IsKeyNumber b.keys (key_of_step keys p.0) number.0) pair number.1)
-
-  key_named : (open_at : Open) (step : StepText) → ComputesOpen keys path open_at step → StepRun run.store keys path step a o b → (it : IsOpenStep keys path open_at step) → (number : ℕ) × IsKeyNumber b.keys (key_of_step keys it.key) number
-  key_named open_at (keyed words.Compute key text up) computes (inl made) it =
-      renamed (keyed words.Compute key text up) key up it.key it.up refl it.changes (computes_named (codes "compute") key up (record { text = text; closeable = false }) made)
-  key_named open_at (keyed words.ComputeCloseable key text up) computes (inl made) it =
-      renamed (keyed words.ComputeCloseable key text up) key up it.key it.up refl it.changes (computes_named (codes "compute!") key up (record { text = text; closeable = true }) made)
-  key_named open_at (keyed word key text up) computes (inl made) it = absurd (cc computes.0)
-  key_named open_at (keyed word key text up) computes (inr lacks) it = let none = finds_none keys word key a o b lacks in absurd (omega (arith, once, none.ends.1, none.ends.2))
-  key_named open_at (fail text) computes ran it = absurd computes
-  key_named open_at (abort text) computes ran it = absurd computes
+-- ---- a step that computes what is left at an open place
 
 module _ (run : RunView) (keys : List KeyText) (path : List ℕ) (places : Places) (open_at : Open) (step : StepText) (a : PlanLane) (o : Outcome) (b : PlanLane) (s : ValueState)
     (both : AreBesideOpen run path places open_at a b s) (below : height step < length path) (computes : ComputesOpen keys path open_at step)
@@ -381,19 +330,17 @@ module _ (run : RunView) (keys : List KeyText) (path : List ℕ) (places : Place
   pub computes_near : Near run places open_at a s o b (step_run keys path step s)
   computes_near = record {
     says = ended.says ∙ sym ended.plain_says;
-    counts = ended.once ∙ sym ended.plain_once;
+    counts = ended.counts;
     left = record {
       settled = here;
       matches = ended.matches;
       numbered = ended.numbered;
       near = ended.near;
       were_open = λ c k is. let same = same_place c k is in (it.value, subst (λ (x : ℕ × KeyValue). open_at x.0 x.1 ≡ Some it.value) (λ i. (sym same.0 i, sym same.1 i)) it.is_open);
-      named = λ c k is.
-          let name = key_named run keys path a o b ended.once open_at step computes ran it in
-          (name.0, subst (λ x. HasNumberIn run x name.0) (sym (same_place c k is).1) (number_stays b.keys run.numbering (key_of_step keys it.key) name.0 both.lane.keys name.1));
+      named = ended.named;
       stand = ended.stands;
       unchanged = ended.others;
-      untouched = λ c k n v off is has more now e there on. elsewhere run keys path step a o b both.view both.lane (single_run run.store keys path step a o b ran frame placed) c k n
+      untouched = λ c k n v off is leaves has more now e there on. elsewhere run keys path step a o b both.view both.lane (single_run run.store keys path step a o b ran frame placed) c k n
           (λ changed. true≢false (sym (own_place c k changed) ∙ off)) has more now e there on;
       rises = subst (λ (e : StepEnd). s.store.drawn ≤ e.state.store.drawn) (single_is keys path step s both.memory) (steps_draw keys path (step ∷ []) s both.memory);
       orders = computes_orders;
@@ -404,3 +351,27 @@ module _ (run : RunView) (keys : List KeyText) (path : List ℕ) (places : Place
   pub computes_settled : computes_near.left.settled ≡ here
   unfolding computes_near
   computes_settled = refl
+
+-- ---- a step whose factory fails at an open place where nothing is kept
+
+module _ (run : RunView) (keys : List KeyText) (path : List ℕ) (places : Places) (open_at : Open) (step : StepText) (a : PlanLane) (o : Outcome) (b : PlanLane) (s : ValueState)
+    (both : AreBesideOpen run path places open_at a b s) (below : height step < length path) (fails : FailsOpen keys path open_at step)
+    (finds : StepFinds keys o step) (room : StepHasRoom keys step s) (ran : StepRun run.store keys path step a o b) where
+  failed : StepFailsNear run places open_at a s o b (step_run keys path step s)
+  failed = fails_end_near run keys path places open_at step a o b s fails below both finds room ran
+
+  left_failed : LeavesNear run places open_at a s b (step_run keys path step s).state
+  left_failed = left_open run places open_at a s b (step_run keys path step s).state failed.matches failed.numbered failed.near failed.unchanged failed.untouched failed.rises failed.orders
+
+  failed_settled : left_failed.settled ≡ none_settled
+  unfolding left_failed
+  failed_settled = open_settled run places open_at a s b (step_run keys path step s).state failed.matches failed.numbered failed.near failed.unchanged failed.untouched failed.rises failed.orders
+
+  pub fails_near : Near run places open_at a s o b (step_run keys path step s)
+  fails_near = record {
+    says = failed.says ∙ sym failed.plain_says;
+    counts = omega (arith, failed.computed, failed.found, failed.plain_computed, failed.plain_found);
+    left = left_failed;
+    fills = subst (λ (p : Places). Fills (IsFilledBy run a b) open_at (still_open p open_at) s o.computed (step_run keys path step s).computed) (sym failed_settled)
+        (subst (λ n. Fills (IsFilledBy run a b) open_at open_at s o.computed n) (failed.computed ∙ sym failed.plain_computed) (fills_untouched run open_at a b s o.computed failed.untouched));
+  }

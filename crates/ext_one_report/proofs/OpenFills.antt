@@ -1,7 +1,6 @@
 -- Whether a lane fills a cell between two moments: attempts of a compute that are given up fill none. And who fills an open place in one part of what a lane does fills it in the whole.
-use Rattle.std.proofs.Common.{◌≡◌, ℕ, zero, suc, ◌⊎◌, inl, inr, true, List, [], ◌∷◌, ◌++◌, Contains, refl, ap, sym, subst, ◌∙◌, nat_eq, eq-eqb, append_assoc, append-nil, arith, ◌==◌}
+use Rattle.std.proofs.Common.{◌≡◌, ℕ, zero, suc, ◌⊎◌, inl, inr, true, List, [], ◌∷◌, ◌++◌, Contains, refl, ap, sym, subst, ◌∙◌, nat_eq, eq-eqb, append_assoc, append-nil, ◌==◌}
 use Rattle.std.proofs.lemmas.List.Elements.{Contains-append_cases, Contains-append_left, Contains-append_right}
-use Rattle.std.proofs.lemmas.Bool.Decides.{nat_tests}
 use mathlib.Core.List.{append_cancel_left}
 use Rattle.ext_history.specs.Histories.{seen_by}
 use Rattle.ext_history.proofs.Composed.{same_number}
@@ -27,7 +26,7 @@ use Rattle.ext_parallel.specs.StoreCalls.{PlanLane}
 use Rattle.ext_one_report.proofs.MatchingWords.{IsRunView, HasNumberIn, RunView, cell_of}
 use Rattle.ext_one_report.proofs.Matching.{cells_apart}
 use Rattle.ext_one_report.proofs.Fills.{IsFilledBy, Spot}
-use Rattle.ext_one_report.proofs.OwnEvents.{ActsOn}
+use Rattle.ext_one_report.proofs.OwnEvents.{ActsOn, number_is}
 
 -- ---- no cell is filled
 
@@ -127,8 +126,14 @@ own_is_in a b more mine is own_is e there by_lane =
     let made : own n more ≡ mine = append_cancel_left (own n (seen_by a)) (own n more) mine (sym (own_append lane_of n (seen_by a) more) ∙ (ap (own n) (sym is) ∙ own_is)) in
     subst (λ (l : History). Contains l e) made (contains_filter (λ (x : Event ℕ). lane_of x == n) more e (eq-eqb e.lane n by_lane) there)
 
-number_is : (a b : ℕ) → nat_eq a b ≡ true → a ≡ b
-number_is a b is = grind (arith, nat_tests)
+-- an event of the lane's own is on the one cell that it acts on
+pub own_on_it : (cell other : ℕ) (a b : LaneView) → ActsOn cell a b → (more : History) → seen_by b ≡ seen_by a ++ more → (e : Event ℕ) → Contains more e → e.lane ≡ a.number → is_on nat_eq other e.act ≡ true → nat_eq cell other ≡ true
+own_on_it cell other a b acts more is e there by_lane on = elim (bools (nat_eq cell other)) [
+  | inl same ↦ same
+  | inr off ↦
+      let mine = own_is_in a b more acts.mine is acts.own_is e there by_lane in
+      absurd (contains_none e (subst (λ (l : History). Contains l e) (acts.only other off) (contains_filter (λ (x : Event ℕ). is_on nat_eq other x.act) acts.mine e on mine)))
+]
 
 pub fills_on : (cell value : ℕ) (act : Act ℕ) → act ≡ Fill cell value → is_on nat_eq cell act ≡ true
 fills_on cell value act is = ap (is_on nat_eq cell) is ∙ eq-eqb cell cell refl
@@ -137,15 +142,9 @@ module _ (run : RunView) (view : IsRunView run) (context : ℕ) (key : KeyValue)
   -- it fills no other place
   pub only_its_place : ActsOn (cell_of run number context) a.cells.view b.cells.view → (spot : Spot) → IsFilledBy run a b spot → spot ≡ (context, key)
   only_its_place acts spot filled =
-      let cell : ℕ = cell_of run filled.number spot.0 in
-      let mine = own_is_in a.cells.view b.cells.view filled.more acts.mine filled.is acts.own_is filled.event filled.there filled.own in
-      elim (bools (nat_eq (cell_of run number context) cell)) [
-        | inl on ↦
-            let same = cells_apart run context spot.0 key spot.1 number filled.number view has filled.has (number_is _ _ on) in
-            λ i. (sym same.0 i, sym same.1 i)
-        | inr off ↦ absurd (contains_none filled.event (subst (λ (l : History). Contains l filled.event) (acts.only cell off)
-            (contains_filter (λ (x : Event ℕ). is_on nat_eq cell x.act) acts.mine filled.event (fills_on cell filled.value filled.event.act filled.act) mine)))
-      ]
+      let on = own_on_it (cell_of run number context) (cell_of run filled.number spot.0) a.cells.view b.cells.view acts filled.more filled.is filled.event filled.there filled.own (fills_on _ filled.value filled.event.act filled.act) in
+      let same = cells_apart run context spot.0 key spot.1 number filled.number view has filled.has (number_is _ _ on) in
+      λ i. (sym same.0 i, sym same.1 i)
 
   pub filled_or_not : (o : Outcome) → ComputesOrNot (cell_of run number context) a.cells.view b.cells.view o → ((o.computed ≡ 1) × IsFilledBy run a b (context, key)) ⊎ ((o.computed ≡ 0) × ¬ IsFilledBy run a b (context, key))
   filled_or_not o (inl computed) =

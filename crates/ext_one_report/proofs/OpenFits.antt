@@ -10,17 +10,16 @@ use Rattle.ext_tree.specs.Trees.{Id, IsPathOf, IsWalk}
 use Rattle.ext_tree.proofs.Equalities.{keys_Decides}
 use Rattle.ext_plan.specs.Plans.{KeyText, StepKeyText, StepText, keyed, fail, abort}
 use Rattle.ext_plan.specs.StepCalls.{start_of}
-use Rattle.ext_plan.specs.StepWords.{leaves_closeable, looks_along}
+use Rattle.ext_plan.specs.StepWords.{changes, computes, looks_along}
+use Rattle.ext_plan.specs.declared.word.Word.{Word}
+use Rattle.ext_plan.specs.declared.word.Word.TheVariants as words
 use Rattle.ext_plan.specs.StoreKeys.{key_of_step}
-use Rattle.ext_plan.specs.Values.{ValueText}
 use Rattle.ext_one_report.proofs.PlanCells.{changed_by}
 use Rattle.ext_one_report.proofs.CallsWords.{StepWithin}
 use Rattle.ext_one_report.proofs.MatchingWords.{Places, RunView}
 use Rattle.ext_one_report.proofs.StepsWords.{LooksWithin, TouchesWithin}
-use Rattle.ext_one_report.proofs.Open.{AreOpenBeside, ComputesOpen, also, at_place, place_of_step, still_open}
-use Rattle.ext_one_report.specs.Shares.{Open}
+use Rattle.ext_one_report.proofs.Open.{AreOpenBeside, ComputesOpen, FailsOpen, Given, Open, also, at_place, given_by, of_nothing, place_of_step, still_open}
 use Rattle.ext_one_report.proofs.OpenCalls.{LeavesAbove, StepsFit}
-use Rattle.ext_one_report.proofs.WordCases.{computes_all}
 
 -- ---- places that are settled
 
@@ -78,25 +77,25 @@ at_itself context key = ap (λ b. b && key_eq key key) (eq-eqb context context r
 
 -- ---- open places
 
-pub was_open : (settled : Bool) (o : Option ValueText) (v : ValueText) → (if settled then None else o) ≡ Some v → (settled ≡ false) × (o ≡ Some v)
+pub was_open : (settled : Bool) (o : Option Given) (v : Given) → (if settled then None else o) ≡ Some v → (settled ≡ false) × (o ≡ Some v)
 was_open true o v is = absurd (cc is)
 was_open false o v is = (refl, is)
 
-pub opens : (settled : Bool) (o : Option ValueText) (v : ValueText) → settled ≡ false → o ≡ Some v → (if settled then None else o) ≡ Some v
+pub opens : (settled : Bool) (o : Option Given) (v : Given) → settled ≡ false → o ≡ Some v → (if settled then None else o) ≡ Some v
 opens true o v off is = absurd (cc off)
 opens false o v off is = is
 
-open_swap : (a b : Bool) (o : Option ValueText) → (if a then None else (if b then None else o)) ≡ (if b then None else (if a then None else o))
+open_swap : (a b : Bool) (o : Option Given) → (if a then None else (if b then None else o)) ≡ (if b then None else (if a then None else o))
 open_swap true true o = refl
 open_swap true false o = refl
 open_swap false b o = refl
 
-open_within : (a b : Bool) (o : Option ValueText) → (b ≡ true → a ≡ true) → (if a then None else (if b then None else o)) ≡ (if a then None else o)
+open_within : (a b : Bool) (o : Option Given) → (b ≡ true → a ≡ true) → (if a then None else (if b then None else o)) ≡ (if a then None else o)
 open_within true b o within = refl
 open_within false true o within = absurd (cc (within refl))
 open_within false false o within = refl
 
-open_twice : (a b : Bool) (o : Option ValueText) → (if b then None else (if a then None else o)) ≡ (if a || b then None else o)
+open_twice : (a b : Bool) (o : Option Given) → (if b then None else (if a then None else o)) ≡ (if a || b then None else o)
 open_twice true true o = refl
 open_twice true false o = refl
 open_twice false b o = refl
@@ -113,6 +112,7 @@ pub beside_settled : (run : RunView) (places : Places) (open_at : Open) (settled
 beside_settled run places open_at settled beside = record {
   apart = λ c k v is. let was = was_open (settled c k) (open_at c k) v is in or_off (places c k) (settled c k) (beside.apart c k v was.1) was.0;
   above = λ c k v path is on. λ n d within. or_left (places _ k) (settled _ k) (beside.above c k v path (was_open (settled c k) (open_at c k) v is).1 on n d within);
+  kept = λ c k v is. beside.kept c k v (was_open (settled c k) (open_at c k) v is).1;
 }
 
 -- ---- paths
@@ -125,33 +125,51 @@ path_up ids (first ∷ []) node (suc zero) is = inl refl
 path_up ids (first ∷ []) node (suc (suc up)) is = inl refl
 path_up ids (first ∷ parent ∷ rest) node (suc up) is = path_up ids (parent ∷ rest) parent up (refl, is.1.1)
 
--- ---- steps that compute the value of an open place
+-- ---- steps that compute at an open place
+
+computes_all : (word : Word) → computes word ≡ true → (changes word ≡ true) × (looks_along word ≡ true)
+computes_all words.Compute is = (refl, refl)
+computes_all words.ComputeCloseable is = (refl, refl)
+computes_all words.ComputeFail is = (refl, refl)
+computes_all word is = absurd (cc is)
 
 pub record IsOpenStep (keys : List KeyText) (path : List ℕ) (open_at : Open) (step : StepText) : Type 0 where
   pub key : StepKeyText
   pub up : ℕ
-  pub value : ValueText
+  pub value : Given
   pub changes : changed_by step ≡ Some (key, up)
   pub is_open : open_at (start_of (drop up path)) (key_of_step keys key) ≡ Some value
   pub at : place_of_step keys path step ≡ at_place (start_of (drop up path)) (key_of_step keys key)
-  pub computes : (other : Open) → other (start_of (drop up path)) (key_of_step keys key) ≡ Some value → ComputesOpen keys path other step
+  -- where the same is open there, it does the same
+  pub computes : (other : Open) → other (start_of (drop up path)) (key_of_step keys key) ≡ Some value → ComputesOpen keys path open_at step → ComputesOpen keys path other step
+  pub fails : (other : Open) → other (start_of (drop up path)) (key_of_step keys key) ≡ Some value → FailsOpen keys path open_at step → FailsOpen keys path other step
   pub within : (places : Places) → LooksWithin keys path places key up → StepWithin keys path places step
 
-pub open_step : (keys : List KeyText) (path : List ℕ) (open_at : Open) (step : StepText) → ComputesOpen keys path open_at step → IsOpenStep keys path open_at step
-open_step keys path open_at (keyed word key text up) is =
-    let all = computes_all word is.0 in
+word_step : (keys : List KeyText) (path : List ℕ) (open_at : Open) (word : Word) (key : StepKeyText) (text : List ℕ) (up : ℕ) (v : Given) → computes word ≡ true
+    → open_at (start_of (drop up path)) (key_of_step keys key) ≡ Some v → IsOpenStep keys path open_at (keyed word key text up)
+word_step keys path open_at word key text up v computing is =
+    let all = computes_all word computing in
     record {
       key = key;
       up = up;
-      value = record { text = text; closeable = leaves_closeable word };
+      value = v;
       changes = ap (λ (b : Bool). if b then Some (key, up) else None) all.0;
-      is_open = is.1;
+      is_open = is;
       at = refl;
-      computes = λ other so. (is.0, so);
+      computes = λ other so does. (does.0, so ∙ (sym is ∙ does.1));
+      fails = λ other so does. (does.0, so ∙ (sym is ∙ does.1));
       within = λ places so. subst (λ (b : Bool). TouchesWithin b keys path places key up) (sym all.1) so;
     }
+
+pub open_step : (keys : List KeyText) (path : List ℕ) (open_at : Open) (step : StepText) → ComputesOpen keys path open_at step → IsOpenStep keys path open_at step
+open_step keys path open_at (keyed word key text up) is = word_step keys path open_at word key text up (given_by true word text) is.0 is.1
 open_step keys path open_at (fail text) is = absurd is
 open_step keys path open_at (abort text) is = absurd is
+
+pub fails_step : (keys : List KeyText) (path : List ℕ) (open_at : Open) (step : StepText) → FailsOpen keys path open_at step → IsOpenStep keys path open_at step
+fails_step keys path open_at (keyed word key text up) is = word_step keys path open_at word key text up (of_nothing text) (ap computes is.0) is.1
+fails_step keys path open_at (fail text) is = absurd is
+fails_step keys path open_at (abort text) is = absurd is
 
 -- ---- what fits
 
@@ -166,7 +184,7 @@ module _ (keys : List KeyText) (path : List ℕ) (places more : Places) (within 
   within_more (abort text) is = tt
 
 module _ (run : RunView) (keys : List KeyText) (path : List ℕ) where
-  above_fewer : (open_at fewer : Open) (step : StepText) → ((c : ℕ) (k : KeyValue) (v : ValueText) → fewer c k ≡ Some v → open_at c k ≡ Some v) → LeavesAbove run keys path open_at step → LeavesAbove run keys path fewer step
+  above_fewer : (open_at fewer : Open) (step : StepText) → ((c : ℕ) (k : KeyValue) (v : Given) → fewer c k ≡ Some v → open_at c k ≡ Some v) → LeavesAbove run keys path open_at step → LeavesAbove run keys path fewer step
   above_fewer open_at fewer step were leaves = λ key up c v above is here on there. leaves key up c v above is (were c (key_of_step keys key) v here) on there
 
   -- a step at an open place changes none above another: it would be among the places
@@ -180,7 +198,7 @@ module _ (run : RunView) (keys : List KeyText) (path : List ℕ) where
       true≢false (sym in_places ∙ beside.apart (start_of (drop up path)) (key_of_step keys key) it.value own)
 
   -- where its place is settled, it looks up among the places
-  looks_settled : (places : Places) (open_at : Open) (settled : Places) (key : KeyValue) (v : ValueText) → AreOpenBeside run places open_at → (contexts : List ℕ) → open_at (start_of contexts) key ≡ Some v
+  looks_settled : (places : Places) (open_at : Open) (settled : Places) (key : KeyValue) (v : Given) → AreOpenBeside run places open_at → (contexts : List ℕ) → open_at (start_of contexts) key ≡ Some v
       → settled (start_of contexts) key ≡ true → (contexts ≡ []) ⊎ IsPathOf run.store.tree (start_of contexts) contexts → All (λ c. also settled places c key ≡ true) contexts
   looks_settled places open_at settled key v beside [] is on along = λ n d below. absurd (omega (arith, below))
   looks_settled places open_at settled key v beside (first ∷ rest) is on (inl none) = absurd (cc none)
@@ -191,7 +209,16 @@ module _ (run : RunView) (keys : List KeyText) (path : List ℕ) where
   fits_same : (places other : Places) (open_at also_open : Open) (steps : List StepText) → places ≡ other → open_at ≡ also_open → StepsFit run keys path places open_at steps → StepsFit run keys path other also_open steps
   fits_same places other open_at also_open steps same alike fits = subst (λ x. StepsFit run keys path x also_open steps) same (subst (λ x. StepsFit run keys path places x steps) alike fits)
 
-  -- what fits goes on to fit where more places are settled: a step that would compute the value of a settled place is one that looks up among the places
+  -- a step whose place is settled keeps among the places
+  keeps_settled : (on_path : IsPathOf run.store.tree (start_of path) path) (places : Places) (open_at : Open) (settled : Places) (step : StepText) → AreOpenBeside run places open_at
+      → (it : IsOpenStep keys path open_at step) → settled (start_of (drop it.up path)) (key_of_step keys it.key) ≡ true
+      → StepWithin keys path (also settled places) step × LeavesAbove run keys path (still_open settled open_at) step
+  keeps_settled on_path places open_at settled step beside it on = (
+    it.within (also settled places) (looks_settled places open_at settled (key_of_step keys it.key) it.value beside (drop it.up path) it.is_open on (path_up run.store.tree path (start_of path) it.up on_path)),
+    above_fewer open_at (still_open settled open_at) step (λ c k v is. (was_open (settled c k) (open_at c k) v is).1) (above_open places open_at step beside it),
+  )
+
+  -- what fits goes on to fit where more places are settled: a step that would compute at a settled place is one that looks up among the places
   pub fits_later : (on_path : IsPathOf run.store.tree (start_of path) path) (steps : List StepText) (places : Places) (open_at : Open) (settled : Places) → AreOpenBeside run places open_at
       → StepsFit run keys path places open_at steps → StepsFit run keys path (also settled places) (still_open settled open_at) steps
   fits_later on_path [] places open_at settled beside fits = tt
@@ -200,7 +227,7 @@ module _ (run : RunView) (keys : List KeyText) (path : List ℕ) where
     above_fewer open_at (still_open settled open_at) step (λ c k v is. (was_open (settled c k) (open_at c k) v is).1) one.1,
     fits_later on_path more places open_at settled beside one.2,
   )
-  fits_later on_path (step ∷ more) places open_at settled beside (inr one) =
+  fits_later on_path (step ∷ more) places open_at settled beside (inr (inl one)) =
       let it = open_step keys path open_at step one.0 in
       let contexts : List ℕ = drop it.up path in
       let key : KeyValue = key_of_step keys it.key in
@@ -212,13 +239,23 @@ module _ (run : RunView) (keys : List KeyText) (path : List ℕ) where
             let among : (c : ℕ) (k : KeyValue) → at c k ≡ true → settled c k ≡ true = λ c k is.
             let same = is_at_place (start_of contexts) key c k (ap (λ (p : Places). p c k) (sym it.at) ∙ is) in
             subst (λ (x : ℕ × KeyValue). settled x.0 x.1 ≡ true) (λ i. (sym same.0 i, sym same.1 i)) on in
+            let kept = keeps_settled on_path places open_at settled step beside it on in
             inl (
-              it.within (also settled places) (looks_settled places open_at settled key it.value beside contexts it.is_open on (path_up run.store.tree path (start_of path) it.up on_path)),
-              above_fewer open_at (still_open settled open_at) step (λ c k v is. (was_open (settled c k) (open_at c k) v is).1) (above_open places open_at step beside it),
+              kept.0,
+              kept.1,
               fits_same _ _ _ _ more (λ i c k. or_within (places c k) (at c k) (settled c k) (among c k) i) (λ i c k. open_within (settled c k) (at c k) (open_at c k) (among c k) i) later,
             )
-        | inr off ↦ inr (
-          it.computes (still_open settled open_at) (opens (settled (start_of contexts) key) (open_at (start_of contexts) key) it.value off it.is_open),
+        | inr off ↦ inr (inl (
+          it.computes (still_open settled open_at) (opens (settled (start_of contexts) key) (open_at (start_of contexts) key) it.value off it.is_open) one.0,
           fits_same _ _ _ _ more (λ i c k. or_swap (places c k) (at c k) (settled c k) i) (λ i c k. open_swap (settled c k) (at c k) (open_at c k) i) later,
-        )
+        ))
+      ]
+  fits_later on_path (step ∷ more) places open_at settled beside (inr (inr one)) =
+      let it = fails_step keys path open_at step one.0 in
+      let context : ℕ = start_of (drop it.up path) in
+      let key : KeyValue = key_of_step keys it.key in
+      let later = fits_later on_path more places open_at settled beside one.1 in
+      elim (bools (settled context key)) [
+        | inl on ↦ let kept = keeps_settled on_path places open_at settled step beside it on in inl (kept.0, kept.1, later)
+        | inr off ↦ inr (inr (it.fails (still_open settled open_at) (opens (settled context key) (open_at context key) it.value off it.is_open) one.0, later))
       ]

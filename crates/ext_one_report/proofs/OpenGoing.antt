@@ -8,20 +8,19 @@ use Rattle.ext_history.proofs.Legal.{legal_begun}
 use Rattle.ext_history.proofs.Lists.{bools}
 use Rattle.ext_model.specs.declared.event.Event.{Event}
 use Rattle.ext_model.specs.declared.slot.Slot.{Slot}
-use Rattle.ext_model.specs.declared.slot.Slot.TheVariants as slot
 use Rattle.ext_model.specs.CallActs.{LaneView}
 use Rattle.ext_model.specs.Events.{is_on}
 use Rattle.ext_model.specs.History.{History, IsLegal, IsQuiet, Limits, slots_in, state_after}
 use Rattle.ext_model.specs.State.{State}
 use Rattle.ext_model.proofs.Versions.{after-append, none_on, slot_stays}
 use Rattle.ext_tree.specs.Keys.{KeyValue}
-use Rattle.ext_plan.specs.Values.{ValueText}
 use Rattle.ext_store.specs.Stores.{IsLaneOf}
 use Rattle.ext_engine.specs.Order.{LaneGoesOn}
 use Rattle.ext_plain.specs.ValueStates.{ValueState}
 use Rattle.ext_parallel.specs.StoreCalls.{PlanLane}
 use Rattle.ext_one_report.proofs.MatchingWords.{HasNumberIn, IsNumbered, Matches, Places, RunView, TextMeaning, cell_of, plain_meaning}
-use Rattle.ext_one_report.proofs.StandingsWords.{AreMatched, fault_stands, seal_stands, standing_of, value, value_stands}
+use Rattle.ext_one_report.proofs.StandingsWords.{AreMatched, fault, fault_stands, standing_of, value, value_stands}
+use Rattle.ext_one_report.proofs.Standings.{holds}
 use Rattle.ext_one_report.proofs.StepsWords.{IsAlone}
 use Rattle.ext_one_report.proofs.NodesAlone.{alone_first, alone_later, contains_left}
 use Rattle.ext_one_report.proofs.Calls.{lane_before}
@@ -31,8 +30,7 @@ use Rattle.ext_one_report.proofs.OrdersHistory.{prefix_rises}
 use Rattle.ext_one_report.proofs.OrdersLaws.{orders_fewer, orders_then}
 use Rattle.ext_one_report.proofs.Fills.{Fills, IsFilledBy, IsSettled, Spot}
 use Rattle.ext_one_report.proofs.FillsLaws.{fills_then}
-use Rattle.ext_one_report.proofs.Open.{AreNear, OnlyComputed, Stands, also, still_open}
-use Rattle.ext_one_report.specs.Shares.{Open}
+use Rattle.ext_one_report.proofs.Open.{AreNear, Given, OnlyComputed, Open, Stands, also, is_left, of_fault, of_nothing, of_value, still_open}
 use Rattle.ext_one_report.proofs.OpenSteps.{AreBesideOpen, StandsInBoth}
 use Rattle.ext_one_report.proofs.OpenCalls.{LeavesNear}
 use Rattle.ext_one_report.proofs.OpenFills.{filled_first, filled_in_one, filled_second, fills_on}
@@ -80,32 +78,17 @@ beside_first run path places open_at a m b s further both = record {
   near = both.near;
 }
 
--- ---- where a value stands in both
+-- ---- where a value or a fault stands in both
 
-known_value : (v : ValueText) (o : Option ValueText) → value_stands {F = List ℕ} o ≡ Some (value v) → o ≡ Some v
-known_value v None is = absurd (cc is)
-known_value v (Some w) is = let same : w ≡ v = cc is in ap Some same
-
-no_fault : (v : ValueText) (o : Option (List ℕ)) → fault_stands {V = ValueText} o ≡ Some (value v) → ⊥
-no_fault v None is = cc is
-no_fault v (Some text) is = cc is
-
-no_seal : (v : ValueText) (o : Option ValueText) → seal_stands {F = List ℕ} o ≡ Some (value v) → ⊥
-no_seal v None is = cc is
-no_seal v (Some w) is = cc is
-
-stands_by : (meaning : TextMeaning) (v : ValueText) (x : Option Slot) → standing_of meaning x ≡ Some (value v) → Stands meaning v x
-stands_by meaning v None is = absurd (cc is)
-stands_by meaning v (Some (slot.Entry number)) is = record { number = number; there = refl; means = known_value v (meaning.values number) is }
-stands_by meaning v (Some (slot.Fault number)) is = absurd (no_fault v (meaning.faults number) is)
-stands_by meaning v (Some (slot.Claim lane)) is = absurd (cc is)
-stands_by meaning v (Some (slot.Sealed None)) is = absurd (cc is)
-stands_by meaning v (Some (slot.Sealed (Some number))) is = absurd (no_seal v (meaning.values number) is)
-
-stands_matched : (ours theirs : TextMeaning) (v : ValueText) (x y : Option Slot) → Stands ours v x → AreMatched ours theirs x y → Stands theirs v y
-stands_matched ours theirs v x y stands matched =
-    let is : standing_of ours x ≡ Some (value v) = ap (standing_of ours) stands.there ∙ ap value_stands stands.means in
-    stands_by theirs v y (matched.there ∙ (sym matched.here ∙ is))
+-- where the same stands in both, and the value or the fault in the one, it stands in the other
+pub stands_matched : (ours theirs : TextMeaning) (v : Given) (x y : Option Slot) → Stands ours v x → AreMatched ours theirs x y → Stands theirs v y
+stands_matched ours theirs (of_value v) x y stands matched =
+    let there = holds theirs y (value v) (matched.there ∙ (sym matched.here ∙ (ap (standing_of ours) stands.there ∙ ap value_stands stands.means))) in
+    record { number = there.0; there = there.1; means = there.2 }
+stands_matched ours theirs (of_fault text) x y stands matched =
+    let there = holds theirs y (fault text) (matched.there ∙ (sym matched.here ∙ (ap (standing_of ours) stands.there ∙ ap fault_stands stands.means))) in
+    record { number = there.0; there = there.1; means = there.2 }
+stands_matched ours theirs (of_nothing text) x y stands matched = absurd stands.means
 
 pub stays_quiet : (h more : History) (cell : ℕ) → IsQuiet cell more → (state_after (h ++ more)).slots cell ≡ (state_after h).slots cell
 stays_quiet h more cell quiet = ap (λ (s : State ℕ). s.slots cell) (after-append h more) ∙ slot_stays more (state_after h) cell quiet
@@ -119,7 +102,7 @@ module _ (run : RunView) (path : List ℕ) (places : Places) (open_at : Open) (a
   from_between = computed_later run open_at a.cells.view m.cells.view b.cells.view goes.seen both.computed
 
   module _ (one : LeavesNear run places open_at a s m t) where
-    -- nothing happens any more where a value stands
+    -- nothing happens any more where a value or a fault stands
     settled_quiet : (c : ℕ) (k : KeyValue) (n : ℕ) → one.settled c k ≡ true → HasNumberIn run k n → (more : History) → seen_by b.cells.view ≡ seen_by m.cells.view ++ more → IsQuiet (cell_of run n c) more
     settled_quiet c k n here has more is =
         let was = one.were_open c k here in
@@ -163,8 +146,8 @@ module _ (run : RunView) (path : List ℕ) (places : Places) (open_at : Open) (a
     abbrev second : Places
     second = two.settled
 
-    -- a value that stood at the moment between stands still
-    stood : (c : ℕ) (k : KeyValue) (v : ValueText) → first c k ≡ true → open_at c k ≡ Some v → StandsInBoth run v c k (seen_by b.cells.view) u
+    -- what stood at the moment between stands still
+    stood : (c : ℕ) (k : KeyValue) (v : Given) → first c k ≡ true → open_at c k ≡ Some v → StandsInBoth run v c k (seen_by b.cells.view) u
     stood c k v here opened =
         let lanes : (n : ℕ) → HasNumberIn run k n → Stands run.meaning v (slots_in (cell_of run n) (seen_by b.cells.view) c) = λ n has.
         let quiet = settled_quiet one c k n here has further.seen.0 (sym further.seen.1) in
@@ -203,7 +186,7 @@ module _ (run : RunView) (path : List ℕ) (places : Places) (open_at : Open) (a
       unchanged = λ c k v off opened.
           let apart = or_neither (first c k) (second c k) off in
           two.unchanged c k v apart.1 (opens (first c k) (open_at c k) v apart.0 opened) ∙ one.unchanged c k v apart.0 opened;
-      untouched = λ c k n v off opened has more is e there on. untouched_by c k n v (or_neither (first c k) (second c k) off) opened has more is e there on;
+      untouched = λ c k n v off opened leaves has more is e there on. untouched_by c k n v (or_neither (first c k) (second c k) off) opened leaves has more is e there on;
       rises = (let early = one.rises in let late = two.rises in omega (arith, early, late));
       orders = orders_then run places (seen_by a.cells.view) (seen_by m.cells.view) (seen_by b.cells.view) s t u (prefix_rises (seen_by a.cells.view) (seen_by m.cells.view) goes.seen) one.rises
           (matched_drawn run places run.store.id.cells.limits (seen_by m.cells.view) t (legal_begun (seen_by m.cells.view) (seen_by b.cells.view) further.seen both.legal)
@@ -212,15 +195,15 @@ module _ (run : RunView) (path : List ℕ) (places : Places) (open_at : Open) (a
           (orders_fewer run (also first places) places (seen_by m.cells.view) (seen_by b.cells.view) t u (λ c k is. or_left (places c k) (first c k) is) two.orders);
     }
       where
-        untouched_by : (c : ℕ) (k : KeyValue) (n : ℕ) (v : ValueText) → (first c k ≡ false) × (second c k ≡ false) → open_at c k ≡ Some v → HasNumberIn run k n
+        untouched_by : (c : ℕ) (k : KeyValue) (n : ℕ) (v : Given) → (first c k ≡ false) × (second c k ≡ false) → open_at c k ≡ Some v → is_left v ≡ true → HasNumberIn run k n
             → (more : History) → seen_by b.cells.view ≡ seen_by a.cells.view ++ more → (e : Event ℕ) → Contains more e → is_on nat_eq (cell_of run n c) e.act ≡ true → e.lane ≢ a.cells.view.number
-        untouched_by c k n v apart opened has more is e there on =
+        untouched_by c k n v apart opened leaves has more is e there on =
             let start = seen_by a.cells.view in
             let all : start ++ more ≡ start ++ (goes.seen.0 ++ further.seen.0) =
             sym is ∙ (sym further.seen.1 ∙ (ap (λ l. l ++ further.seen.0) (sym goes.seen.1) ∙ append_assoc start goes.seen.0 further.seen.0)) in
             elim (Contains-append_cases goes.seen.0 further.seen.0 e (subst (λ l. Contains l e) (append_cancel_left start more _ all) there)) [
-              | inl early ↦ one.untouched c k n v apart.0 opened has goes.seen.0 (sym goes.seen.1) e early on
-              | inr late ↦ λ own. two.untouched c k n v apart.1 (opens (first c k) (open_at c k) v apart.0 opened) has further.seen.0 (sym further.seen.1) e late on (own ∙ sym goes.number)
+              | inl early ↦ one.untouched c k n v apart.0 opened leaves has goes.seen.0 (sym goes.seen.1) e early on
+              | inr late ↦ λ own. two.untouched c k n v apart.1 (opens (first c k) (open_at c k) v apart.0 opened) leaves has further.seen.0 (sym further.seen.1) e late on (own ∙ sym goes.number)
             ]
 
     pub then_settled : left_then.settled ≡ also second first
@@ -234,7 +217,7 @@ module _ (run : RunView) (path : List ℕ) (places : Places) (open_at : Open) (a
           let cell : ℕ = cell_of run filled.number spot.0 in
           let off = none_on filled.more cell (settled_quiet one spot.0 spot.1 filled.number on filled.has filled.more filled.is) filled.event filled.there in
           true≢false (sym (fills_on cell filled.value filled.event.act filled.act) ∙ off)
-      | inr off ↦ let none : Some gone.value ≡ None = sym (opens (first spot.0 spot.1) (open_at spot.0 spot.1) gone.value off gone.was_open) ∙ gone.closed in absurd (cc none)
+      | inr off ↦ let none : Some (of_value gone.value) ≡ None = sym (opens (first spot.0 spot.1) (open_at spot.0 spot.1) (of_value gone.value) off gone.was_open) ∙ gone.closed in absurd (cc none)
     ]
 
     -- what both have filled

@@ -1,4 +1,4 @@
--- The steps of a call, some of which compute values at open places, end near those of a plain run.
+-- The steps of a call, some of which compute at open places, end near those of a plain run.
 use Rattle.std.proofs.Common.{◌≡◌, ℕ, ◌+◌, ◌<◌, inl, inr, true, false, List, [], ◌∷◌, ◌++◌, Some, drop, length, refl, ap, sym, subst, ◌∙◌, append-nil, true≢false, arith}
 use Rattle.std.specs.Prelude.{All, Contains}
 use mathlib.Core.List.{append_cancel_left}
@@ -16,7 +16,6 @@ use Rattle.ext_plan.specs.Steps.{height, step_key}
 use Rattle.ext_plan.specs.ReadPlans.{StayOnPath}
 use Rattle.ext_plan.specs.StepCalls.{start_of}
 use Rattle.ext_plan.specs.StoreKeys.{key_of_step}
-use Rattle.ext_plan.specs.Values.{ValueText}
 use Rattle.ext_store.specs.Stores.{IsLaneOf}
 use Rattle.ext_engine.specs.Order.{LaneGoesOn}
 use Rattle.ext_plain.specs.ValueStates.{ValueState}
@@ -28,17 +27,16 @@ use Rattle.ext_one_report.specs.FullRuns.{StepFinds}
 use Rattle.ext_one_report.proofs.CallsWords.{StepHasRoom, StepWithin, StepsHaveRoom}
 use Rattle.ext_one_report.proofs.MatchingWords.{Places, RunView}
 use Rattle.ext_one_report.proofs.Calls.{all_first, all_later, finds_by, plain_goes, plain_stops, step_memory, steps_faults, steps_go, steps_lane, success_finds, told_so}
-use Rattle.ext_one_report.specs.Shares.{Open}
 use Rattle.ext_one_report.proofs.Orders.{Orders}
 use Rattle.ext_one_report.proofs.OrdersBounds.{orders_kept}
 use Rattle.ext_one_report.proofs.Fills.{Fills, IsFilledBy}
-use Rattle.ext_one_report.proofs.Open.{AreOpenBeside, ComputesOpen, also, place_of_step, still_open}
+use Rattle.ext_one_report.proofs.Open.{AreOpenBeside, ComputesOpen, FailsOpen, Given, Open, also, given_by, of_fault, of_nothing, place_of_step, still_open}
 use Rattle.ext_one_report.proofs.OpenSteps.{AreBesideOpen}
 use Rattle.ext_one_report.proofs.OpenCalls.{LeavesNear, NoneOpen, StepsFit}
 use Rattle.ext_one_report.proofs.OpenFits.{at_itself, fits_later, open_step, still_twice, was_open}
 use Rattle.ext_one_report.proofs.OpenGoing.{beside_first, beside_later, both_fill, left_then, then_settled}
 use Rattle.ext_one_report.proofs.OpenSingles.{changes_within, single_is, single_run}
-use Rattle.ext_one_report.proofs.OpenEnds.{Near, TouchesNone, computes_near, computes_settled, fills_untouched, left_open, open_settled, within_near}
+use Rattle.ext_one_report.proofs.OpenEnds.{Near, TouchesNone, computes_near, computes_settled, fails_near, fills_untouched, left_open, open_settled, within_near}
 
 -- ---- where nothing happened
 
@@ -54,7 +52,7 @@ pub record LeftItself (run : RunView) (places : Places) (open_at : Open) (a b : 
 
 module _ (run : RunView) (path : List ℕ) (places : Places) (open_at : Open) (a c : PlanLane) (s : ValueState) (both : AreBesideOpen run path places open_at a c s) where
   untouched : TouchesNone run open_at a a
-  untouched x k n v is has more now e there on own = no_event (seen_by a.cells.view) more e now there
+  untouched x k n v is leaves has more now e there on own = no_event (seen_by a.cells.view) more e now there
 
   itself_orders : Orders run places (seen_by a.cells.view) (seen_by a.cells.view) s s
   itself_orders = orders_kept run places (seen_by a.cells.view) (seen_by a.cells.view) s s both.matches both.numbered (λ x k n is has. refl) (λ x k is. refl)
@@ -75,7 +73,7 @@ module _ (run : RunView) (path : List ℕ) (places : Places) (open_at : Open) (a
 -- ---- what no step computes any more
 
 module _ (keys : List KeyText) (path : List ℕ) where
-  computes_there : (open_at other : Open) (step : StepText) → ((c : ℕ) (k : KeyValue) (v : ValueText) → other c k ≡ Some v → open_at c k ≡ Some v)
+  computes_there : (open_at other : Open) (step : StepText) → ((c : ℕ) (k : KeyValue) (v : Given) → other c k ≡ Some v → open_at c k ≡ Some v)
       → ComputesOpen keys path other step → ComputesOpen keys path open_at step
   computes_there open_at other (keyed word key text up) were is = (is.0, were (start_of (drop up path)) (key_of_step keys key) _ is.1)
   computes_there open_at other (fail text) were is = absurd is
@@ -85,7 +83,7 @@ module _ (keys : List KeyText) (path : List ℕ) where
   pub computes_before : (open_at : Open) (settled : Places) (step : StepText) → ComputesOpen keys path (still_open settled open_at) step → ComputesOpen keys path open_at step
   computes_before open_at settled step is = computes_there open_at (still_open settled open_at) step (λ c k v so. (was_open (settled c k) (open_at c k) v so).1) is
 
-  -- a step that keeps within places that are not open computes the value of none that is
+  -- a step that keeps within places that are not open computes at none that is
   within_none : (run : RunView) (places : Places) (open_at : Open) (step : StepText) → AreOpenBeside run places open_at → height step < length path → StepWithin keys path places step
       → ComputesOpen keys path open_at step → ⊥
   within_none run places open_at step beside below within computes =
@@ -104,6 +102,15 @@ module _ (keys : List KeyText) (path : List ℕ) where
       let key : KeyValue = key_of_step keys it.key in
       let on : at context key ≡ true = ap (λ (p : Places). p context key) it.at ∙ at_itself context key in
       true≢false (sym on ∙ (was_open (at context key) (open_at context key) it.value it.is_open).0)
+
+  -- where nothing is kept, it computes nothing that is
+  fails_none : (open_at : Open) (step : StepText) → FailsOpen keys path open_at step → ComputesOpen keys path open_at step → ⊥
+  fails_none open_at (keyed word key text up) fails computes =
+      let both : Some (given_by true word text) ≡ Some (of_nothing text) = sym computes.1 ∙ fails.1 in
+      let kept : Some (of_fault text) ≡ Some (of_nothing text) = subst (λ w. Some (given_by true w text) ≡ Some (of_nothing text)) fails.0 both in
+      cc kept
+  fails_none open_at (fail text) fails computes = absurd fails
+  fails_none open_at (abort text) fails computes = absurd fails
 
   none_then : (open_at : Open) (first second : Places) (step : StepText) (more : List StepText) → (ComputesOpen keys path (still_open first open_at) step → ⊥)
       → NoneOpen keys path (still_open second (still_open first open_at)) more → NoneOpen keys path (still_open (also second first) open_at) (step ∷ more)
@@ -134,7 +141,7 @@ module _ (run : RunView) (keys : List KeyText) (path : List ℕ) where
         fits = fits_later run keys path both.path_is more places open_at near.left.settled both.beside fits.2;
         settles = λ computes. within_none keys path run places open_at step both.beside below fits.0 (computes_before keys path open_at near.left.settled step computes);
       }
-  first_near places open_at step more a o b s both below (inr fits) finds room ran frame placed =
+  first_near places open_at step more a o b s both below (inr (inl fits)) finds room ran frame placed =
       let near = computes_near run keys path places open_at step a o b s both below fits.0 finds room ran frame placed in
       let settled = computes_settled run keys path places open_at step a o b s both below fits.0 finds room ran frame placed in
       record {
@@ -142,8 +149,15 @@ module _ (run : RunView) (keys : List KeyText) (path : List ℕ) where
         fits = subst (λ (p : Places). StepsFit run keys path (also p places) (still_open p open_at) more) (sym settled) fits.1;
         settles = λ computes. settled_none keys path open_at step (subst (λ (p : Places). ComputesOpen keys path (still_open p open_at) step) settled computes);
       }
+  first_near places open_at step more a o b s both below (inr (inr fits)) finds room ran frame placed =
+      let near = fails_near run keys path places open_at step a o b s both below fits.0 finds room ran in
+      record {
+        near = near;
+        fits = fits_later run keys path both.path_is more places open_at near.left.settled both.beside fits.1;
+        settles = λ computes. fails_none keys path open_at step fits.0 (computes_before keys path open_at near.left.settled step computes);
+      }
 
-  -- Steps end near, and where they are successful all whose values they compute are settled
+  -- Steps end near, and where they are successful all that they compute is settled
   pub record StepsNear (steps : List StepText) (places : Places) (open_at : Open) (a : PlanLane) (s : ValueState) (o : Outcome) (b : PlanLane) (end : StepEnd) : Type 0 where
     pub near : Near run places open_at a s o b end
     pub settles : is_successful (ending_of o.verdict) ≡ true → NoneOpen keys path (still_open near.left.settled open_at) steps

@@ -7,7 +7,7 @@ use Rattle.ext_model.specs.Events.{place_of}
 use Rattle.ext_plan.specs.Values.{ValueText}
 use Rattle.ext_one_report.proofs.MatchingWords.{RunView, TextMeaning}
 use Rattle.ext_one_report.proofs.OfPlan.{value_in}
-use Rattle.ext_one_report.proofs.Open.{Computes, Stands}
+use Rattle.ext_one_report.proofs.Open.{Computes, Given, Stands, of_value}
 use Rattle.ext_one_report.proofs.OrdersHistory.{value_stored}
 use Rattle.ext_one_report.proofs.Standings.{Holds, holds}
 use Rattle.ext_one_report.proofs.StandingsWords.{AreMatched, Standing, fault, nothing, sealed, value}
@@ -43,15 +43,15 @@ matched_value ours theirs x y a b v matched first second is =
     matched_by ours theirs x y a b v matched.standing (holds ours x matched.standing matched.here) (holds theirs y matched.standing matched.there) first second is
 
 -- a value that stands is that of its number
-pub stands_value : (meaning : TextMeaning) (x : Option Slot) (a : ℕ) (v w : ValueText) → Stands meaning w x → value_in x ≡ Some a → meaning.values a ≡ Some v → w ≡ v
+pub stands_value : (meaning : TextMeaning) (x : Option Slot) (a : ℕ) (v w : ValueText) → Stands meaning (of_value w) x → value_in x ≡ Some a → meaning.values a ≡ Some v → w ≡ v
 stands_value meaning x a v w stands is means =
     one_value (meaning.values a) w v (subst (λ k. meaning.values k ≡ Some w) (one_number x stands.number a (ap value_in stands.there) is) stands.means) means
 
-pub stands_means : (meaning : TextMeaning) (x : Option Slot) (a : ℕ) (w : ValueText) → Stands meaning w x → value_in x ≡ Some a → meaning.values a ≡ Some w
+pub stands_means : (meaning : TextMeaning) (x : Option Slot) (a : ℕ) (w : ValueText) → Stands meaning (of_value w) x → value_in x ≡ Some a → meaning.values a ≡ Some w
 stands_means meaning x a w stands is = subst (λ k. meaning.values k ≡ Some w) (one_number x stands.number a (ap value_in stands.there) is) stands.means
 
 -- what computes a value and stores a number fills it in
-pub fills_in : (run : RunView) (v : ValueText) (act : Act ℕ) (cell a : ℕ) → Computes run v act → value_stored act ≡ Some a → place_of act ≡ Some cell → act ≡ Fill cell a
+pub fills_in : (run : RunView) (v : Given) (act : Act ℕ) (cell a : ℕ) → Computes run v act → value_stored act ≡ Some a → place_of act ≡ Some cell → act ≡ Fill cell a
 fills_in run v (Keep number) cell a computes stores on = absurd computes
 fills_in run v (Put at number) cell a computes stores on = absurd computes
 fills_in run v (Remove at) cell a computes stores on = absurd computes
@@ -60,6 +60,6 @@ fills_in run v (Fill at number) cell a computes stores on =
     let number_is : number ≡ a = cc stores in
     let at_is : at ≡ cell = cc on in
     λ i. Fill (at_is i) (number_is i)
-fills_in run v (Fail at number) cell a computes stores on = absurd computes
+fills_in run v (Fail at number) cell a computes stores on = absurd (cc stores)
 fills_in run v (Abandon at) cell a computes stores on = absurd (cc stores)
 fills_in run v (Seal at) cell a computes stores on = absurd computes

@@ -14,7 +14,6 @@ use Rattle.ext_model.specs.History.{History, IsLegal, IsQuiet, Limits, lane_of, 
 use Rattle.ext_model.specs.CallActs.{Calls, LaneView, events_by}
 use Rattle.ext_model.proofs.Versions.{after-append, slot_stays, version-append}
 use Rattle.ext_tree.specs.Keys.{KeyValue}
-use Rattle.ext_plan.specs.Values.{ValueText}
 use Rattle.ext_store_core.specs.Claiming as claiming
 use Rattle.ext_store_core.specs.Waiting.{VainAttempts}
 use Rattle.ext_store_core.specs.declared.fault.Refusal.{Refusal}
@@ -31,8 +30,7 @@ use Rattle.ext_one_report.proofs.Computes.{only_given_up}
 use Rattle.ext_one_report.proofs.Matching.{cells_apart, others_keep_matches}
 use Rattle.ext_one_report.proofs.OnCells.{at-append, quiet_at}
 use Rattle.ext_one_report.proofs.OwnCell.{OnlyAt}
-use Rattle.ext_one_report.proofs.Open.{MayStand, OnlyComputed, Stands}
-use Rattle.ext_one_report.specs.Shares.{Open}
+use Rattle.ext_one_report.proofs.Open.{Given, MayStand, OnlyComputed, Open, Stands}
 use Rattle.ext_one_report.proofs.Standing.{keeps_near, stays_there}
 
 -- ---- a lane between two moments
@@ -93,7 +91,7 @@ module _ (store : StoreView) (context number : ℕ) where
 
 -- ---- where the lane is alone
 
-number_is : (a b : ℕ) → nat_eq a b ≡ true → a ≡ b
+pub number_is : (a b : ℕ) → nat_eq a b ≡ true → a ≡ b
 number_is a b is = grind (arith, nat_tests)
 
 none_before : (first second : History) (cell : ℕ) → IsQuiet cell (first ++ second) → IsQuiet cell first
@@ -119,6 +117,15 @@ module _ (run : RunView) (places : Places) (view : IsRunView run) (context : ℕ
       let made : own n more ≡ acts.mine = append_cancel_left (own n (seen_by a)) (own n more) acts.mine (sym (own_append lane_of n (seen_by a) more) ∙ (ap (own n) (sym is) ∙ acts.own_is)) in
       quiet_to run places a b alone more [] acts.mine (is ∙ ap (λ l. seen_by a ++ l) (sym (append-nil more))) made mine_apart
 
+  -- what stood there stands there at each point
+  pub slots_at : (p : History) → IsPrefix (seen_by a) p → IsPrefix p (seen_by b) → (c : ℕ) (k : KeyValue) (n : ℕ) → places c k ≡ true → HasNumberIn run k n → slots_in (cell_of run n) p c ≡ slots_in (cell_of run n) (seen_by a) c
+  slots_at p since until c k n here has' =
+      let first = since.0 in
+      let second = until.0 in
+      let is : seen_by b ≡ seen_by a ++ (first ++ second) = sym until.1 ∙ (ap (λ l. l ++ second) (sym since.1) ∙ append_assoc (seen_by a) first second) in
+      let quiet = none_before first second (cell_of run n c) ((all_apart first second is).quiet c k n here has') in
+      ap (λ l. slots_in (cell_of run n) l c) (sym since.1) ∙ (ap (λ (s : State ℕ). s.slots (cell_of run n c)) (after-append (seen_by a) first) ∙ slot_stays first (state_after (seen_by a)) (cell_of run n c) quiet)
+
   -- what matched before matches at each point
   pub matches_at : (s : ValueState) → Matches run places (seen_by a) s → (p : History) → IsPrefix (seen_by a) p → IsPrefix p (seen_by b) → Matches run places p s
   matches_at s matches p since until =
@@ -131,7 +138,7 @@ module _ (run : RunView) (places : Places) (view : IsRunView run) (context : ℕ
 
 -- ---- at an open place
 
-module _ (run : RunView) (open_at : Open) (a b : LaneView) (computed : OnlyComputed run open_at a b) (context : ℕ) (key : KeyValue) (number : ℕ) (v : ValueText) (is_open : open_at context key ≡ Some v)
+module _ (run : RunView) (open_at : Open) (a b : LaneView) (computed : OnlyComputed run open_at a b) (context : ℕ) (key : KeyValue) (number : ℕ) (v : Given) (is_open : open_at context key ≡ Some v)
     (has : HasNumberIn run key number) (p : History) (since : IsPrefix (seen_by a) p) (until : IsPrefix p (seen_by b)) where
   all_seen : seen_by b ≡ seen_by a ++ (since.0 ++ until.0)
   all_seen = sym until.1 ∙ (ap (λ l. l ++ until.0) (sym since.1) ∙ append_assoc (seen_by a) since.0 until.0)

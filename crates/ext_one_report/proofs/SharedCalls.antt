@@ -1,21 +1,20 @@
--- The calls of nodes that share values: step by step, what a step touches is not shared or is settled by a compute before it, or the step computes the value itself.
+-- The calls of nodes that share values: step by step, what a step touches is not shared or is settled by a compute before it, or the step computes it itself, or fails as all do there.
 use Rattle.std.proofs.Common.{◌≡◌, ◌<◌, ◌≤◌, ◌⊎◌, ℕ, Bool, true, false, List, [], ◌∷◌, ◌++◌, length, get_or, Contains, drop, Option, Some, None, refl, ap, sym, subst, ◌∙◌, inl, inr, append_assoc, append-nil}
 use Rattle.std.specs.Prelude.{if◌then◌else◌}
 use Rattle.std.proofs.lemmas.Bool.{cases_Bool, or_left, or_right, true≢false}
 use Rattle.std.proofs.lemmas.List.Elements.{All-contains, Contains-append_right, Contains-push_cases}
 use Rattle.ext_tree.specs.Keys.{KeyValue}
 use Rattle.ext_lifecycle.specs.declared.call.Call.{Call}
-use Rattle.ext_plan.specs.Plans.{PlanText, StepKeyText, StepText, keyed, fail, abort}
+use Rattle.ext_plan.specs.Plans.{KeyText, PlanText, StepKeyText, StepText, keyed, fail, abort}
 use Rattle.ext_plan.specs.PlanCalls.{steps_of_call}
 use Rattle.ext_plan.specs.ReadPlans.{IsReadPlan, ids_of_nodes}
 use Rattle.ext_plan.specs.StepCalls.{start_of}
 use Rattle.ext_plan.specs.StoreKeys.{key_of_step, place_of_key}
-use Rattle.ext_plan.specs.Values.{ValueText}
 use Rattle.ext_plan.specs.declared.word.Word.{Word}
 use Rattle.ext_races.specs.Acts.{ActText, act_of}
 use Rattle.ext_races.specs.MadeSteps.{calls_of, plan_path}
 use Rattle.ext_races.specs.Touches.{TouchText, below_computes, found_above, keys_named, look_at, standing, touch_of, touches_along, touches_made}
-use Rattle.ext_plan.specs.StepWords.{changes, gives_value, looks_along}
+use Rattle.ext_plan.specs.StepWords.{changes, computes, gives_value, looks_along}
 use Rattle.ext_races.proofs.Lists.{all_contained, contains_cases, contains_first}
 use Rattle.ext_races.proofs.StepTouches.{reach_below}
 use Rattle.ext_one_report.proofs.CallsWords.{StepWithin}
@@ -27,12 +26,11 @@ use Rattle.ext_one_report.proofs.CoveredPlans.{IsTouchedBelow, an_act, from_drop
 use Rattle.ext_one_report.proofs.CoveredTouches.{contains_drop, kept_or_computed, step_is, step_of}
 use Rattle.ext_one_report.proofs.ComputedAbove.{IsComputedIn, NoneOpenAbove}
 use Rattle.ext_one_report.proofs.FoundAbove.{how_it_acts, key_there, one_key}
-use Rattle.ext_one_report.proofs.Open.{ComputesOpen, also, at_place, place_of_step, some_or_none, still_open}
-use Rattle.ext_one_report.specs.Shares.{Open, shares_in}
+use Rattle.ext_one_report.proofs.Open.{ComputesOpen, FailsOpen, Given, Open, also, at_place, place_of_step, some_or_none, still_open}
 use Rattle.ext_races.specs.OneReports.{SharesValues}
 use Rattle.ext_one_report.proofs.OpenCalls.{CallFitsOpen, LeavesAbove, NoneOpen, StepsFit}
 use Rattle.ext_one_report.proofs.OpenFits.{at_itself}
-use Rattle.ext_one_report.proofs.Shared.{unshared}
+use Rattle.ext_one_report.proofs.Shared.{given_in, unshared}
 use Rattle.ext_one_report.specs.Within.{is_within}
 use Rattle.ext_one_report.proofs.SharedFound.{all_give, shares_found}
 use Rattle.ext_one_report.proofs.SharedNodes.{touched_there, unshared_is}
@@ -50,22 +48,26 @@ open_before false o v e = e
 still_changes : (word : Word) → changes word ≡ false → gives_value word ≡ true → ⊥
 still_changes word still gives = true≢false (sym (computes_all word gives).0 ∙ still)
 
+-- a factory that fails gives no value
+failing_gives : (keys : List KeyText) (path : List ℕ) (open_at : Open) (act : ActText) → FailsOpen keys path open_at (step_of act) → gives_value act.word ≡ true → ⊥
+failing_gives keys path open_at act fails gives = true≢false (sym gives ∙ ap gives_value fails.0)
+
 one_act : (act other : ActText) → Some act ≡ Some other → act ≡ other
 one_act act other e = cc e
 
 -- A call of a node whose steps come behind those of other calls, where some of the places that the node shares are open, but none whose value those before compute, or callbacks before all children of a node above
 module _ (plan : PlanText) (read : IsReadPlan plan) (shares : SharesValues plan) (run : RunView) (tree : run.store.tree ≡ ids_of_nodes plan.nodes)
     (node : ℕ) (call : Call) (less : node < length (ids_of_nodes plan.nodes)) (among : Contains (calls_of plan node) call) (earlier : List StepText) (is_behind : IsMadeBehind plan node call earlier)
-    (opened : Open) (open_is : (context : ℕ) (key : KeyValue) (v : ValueText) → opened context key ≡ Some v → shares_in plan node context key ≡ Some v)
+    (opened : Open) (open_is : (context : ℕ) (key : KeyValue) (v : Given) → opened context key ≡ Some v → given_in plan node context key ≡ Some v)
     (none_above : NoneOpenAbove plan (drop 1 (plan_path plan node)) opened) (none_before : NoneOpen plan.keys (plan_path plan node) opened earlier) where
   abbrev path : List ℕ
   path = plan_path plan node
 
   abbrev shared : Open
-  shared = shares_in plan node
+  shared = given_in plan node
 
   abbrev alone : Places
-  alone = unshared (touched_in plan node) (shares_in plan node)
+  alone = unshared (touched_in plan node) (given_in plan node)
 
   abbrev start : ActText → ℕ
   start act = start_of (drop act.up (plan_path plan node))
@@ -98,7 +100,7 @@ module _ (plan : PlanText) (read : IsReadPlan plan) (shares : SharesValues plan)
   }
 
   -- at an open place it would give the value that others give, and so find what is computed above; but such a place is not open
-  never_looked : (context : ℕ) (key : KeyValue) (v : ValueText) → opened context key ≡ Some v → (t : TouchText) → IsLook context key t → ⊥
+  never_looked : (context : ℕ) (key : KeyValue) (v : Given) → opened context key ≡ Some v → (t : TouchText) → IsLook context key t → ⊥
   never_looked context key v is t look =
       let none : ¬ IsComputedIn plan (drop 1 (plan_path plan node)) context key = λ computed. open_places.not_both (opened context key) v (none_above context key computed) is in
       let found = shares_found plan read node context key v (open_is context key v is) in
@@ -106,7 +108,7 @@ module _ (plan : PlanText) (read : IsReadPlan plan) (shares : SharesValues plan)
       elim (how_it_acts plan read t look.made) [
         | inl own ↦ true≢false (sym own.0 ∙ look.still)
         | inr still ↦ elim still [
-          | inl looks ↦ true≢false (sym gives.acts ∙ ap gives_value looks.1)
+          | inl looks ↦ true≢false (sym gives.acts ∙ ap computes looks.1)
           | inr finds ↦
               let from = finds.2 in
               let named : from.key ≡ key = one_key (keys_named plan) from.key key from.named (key_there plan t look.made key look.key_is) (from.number ∙ look.key_is) in
@@ -159,8 +161,8 @@ module _ (plan : PlanText) (read : IsReadPlan plan) (shares : SharesValues plan)
   -- these places have all that is not shared, and the shared ones that are open no more; and all that computes before have looked at
   record AreBehind (front : List StepText) (places : Places) (open_at : Open) : Type 0 where
     unshared_in : (context : ℕ) (key : KeyValue) → alone context key ≡ true → places context key ≡ true
-    shared_in : (context : ℕ) (key : KeyValue) (v : ValueText) → shared context key ≡ Some v → (places context key ≡ true) ⊎ (open_at context key ≡ Some v)
-    open_in : (context : ℕ) (key : KeyValue) (v : ValueText) → open_at context key ≡ Some v → opened context key ≡ Some v
+    shared_in : (context : ℕ) (key : KeyValue) (v : Given) → shared context key ≡ Some v → (places context key ≡ true) ⊎ (open_at context key ≡ Some v)
+    open_in : (context : ℕ) (key : KeyValue) (v : Given) → open_at context key ≡ Some v → opened context key ≡ Some v
     looked : (act : ActText) → Contains front (step_of act) → gives_value act.word ≡ true → LooksWithin plan.keys (plan_path plan node) places act.key act.up
 
   -- so these places have all at which the node only looks
@@ -177,11 +179,12 @@ module _ (plan : PlanText) (read : IsReadPlan plan) (shares : SharesValues plan)
   abbrev Settles : Places → StepText → Type 0
   Settles places step = (act : ActText) → step ≡ step_of act → gives_value act.word ≡ true → LooksWithin plan.keys (plan_path plan node) places act.key act.up
 
-  -- what the step touches is settled, or it settles its own place
+  -- what the step touches is settled, or it settles its own place, or fails where nothing is kept
   abbrev Fits : StepText → Places → Open → Type 0
   Fits step places open_at =
       (StepWithin plan.keys (plan_path plan node) places step × LeavesAbove run plan.keys (plan_path plan node) open_at step × Settles places step)
       ⊎ (ComputesOpen plan.keys (plan_path plan node) open_at step × Settles (also (place_of_step plan.keys (plan_path plan node) step) places) step)
+      ⊎ (FailsOpen plan.keys (plan_path plan node) open_at step × Settles places step)
 
   leaves : (step : StepText) → Contains (steps_of_call plan call) step → (front : List StepText) (places : Places) (open_at : Open) → AreBehind front places open_at → LeavesAbove run plan.keys (plan_path plan node) open_at step
   leaves step there front places open_at behind =
@@ -198,7 +201,7 @@ module _ (plan : PlanText) (read : IsReadPlan plan) (shares : SharesValues plan)
     looks_here : HasLooks places
     looks_here = looks_in (earlier ++ front) places open_at behind
 
-    -- it is at a place where the same stands, or computes the value of an open one
+    -- it is at a place where the same stands, or computes what is left at an open one, or fails there
     changing_fits : changes act.word ≡ true → Fits (step_of act) places open_at
     changing_fits changing =
         let key = key_of act in
@@ -213,10 +216,16 @@ module _ (plan : PlanText) (read : IsReadPlan plan) (shares : SharesValues plan)
             | inl here ↦ stands here
             | inr open_is ↦
                 let at : Places = at_place (start act) key in
-                inr (
-                  computes_there plan read shares node call less among (step_of act) there open_at act.key act.up some.0 (ap (λ (b : Bool). if b then Some (act.key, act.up) else None) changing) some.1 open_is,
-                  settles changing (also at places) (λ context k t look. or_left (places context k) (at context k) (looks_here context k t look)) (or_right (places (start act) key) (at (start act) key) (at_itself (start act) key)),
-                )
+                elim (computes_there plan read shares node call less among (step_of act) there open_at act.key act.up some.0 (ap (λ (b : Bool). if b then Some (act.key, act.up) else None) changing) some.1 open_is) [
+                  | inl computed ↦ inr (inl (
+                    computed,
+                    settles changing (also at places) (λ context k t look. or_left (places context k) (at context k) (looks_here context k t look)) (or_right (places (start act) key) (at (start act) key) (at_itself (start act) key)),
+                  ))
+                  | inr fails ↦ inr (inr (
+                    fails,
+                    λ other is gives. absurd (failing_gives plan.keys path open_at act fails (ap (λ (a : ActText). gives_value a.word) (one_act act other (ap act_of is)) ∙ gives)),
+                  ))
+                ]
           ]
         ]
 
@@ -315,13 +324,17 @@ module _ (plan : PlanText) (read : IsReadPlan plan) (shares : SharesValues plan)
           one.1,
           all_fit (front ++ step ∷ []) more rest places open_at (subst (λ l. AreBehind l places open_at) (append_assoc earlier front (step ∷ [])) (behind_first (earlier ++ front) step places open_at behind one.2)),
         )
-        | inr one ↦
+        | inr (inl one) ↦
             let at = place_of_step plan.keys path step in
-            inr (
+            inr (inl (
               one.0,
               all_fit (front ++ step ∷ []) more rest (also at places) (still_open at open_at)
                   (subst (λ l. AreBehind l (also at places) (still_open at open_at)) (append_assoc earlier front (step ∷ [])) (behind_computed (earlier ++ front) step places open_at at behind one.1)),
-            )
+            ))
+        | inr (inr one) ↦ inr (inr (
+          one.0,
+          all_fit (front ++ step ∷ []) more rest places open_at (subst (λ l. AreBehind l places open_at) (append_assoc earlier front (step ∷ [])) (behind_first (earlier ++ front) step places open_at behind one.1)),
+        ))
       ]
 
   -- ---- the call
@@ -334,7 +347,7 @@ module _ (plan : PlanText) (read : IsReadPlan plan) (shares : SharesValues plan)
 
   alone_other : (context : ℕ) (key : KeyValue) → alone context key ≡ true → others context key ≡ true
   alone_other context key is =
-      let parts = open_places.unshared_parts (touched_in plan node) (shares_in plan node) context key is in
+      let parts = open_places.unshared_parts (touched_in plan node) (given_in plan node) context key is in
       is_other context key parts.0 (elim (some_or_none (opened context key)) [
         | inl none ↦ none
         | inr some ↦ open_places.not_both (shared context key) some.0 parts.1 (open_is context key some.0 some.1)
@@ -346,14 +359,17 @@ module _ (plan : PlanText) (read : IsReadPlan plan) (shares : SharesValues plan)
     | inr some ↦ absurd (never_looked context key some.0 some.1 t look)
   ]
 
-  -- the place of a compute before the call is not open
-  none_there : (one : Call) → Contains (calls_of plan node) one → (act : ActText) → Contains (steps_of_call plan one) (step_of act) → changes act.word ≡ true → Contains earlier (step_of act)
+  -- the place of a value that is computed before the call is not open
+  none_there : (one : Call) → Contains (calls_of plan node) one → (act : ActText) → Contains (steps_of_call plan one) (step_of act) → gives_value act.word ≡ true → Contains earlier (step_of act)
       → opened (start act) (key_of act) ≡ None
-  none_there one own act there changing held = elim (some_or_none (opened (start act) (key_of act))) [
+  none_there one own act there gives held = elim (some_or_none (opened (start act) (key_of act))) [
     | inl none ↦ none
-    | inr some ↦ absurd (none_before.none (step_of act) held
-        (computes_there plan read shares node one less own (step_of act) there opened act.key act.up some.0 (ap (λ (b : Bool). if b then Some (act.key, act.up) else None) changing)
-        (open_is (start act) (key_of act) some.0 some.1) some.1))
+    | inr some ↦
+        elim (computes_there plan read shares node one less own (step_of act) there opened act.key act.up some.0 (ap (λ (b : Bool). if b then Some (act.key, act.up) else None) (computes_all act.word gives).0)
+        (open_is (start act) (key_of act) some.0 some.1) some.1) [
+          | inl computed ↦ absurd (none_before.none (step_of act) held computed)
+          | inr fails ↦ absurd (failing_gives plan.keys path opened act fails gives)
+        ]
   ]
 
   behind_calls : AreBehind earlier others opened
@@ -368,7 +384,7 @@ module _ (plan : PlanText) (read : IsReadPlan plan) (shares : SharesValues plan)
         let of = is_behind.of (step_of act) held in
         let all = computes_all act.word gives in
         changing_looks of.0 of.1 act of.2 all.0 all.1 others other_looks
-        (is_other (start act) (key_of act) (acts_touched of.0 of.1 act of.2 all.0) (none_there of.0 of.1 act of.2 all.0 held));
+        (is_other (start act) (key_of act) (acts_touched of.0 of.1 act of.2 all.0) (none_there of.0 of.1 act of.2 gives held));
   }
 
   pub call_fits_open : CallFitsOpen run plan (plan_path plan node) (unshared (touched_in plan node) opened) opened call

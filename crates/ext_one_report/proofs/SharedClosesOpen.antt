@@ -1,4 +1,4 @@
--- The end of a node's context, at open places in other contexts: values that stand there stay, where a value may stand it may afterwards, and the close makes no event there.
+-- The end of a node's context, at open places in other contexts: what stands there stays, where it may stand it may afterwards, and the close makes no event there.
 use Rattle.std.proofs.Common.{◌≡◌, ◌≢◌, ◌≤◌, ℕ, true, List, ◌∷◌, ◌++◌, length, Contains, Option, None, Some, refl, ap, sym, subst, ◌∙◌, nat_eq}
 use Rattle.std.specs.Prelude.{All, slice_get}
 use mathlib.Core.List.{IsPrefix}
@@ -16,7 +16,6 @@ use Rattle.ext_locks.specs.Opening.{LocksView}
 use Rattle.ext_closing.specs.Lanes.{first_lane}
 use Rattle.ext_closing.specs.Sealing.{MakesSeals}
 use Rattle.ext_plan.specs.Plans.{PlanText}
-use Rattle.ext_plan.specs.Values.{ValueText}
 use Rattle.ext_engine.specs.Meeting.{HasSeenWithin, first_seen}
 use Rattle.ext_engine.specs.Order.{AllGoOn, IsMadeIn}
 use Rattle.ext_engine.specs.TreeRun.{ClosesNode, TreeSetting}
@@ -28,8 +27,7 @@ use Rattle.ext_parallel.specs.StoreCalls.{PlanLane}
 use Rattle.ext_plain.specs.ValueStates.{ValueState}
 use Rattle.ext_plain.specs.ContextEnds.{seal_keys}
 use Rattle.ext_one_report.proofs.MatchingWords.{HasNumberIn, IsRunView, Places, RunView, cell_of, plain_meaning, plain_slot}
-use Rattle.ext_one_report.proofs.Open.{AreNear, Computes, MayStand, Stands, StandsOrNot, is_open}
-use Rattle.ext_one_report.specs.Shares.{Open}
+use Rattle.ext_one_report.proofs.Open.{AreNear, Computes, Given, MayStand, Open, Stands, StandsOrNot, is_open}
 use Rattle.ext_one_report.proofs.OpenSteps.{StandsInBoth}
 use Rattle.ext_one_report.proofs.Closes.{SealsPlaces}
 use Rattle.ext_one_report.proofs.FullRuns.{setting_in}
@@ -41,16 +39,16 @@ use Rattle.ext_one_report.proofs.LanesAlone.{computed_more, is_more, is_on_place
 use Rattle.ext_one_report.proofs.NodePlaces.{both_ways}
 use Rattle.ext_one_report.proofs.Standing.{standing_stays, computing_keeps_near}
 
--- an open place has a value
-pub open_value : (open_at : Open) (context : ℕ) (key : KeyValue) → is_open open_at context key ≡ true → (v : ValueText) × (open_at context key ≡ Some v)
+-- at an open place something is computed
+pub open_value : (open_at : Open) (context : ℕ) (key : KeyValue) → is_open open_at context key ≡ true → (v : Given) × (open_at context key ≡ Some v)
 open_value open_at context key is = by (open_at context key) refl
   where
-    by : (o : Option ValueText) → open_at context key ≡ o → (v : ValueText) × (open_at context key ≡ Some v)
-    by None none = absurd (cc (sym (ap (λ (x : Option ValueText). is_open (λ c k. x) context key) none) ∙ is))
+    by : (o : Option Given) → open_at context key ≡ o → (v : Given) × (open_at context key ≡ Some v)
+    by None none = absurd (cc (sym (ap (λ (x : Option Given). is_open (λ c k. x) context key) none) ∙ is))
     by (Some v) some = (v, some)
 
 -- what is computed at open places is computed at fewer
-pub computed_fewer : (run : RunView) (h : History) (open_at fewer : Open) (xs ys : List PlanLane) → ((context : ℕ) (key : KeyValue) (v : ValueText) → fewer context key ≡ Some v → open_at context key ≡ Some v)
+pub computed_fewer : (run : RunView) (h : History) (open_at fewer : Open) (xs ys : List PlanLane) → ((context : ℕ) (key : KeyValue) (v : Given) → fewer context key ≡ Some v → open_at context key ≡ Some v)
     → AreComputed run h open_at xs ys → AreComputed run h fewer xs ys
 computed_fewer run h open_at fewer xs ys each computed = record {
   computed = λ context number place key v event is has seen there on. computed.computed context number place key v event (each context key v is) has seen there on;
@@ -92,21 +90,21 @@ module _ (plan : PlanText) (run : RunView) (locks : LocksView) (h : History) (vi
       other_cell run view context node number seal.0 key other has seal.1 (cc cell)
 
   module _ (open_at : Open) (computed : AreComputed run h open_at (lane ∷ rest) after) where
-    come : (context : ℕ) (key : KeyValue) (number : ℕ) (v : ValueText) → open_at context key ≡ Some v → HasNumberIn run key number
+    come : (context : ℕ) (key : KeyValue) (number : ℕ) (v : Given) → open_at context key ≡ Some v → HasNumberIn run key number
         → (e : Event ℕ) → Contains on.0 e → is_on nat_eq (cell_of run number context) e.act ≡ true → Computes run v e.act
     come context key number v is has e there at =
         computed_more run h open_at (lane ∷ rest) after on.0 (first_within h after within) (sym on.1) computed context key number v is has e there at
 
-    -- nothing comes at a place where the value stands
-    quiet : (context : ℕ) (key : KeyValue) (number : ℕ) (v : ValueText) → open_at context key ≡ Some v → HasNumberIn run key number
+    -- nothing comes at a place where it stands
+    quiet : (context : ℕ) (key : KeyValue) (number : ℕ) (v : Given) → open_at context key ≡ Some v → HasNumberIn run key number
         → Stands run.meaning v (slots_in (cell_of run number) (seen_by lane.cells.view) context) → IsQuiet (cell_of run number context) on.0
     quiet context key number v is has stands =
         standing_stays run limits v (cell_of run number context) (seen_by lane.cells.view) on.0 up_to stands (λ e there at. come context key number v is has e there at)
 
-    -- so the lanes are alone where values stand
+    -- so the lanes are alone there
     pub own_standing : (settled : Places)
         → ((context : ℕ) (key : KeyValue) (number : ℕ) → settled context key ≡ true → HasNumberIn run key number
-        → (v : ValueText) × (open_at context key ≡ Some v) × Stands run.meaning v (slots_in (cell_of run number) (seen_by lane.cells.view) context))
+        → (v : Given) × (open_at context key ≡ Some v) × Stands run.meaning v (slots_in (cell_of run number) (seen_by lane.cells.view) context))
         → AreOwn run h settled (lane ∷ rest) after
     own_standing settled each = record {
       own = λ context number place key event is has seen there at.
@@ -117,7 +115,7 @@ module _ (plan : PlanText) (run : RunView) (locks : LocksView) (h : History) (vi
     }
 
     -- and they stay
-    pub stand_after : (context : ℕ) (key : KeyValue) (v : ValueText) (s : ValueState) → open_at context key ≡ Some v → context ≢ node → StandsInBoth run v context key (seen_by lane.cells.view) s
+    pub stand_after : (context : ℕ) (key : KeyValue) (v : Given) (s : ValueState) → open_at context key ≡ Some v → context ≢ node → StandsInBoth run v context key (seen_by lane.cells.view) s
         → StandsInBoth run v context key (first_seen after) (seal_keys s.places node s)
     stand_after context key v s is other stand = record {
       lanes = λ number has.
@@ -132,9 +130,9 @@ module _ (plan : PlanText) (run : RunView) (locks : LocksView) (h : History) (vi
           (subst (Stands (plain_meaning s.values) v) (sym (sealed_slot node s (seal_keys s.places node s) plain context key other)) stand.plain);
     }
 
-    -- where values may stand they may afterwards
-    pub near_after : (s : ValueState) → ((context : ℕ) (key : KeyValue) (v : ValueText) → open_at context key ≡ Some v → context ≢ node)
-        → ((context : ℕ) (key : KeyValue) (v : ValueText) (above : List ℕ) → open_at context key ≡ Some v → IsPathOf run.store.tree context (context ∷ above) → All (λ c. c ≢ node) above)
+    -- where it may stand it may afterwards
+    pub near_after : (s : ValueState) → ((context : ℕ) (key : KeyValue) (v : Given) → open_at context key ≡ Some v → context ≢ node)
+        → ((context : ℕ) (key : KeyValue) (v : Given) (above : List ℕ) → open_at context key ≡ Some v → IsPathOf run.store.tree context (context ∷ above) → All (λ c. c ≢ node) above)
         → AreNear run open_at (seen_by lane.cells.view) s → AreNear run open_at (first_seen after) (seal_keys s.places node s)
     near_after s other above near = record {
       lanes = λ context key number v is has.

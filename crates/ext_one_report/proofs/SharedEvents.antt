@@ -16,7 +16,6 @@ use Rattle.ext_locks.specs.Sets.{HeldView}
 use Rattle.ext_plan.specs.Plans.{PlanText}
 use Rattle.ext_plan.specs.PlanCalls.{steps_of_call}
 use Rattle.ext_plan.specs.ReadPlans.{ids_of_nodes}
-use Rattle.ext_plan.specs.Values.{ValueText}
 use Rattle.ext_store.specs.Stores.{cell_in}
 use Rattle.ext_engine.specs.Meeting.{HasSeen, HasSeenWithin}
 use Rattle.ext_engine.specs.Order.{CallsGoOn, ChildRun, IsMadeBy, IsMadeIn}
@@ -30,10 +29,10 @@ use Rattle.ext_one_report.proofs.Made.{tree_on}
 use Rattle.ext_parallel.specs.declared.steps.stored_value.StoredValue.{StoredValue}
 use Rattle.ext_parallel.specs.StoreCalls.{PlanLane}
 use Rattle.ext_one_report.proofs.MatchingWords.{HasNumberIn, Places, RunView, cell_of}
+use Rattle.ext_one_report.proofs.Open.{Given, IsKeptBy, Open}
 use Rattle.ext_one_report.specs.Within.{is_within}
 use Rattle.ext_one_report.proofs.CoveredCells.{below_told, call_among}
 use Rattle.ext_one_report.proofs.CoveredPaths.{has_context}
-use Rattle.ext_one_report.specs.Shares.{Open}
 use Rattle.ext_one_report.proofs.FullRuns.{setting_in}
 use Rattle.ext_one_report.proofs.SharedEventsWords.{OfSharing, SharedIsComputed, SharedIsLookedFor, SharedIsNew}
 use Rattle.ext_one_report.proofs.SharedNodesWords.{IsSharedBasis}
@@ -62,11 +61,11 @@ module _ (plan : PlanText) (run : RunView) (locks : LocksView) (h : History) (to
   in_plan : (node : ℕ) (path : List ℕ) → IsPathOf run.store.tree node path → IsPathOf (ids_of_nodes plan.nodes) node path
   in_plan node path is = subst (λ (l : List Id). IsPathOf l node path) basis.tree is
 
-  -- the event at this place is at a place that the node changes, and computes the value where the node shares it
+  -- the event at this place is at a place that the node changes, and computes what is computed there where the node shares it
   abbrev On : ℕ → ℕ → Type 0
   On node place =
       (context number : ℕ) (key : KeyValue) (event : Event ℕ) → HasNumberIn run key number → slice_get h place ≡ Some event → place_of event.act ≡ Some (cell_of run number context)
-      → (changes node context key ≡ true) × ((v : ValueText) → shares node context key ≡ Some v → IsComputing run h g place number context v event.act)
+      → (changes node context key ≡ true) × ((v : Given) → shares node context key ≡ Some v → IsComputing run h g place number context v event.act)
 
   call_on : (node : ℕ) (call : Call) → IsCallOf t node call → (held : Option HeldView) (a : PlanLane) (outcome : Outcome) (b : PlanLane) → t.call_gives node call held a outcome b → HasSeenWithin h b
       → (place : ℕ) → IsMadeBy h place a b → On node place
@@ -74,7 +73,7 @@ module _ (plan : PlanText) (run : RunView) (locks : LocksView) (h : History) (to
       let makes = gives.0.fully.made in
       let among = call_among plan run.store locks run.numbering node call basis.read basis.tree (record { path = mine.path; path_is = mine.path_is; among = mine.among }) in
       let path_is = in_plan node makes.path makes.path_is in
-      let does = steps_do run basis.view run_tree h g (changes node) (shares node) plan.keys makes.path (steps_of_call plan call) a outcome b makes.steps
+      let does = steps_do run basis.view run_tree h g basis.legal (changes node) (shares node) (λ c k v is. subst (λ keep. IsKeptBy keep v) (sym basis.keeps) (basis.shared.kept node c k v is)) plan.keys makes.path (steps_of_call plan call) a outcome b makes.steps
       (λ step each. record {
         changes_there = λ step_key up changes_it. basis.covered.steps node makes.path call step step_key up path_is among each changes_it;
         computes = λ step_key up v changes_it shared. basis.shared.computes node makes.path call step step_key up v path_is among each changes_it shared;

@@ -1,10 +1,11 @@
--- The events of a lane in the steps of a call: at the places that its node shares they compute the values of the places, each behind a look-up that was absent.
-use Rattle.std.proofs.Common.{◌≡◌, ℕ, zero, suc, ◌≤◌, inl, inr, true, List, [], ◌∷◌, ◌++◌, Contains, Some, drop, length, refl, ap, sym, subst, ◌∙◌, arith}
-use Rattle.std.specs.Prelude.{◌<◌, ◌==◌, codes, slice_get, Ok}
+-- The events of a lane in the steps of a call: at the places that its node shares they compute what is computed there, each behind a look-up that was absent.
+use Rattle.std.proofs.Common.{◌≡◌, ◌⊎◌, ℕ, zero, suc, ◌≤◌, inl, inr, Bool, true, false, List, [], ◌∷◌, ◌++◌, Contains, Some, drop, length, refl, ap, sym, subst, ◌∙◌, arith}
+use Rattle.std.specs.Prelude.{◌<◌, ◌==◌, codes, slice_get, Ok, Err}
 use mathlib.Core.List.{IsPrefix, append_cancel_left}
 use base.Growing.{prefix_refl, prefix_trans}
 use Rattle.std.proofs.lemmas.Bool.{cases_lt}
-use Rattle.std.proofs.lemmas.Option.{slice_get_within}
+use Rattle.std.proofs.lemmas.List.Elements.{Contains-append_right}
+use Rattle.std.proofs.lemmas.Option.{slice_get-get_or, slice_get_within}
 use Rattle.ext_history.specs.Histories.{seen_by}
 use Rattle.ext_history.proofs.Composed.{events_past, same_number, seen_goes_on}
 use Rattle.ext_history.proofs.Lanes.{own_append}
@@ -12,8 +13,9 @@ use Rattle.ext_history.proofs.Legal.{legal_begun}
 use Rattle.ext_history.proofs.Lists.{bools, contains_cons, contains_from_filter, contains_here, contains_later, contains_none}
 use Rattle.ext_history.proofs.Once.{contains-map}
 use Rattle.ext_model.specs.declared.event.Act.{Act}
-use Rattle.ext_model.specs.declared.event.Act.TheVariants.{Abandon, Claim, Fill, Keep}
+use Rattle.ext_model.specs.declared.event.Act.TheVariants.{Abandon, Claim, Fail, Fill, Keep}
 use Rattle.ext_model.specs.declared.event.Event.{Event}
+use Rattle.ext_model.specs.declared.look.Fault.TheVariants as faults
 use Rattle.ext_model.specs.declared.look.Look.{Look}
 use Rattle.ext_model.specs.declared.look.Look.TheVariants as look
 use Rattle.ext_model.specs.CallActs.{Calls, LaneView}
@@ -28,9 +30,11 @@ use Rattle.ext_lifecycle.specs.declared.outcome.Outcome.{Outcome}
 use Rattle.ext_lifecycle.specs.Endings.{is_successful}
 use Rattle.ext_lifecycle.specs.Lifecycle.{ending_of}
 use Rattle.ext_lifecycle.specs.FaultTexts.{VerdictText}
+use Rattle.ext_plan.specs.declared.word.Word.{Word}
 use Rattle.ext_plan.specs.declared.word.Word.TheVariants as words
 use Rattle.ext_plan.specs.Plans.{KeyText, StepKeyText, StepText, keyed, fail, abort}
-use Rattle.ext_plan.specs.StepCalls.{CallText, call_of, start_of}
+use Rattle.ext_plan.specs.StepCalls.{CallText, call_of, label_of, start_of}
+use Rattle.ext_plan.specs.StepWords as step_words
 use Rattle.ext_plan.specs.StoreKeys.{key_of_step}
 use Rattle.ext_plan.specs.Values.{ValueText}
 use Rattle.ext_plan.specs.Verdicts.{SeenText}
@@ -46,22 +50,21 @@ use Rattle.ext_store.specs.Stores.{context_cells}
 use Rattle.ext_store.specs.Computing.{Computes, ComputesFrom, IsRefused, IsUnkept, Meets, Uses, given_up_events}
 use Rattle.ext_store.specs.Waiting.{ComputesAfterWaits}
 use Rattle.ext_engine.specs.Order.{LaneGoesOn}
-use Rattle.ext_one_report.proofs.Events.{among_more, in_part, one_of_acts}
-use Rattle.ext_one_report.proofs.StoreCalls.{Only, gets_only, keep_fails, keeps_only, only_makes, only_same, puts_only, removes_only, waits_only}
+use Rattle.ext_one_report.proofs.Events.{among_more, cut_at, in_part, one_of_acts}
+use Rattle.ext_one_report.proofs.StoreCalls.{Only, gets_only, keep_fails, keeps_only, only_makes, only_same, puts_only, removes_only}
 use Rattle.ext_parallel.specs.declared.steps.stored_value.StoredValue.{StoredValue}
-use Rattle.ext_parallel.specs.StoreCalls.{ComputesValue, EndsCompute, PlanLane, stored_view}
+use Rattle.ext_parallel.specs.StoreCalls.{ComputesFault, ComputesValue, EndsCompute, EndsComputeFail, PlanLane, stored_view}
 use Rattle.ext_parallel.specs.StoreSteps.{PutsKept, StepComputes, StepFails, StepLooks, StepPuts, StepRemoves, StepRun, StepsRun}
 use Rattle.ext_one_report.proofs.PlanCells.{changed_by}
 use Rattle.ext_one_report.proofs.Going.{steps_go}
 use Rattle.ext_one_report.proofs.MatchingWords.{HasNumberIn, IsRunView, Places, RunView, cell_of}
-use Rattle.ext_one_report.proofs.StepsWords.{IsLaneIn}
+use Rattle.ext_one_report.proofs.StepsWords.{IsLaneIn, words_of}
 use Rattle.ext_one_report.proofs.StoreCells.{cell_apart}
 use Rattle.ext_one_report.proofs.Matching.{number_within}
 use Rattle.ext_one_report.proofs.Calls.{lane_before}
 use Rattle.ext_one_report.proofs.OrdersHistory.{later_drawn, prefix_rises}
 use Rattle.ext_one_report.proofs.Open as values
-use Rattle.ext_one_report.proofs.Open.{ComputesOpen}
-use Rattle.ext_one_report.specs.Shares.{Open}
+use Rattle.ext_one_report.proofs.Open.{ComputesOpen, FailsOpen, Given, IsKeptBy, Open, given_by}
 use Rattle.ext_one_report.proofs.SharedEventsWords.{IsLookedFor}
 use Rattle.ext_one_report.proofs.WordCases.{finds_none}
 
@@ -128,14 +131,14 @@ does_more Such More a b more does = record { number = does.number; begins = does
 -- ---- a compute
 
 module _ (run : RunView) (h g : History) where
-  -- the act at this place computes the value, behind a look-up that was absent
-  pub record IsComputing (place number context : ℕ) (v : ValueText) (act : Act ℕ) : Type 0 where
+  -- the act at this place computes what is computed there, behind a look-up that was absent
+  pub record IsComputing (place number context : ℕ) (v : Given) (act : Act ℕ) : Type 0 where
     pub computes : values.Computes run v act
     pub looked : (path : List ℕ) → IsPathOf run.store.tree context (context ∷ path) → IsLookedFor run h g place number (context ∷ path)
     -- the number that it fills in was drawn meanwhile
     pub new : (limits : Limits) → IsLegal limits h → (n : ℕ) → act ≡ Fill (cell_of run number context) n → (state_after g).drawn < n
 
-  module _ (tree : IsTree run.store.tree) (number context : ℕ) (v : ValueText) where
+  module _ (tree : IsTree run.store.tree) (number context : ℕ) (v : Given) where
     abbrev cell : ℕ
     cell = cell_of run number context
 
@@ -147,7 +150,7 @@ module _ (run : RunView) (h g : History) where
     abbrev DoesThere : LaneView → LaneView → Type 0
     DoesThere a b = Does ComputesThere a b
 
-    -- an act that is on this cell, if it is on any, and computes the value there
+    -- an act that is on this cell, if it is on any, and computes there what is computed there
     abbrev Good : Act ℕ → Type 0
     Good act = (at : ℕ) → place_of act ≡ Some at → (at ≡ cell_of run number context) × values.Computes run v act
 
@@ -160,8 +163,11 @@ module _ (run : RunView) (h g : History) where
     good_keep : (n : ℕ) → Good (Keep n)
     good_keep n at is = absurd (cc is)
 
-    good_fill : (n : ℕ) → run.meaning.values n ≡ Some v → Good (Fill (cell_of run number context) n)
+    good_fill : (n : ℕ) → values.IsEntry run.meaning v n → Good (Fill (cell_of run number context) n)
     good_fill n known at is = (sym (cc is), known)
+
+    good_fail : (n : ℕ) → values.IsFault run.meaning v n → Good (Fail (cell_of run number context) n)
+    good_fail n known at is = (sym (cc is), known)
 
     abbrev Goods : List (Act ℕ) → Type 0
     Goods acts = (act : Act ℕ) → Contains acts act → Good act
@@ -236,12 +242,17 @@ module _ (run : RunView) (h g : History) where
             absent = first.missing;
           }
 
+      -- what the lane does in these acts is among what it has seen in the end and had not seen before
+      made_among : (acts : List (Act ℕ)) (calls : Calls limits a b acts) (act : Act ℕ) → Contains acts act → Contains (seen_goes_on calls).0 (by a.number act)
+      made_among acts calls act among =
+          let goes = seen_goes_on calls in
+          contains_from_filter (λ (x : Event ℕ). lane_of x == a.number) goes.0 (by a.number act) (subst (λ (l : History). Contains l (by a.number act)) (sym (events_past calls)) (contains-map (by a.number) acts act among))
+
       -- a number that the lane keeps in these acts is greater than all that were drawn before
       keeps_new : (acts : List (Act ℕ)) → Calls limits a b acts → (lim : Limits) → IsLegal lim h → (n : ℕ) → Contains acts (Keep n) → (state_after g).drawn < n
       keeps_new acts calls lim legal n among =
           let goes = seen_goes_on calls in
-          let mine : Contains (own a.number goes.0) (by a.number (Keep n)) = subst (λ (l : History). Contains l (by a.number (Keep n))) (sym (events_past calls)) (contains-map (by a.number) acts (Keep n) among) in
-          let there : Contains goes.0 (by a.number (Keep n)) = contains_from_filter (λ (x : Event ℕ). lane_of x == a.number) goes.0 (by a.number (Keep n)) mine in
+          let there = made_among acts calls (Keep n) among in
           let legal_there : IsLegal lim (seen_by a ++ goes.0) = subst (IsLegal lim) (sym goes.1) (legal_begun (seen_by b) h high legal) in
           let late = later_drawn lim (seen_by a) goes.0 a.number n legal_there there in
           let early = prefix_rises g (seen_by a) low in
@@ -286,21 +297,36 @@ module _ (run : RunView) (h g : History) where
       unkept keep_fault.Contended first r = given_up r.0 first
       unkept keep_fault.Unplaced first r = attempt (Claim (cell_of run number context) ∷ Keep r.0 ∷ Abandon (cell_of run number context) ∷ []) r.1 (good_kept r.0 (Abandon (cell_of run number context)) good_abandon) (kept_then r.0 (Abandon (cell_of run number context)) (λ n same. absurd (cc same))) first
 
-      -- `known` says what a number stands for that was computed; no factory failed
-      from : (name label : List ℕ) (result : Compute StoredValue (Unit {0})) → ComputesFrom limits run.store context ancestors number a b result → (between : PlanLane) (o : Outcome) (after : PlanLane) → EndsCompute name label result between o after
-          → ((n : ℕ) → result ≡ computes.Computed n → run.meaning.values n ≡ Some v) → DoesThere a b
+      -- `known` says what a number stands for that was computed, and `faulted` what that of a kept fault does
+      from : (result : Compute StoredValue (Unit {0})) → ComputesFrom limits run.store context ancestors number a b result → ((n : ℕ) → result ≡ computes.Computed n → values.IsEntry run.meaning v n)
+          → ((n : ℕ) → result ≡ computes.FaultKept n → Contains (seen_by b) (by a.number (Fail (cell_of run number context) n)) → values.IsFault run.meaning v n) → DoesThere a b
       unfolding ComputesFrom
-      from name label (computes.Computed n) r between o after ends known =
+      from (computes.Computed n) r known faulted =
           attempt (Claim (cell_of run number context) ∷ Keep n ∷ Fill (cell_of run number context) n ∷ []) r.1.calls (good_kept n (Fill (cell_of run number context) n) (good_fill n (known n refl))) (kept_then n (Fill (cell_of run number context) n) (fills_one n)) r.0.claims.looked_first
-      from name label (computes.Found at n unused) r between o after ends known = meets (look.Found at n) r
-      from name label (computes.Failed why) r between o after ends known = absurd ends
-      from name label (computes.FaultKept n) r between o after ends known = absurd ends
-      from name label (computes.FaultUnkept why cause) r between o after ends known = absurd ends
-      from name label (computes.FaultStands at n unused) r between o after ends known = meets (look.Fault at n) r
-      from name label (computes.Unkept value cause) r between o after ends known = unkept cause r.0.claims.looked_first r.1
-      from name label (computes.Refused why unused) r between o after ends known = refused why r
+      from (computes.Found at n unused) r known faulted = meets (look.Found at n) r
+      from (computes.Failed why) r known faulted = given_up r.2 r.1.claims.looked_first
+      from (computes.FaultKept n) r known faulted =
+          let cell : ℕ = cell_of run number context in
+          let calls = r.2.calls in
+          let goes = seen_goes_on calls in
+          let acts : List (Act ℕ) = Claim cell ∷ Keep n ∷ Fail cell n ∷ [] in
+          let last : Contains acts (Fail cell n) = contains_later (Claim cell) (Keep n ∷ Fail cell n ∷ []) (Fail cell n) (contains_later (Keep n) (Fail cell n ∷ []) (Fail cell n) (contains_here (Fail cell n) [])) in
+          let seen : Contains (seen_by b) (by a.number (Fail cell n)) =
+          subst (λ (l : History). Contains l (by a.number (Fail cell n))) goes.1 (Contains-append_right (seen_by a) goes.0 (by a.number (Fail cell n)) (made_among acts calls (Fail cell n) last)) in
+          attempt acts calls (good_kept n (Fail cell n) (good_fail n (faulted n refl seen))) (kept_then n (Fail cell n) (λ m same. absurd (cc same))) r.1.claims.looked_first
+      from (computes.FaultUnkept why cause) r known faulted = unkept cause r.1.claims.looked_first r.2
+      from (computes.FaultStands at n unused) r known faulted = meets (look.Fault at n) r
+      from (computes.Unkept value cause) r known faulted = unkept cause r.0.claims.looked_first r.1
+      from (computes.Refused why unused) r known faulted = refused why r
 
-module _ (run : RunView) (h g : History) (tree : IsTree run.store.tree) (number context : ℕ) (v : ValueText) where
+-- a store in whose history a fault is kept keeps faults
+keeps_faults : (limits : Limits) (h : History) (lane cell n : ℕ) → IsLegal limits h → Contains h (by lane (Fail cell n)) → limits.keep_faults ≡ true
+keeps_faults limits h lane cell n legal there =
+    let event : Event ℕ = by lane (Fail cell n) in
+    let cut = cut_at h there.0 event (slice_get-get_or h there.0 event there.1 ∙ ap Some there.2) in
+    (legal.each cut.0 event cut.1 cut.2).keeps
+
+module _ (run : RunView) (h g : History) (tree : IsTree run.store.tree) (number context : ℕ) (v : Given) where
   abbrev At : ℕ → ℕ → Act ℕ → Type 0
   At = ComputesThere run h g tree number context v
 
@@ -320,54 +346,84 @@ module _ (run : RunView) (h g : History) (tree : IsTree run.store.tree) (number 
       let early = vain attempts a m low (prefix_trans (seen_by m) (seen_by b) h goes high) more.1 in
       does_then At a m b early (refused run h g tree number context v limits last.0 last.1 m b (prefix_trans g (seen_by a) (seen_by m) low early.begins) high more.2.why last.2)
 
-  -- a lane goes on in a compute
-  from_goes : (limits : Limits) (ancestors : List ℕ) → IsPathOf run.store.tree context (context ∷ ancestors) → (a b : LaneView) (name label : List ℕ) (result : Compute StoredValue (Unit {0}))
-      → ComputesFrom limits run.store context ancestors number a b result → (between : PlanLane) (o : Outcome) (after : PlanLane) → EndsCompute name label result between o after
-      → ((n : ℕ) → result ≡ computes.Computed n → run.meaning.values n ≡ Some v) → IsPrefix (seen_by a) (seen_by b)
-  from_goes limits ancestors path_is a b name label result r between o after ends known =
-      (from run (seen_by b) [] tree number context v limits ancestors path_is a b (seen_by a, refl) (prefix_refl (seen_by b)) name label result r between o after ends known).begins
-
-  pub compute_does : (name label : List ℕ) (a : PlanLane) (o : Outcome) (b : PlanLane) → IsLaneIn run b → IsPrefix g (seen_by a.cells.view) → IsPrefix (seen_by b.cells.view) h
-      → ComputesValue run.store context number name label v a o b → Does At a.cells.view b.cells.view
+  -- what a compute does that may wait
+  computes_does : (a b : PlanLane) (result : Compute StoredValue (Unit {0})) → ((n : ℕ) → result ≡ computes.Computed n → values.IsEntry run.meaning v n)
+      → ((lane n : ℕ) → result ≡ computes.FaultKept n → Contains (seen_by b.cells.view) (by lane (Fail (cell_of run number context) n)) → values.IsFault run.meaning v n)
+      → IsPrefix g (seen_by a.cells.view) → IsPrefix (seen_by b.cells.view) h → ComputesAfterWaits run.store context number a.cells b.cells result → Does At a.cells.view b.cells.view
   unfolding ComputesAfterWaits Computes
-  compute_does name label a o b lane low high made =
-      let waits = made.computed in
+  computes_does a b result known faulted low high waits =
       let m = waits.between in
       let last = waits.then_is in
       let limits = a.cells.cells.limits in
+      let s = seen_by b.cells.view in
+      let goes = (from run s [] tree number context v limits last.0 last.1 m b.cells.view (seen_by m, refl) (prefix_refl s) result last.2 known (faulted m.number)).begins in
+      let early = vain waits.attempts a.cells.view m low (prefix_trans (seen_by m) s h goes high) waits.in_vain in
+      does_then At a.cells.view m b.cells.view early
+      (from run h g tree number context v limits last.0 last.1 m b.cells.view (prefix_trans g (seen_by a.cells.view) (seen_by m) low early.begins) high result last.2 known (faulted m.number))
+
+module _ (run : RunView) (h g : History) (tree : IsTree run.store.tree) (number context : ℕ) (name label : List ℕ) (a : PlanLane) (o : Outcome) (b : PlanLane) (lane : IsLaneIn run b)
+    (low : IsPrefix g (seen_by a.cells.view)) (high : IsPrefix (seen_by b.cells.view) h) where
+  -- one whose factory gives this value,
+  value_does : (v : ValueText) → ComputesValue run.store context number name label v a o b → Does (ComputesThere run h g tree number context (values.of_value v)) a.cells.view b.cells.view
+  value_does v made =
+      let Ends : Compute StoredValue (Unit {0}) → Type 0 = λ r. EndsCompute name label r made.between o b in
       let known : (n : ℕ) → made.result ≡ computes.Computed n → run.meaning.values n ≡ Some v = λ n is.
       let uses = subst (λ (r : Compute StoredValue (Unit {0})). Uses (λ answer. answer ≡ Ok made.given) a made.between r) is made.uses in
-      let ends = subst (λ (r : Compute StoredValue (Unit {0})). EndsCompute name label r made.between o b) is made.ends in
+      let ends = subst Ends is made.ends in
       let told : known_at b.known n ≡ Some uses.0 = ap (λ (l : PlanLane). known_at l.known n) ends.0 ∙ uses.2.learnt in
       let one : uses.0 ≡ made.given = cc uses.1 in
       lane.values n uses.0 told ∙ ap Some (ap stored_view one ∙ made.value_is) in
-      let goes = from_goes limits last.0 last.1 m b.cells.view name label made.result last.2 made.between o b made.ends known in
-      let early = vain waits.attempts a.cells.view m low (prefix_trans (seen_by m) (seen_by b.cells.view) h goes high) waits.in_vain in
-      does_then At a.cells.view m b.cells.view early
-      (from run h g tree number context v limits last.0 last.1 m b.cells.view (prefix_trans g (seen_by a.cells.view) (seen_by m) low early.begins) high name label made.result last.2 made.between o b made.ends known)
+      computes_does run h g tree number context (values.of_value v) a b made.result known (λ who n is there. absurd (subst Ends is made.ends)) low high made.computed
+
+  -- and one whose factory fails with this text: where the store keeps faults, it keeps this one
+  fault_does : (text : List ℕ) (v : Given) → IsLegal run.store.id.cells.limits h → (run.store.id.cells.limits.keep_faults ≡ true → v ≡ values.of_fault text) → ComputesFault run.store context number name label text a o b
+      → Does (ComputesThere run h g tree number context v) a.cells.view b.cells.view
+  fault_does text v legal given made =
+      let Ends : Compute StoredValue (Unit {0}) → Type 0 = λ r. EndsComputeFail name label text r made.between o b in
+      let faulted : (who n : ℕ) → made.result ≡ computes.FaultKept n → Contains (seen_by b.cells.view) (by who (Fail (cell_of run number context) n)) → values.IsFault run.meaning v n = λ who n is there.
+      let uses = subst (λ (r : Compute StoredValue (Unit {0})). Uses (λ answer. answer ≡ Err (faults.Text made.message)) a made.between r) is made.uses in
+      let ends = subst Ends is made.ends in
+      let told : known_at b.faults n ≡ Some uses.0 = ap (λ (l : PlanLane). known_at l.faults n) ends.0 ∙ uses.3.learnt in
+      let one : uses.0 ≡ faults.Text made.message = cc uses.1 in
+      let means : run.meaning.faults n ≡ Some text = lane.faults n uses.0 told ∙ (ap words_of one ∙ ap Some made.message_is) in
+      let keeps = keeps_faults run.store.id.cells.limits (seen_by b.cells.view) who (cell_of run number context) n (legal_begun (seen_by b.cells.view) h high legal) there in
+      subst (λ x. values.IsFault run.meaning x n) (sym (given keeps)) means in
+      computes_does run h g tree number context v a b made.result (λ n is. absurd (subst Ends is made.ends)) faulted low high made.computed
 
 -- ---- steps
 
--- `changed` has the places that the node may change, and `shared` those that it shares
-module _ (run : RunView) (view : IsRunView run) (tree : IsTree run.store.tree) (h g : History) (changed : Places) (shared : Open) where
-  -- an act at this place on a cell is at one of the places that may be changed, and where the place is shared it computes its value
+-- `changed` has the places that the node may change, and `shared` those that it shares, where the store keeps what is left there
+module _ (run : RunView) (view : IsRunView run) (tree : IsTree run.store.tree) (h g : History) (legal : IsLegal run.store.id.cells.limits h) (changed : Places) (shared : Open)
+    (kept : (context : ℕ) (key : KeyValue) (v : Given) → shared context key ≡ Some v → IsKeptBy run.store.id.cells.limits.keep_faults v) where
+  -- an act at this place on a cell is at one of the places that may be changed, and where the place is shared it computes what is computed there
   abbrev pub IsAsShared : ℕ → ℕ → Act ℕ → Type 0
   IsAsShared place cell act =
       (context number : ℕ) (key : KeyValue) → HasNumberIn run key number → cell ≡ cell_of run number context
-      → (changed context key ≡ true) × ((v : ValueText) → shared context key ≡ Some v → IsComputing run h g place number context v act)
+      → (changed context key ≡ true) × ((v : Given) → shared context key ≡ Some v → IsComputing run h g place number context v act)
+
+  -- what a factory leaves that fails with this text
+  abbrev left_if : List ℕ → Bool → Given
+  left_if text keep = given_by keep words.ComputeFail text
+
+  abbrev left_by : List ℕ → Given
+  left_by text = left_if text run.store.id.cells.limits.keep_faults
 
   abbrev DoesAsShared : PlanLane → PlanLane → Type 0
   DoesAsShared a b = Does IsAsShared a.cells.view b.cells.view
 
   module _ (keys : List KeyText) (path : List ℕ) where
-    -- what a step changes is one of these places, and where it is shared the step computes its value
+    -- the step computes what is left at a shared place, or its factory fails where nothing is
+    abbrev pub ComputesShared : StepText → Type 0
+    ComputesShared step = ComputesOpen keys path shared step ⊎ FailsOpen keys path shared step
+
+    -- what a step changes is one of these places, and where it is shared the step computes there
     pub record IsFit (step : StepText) : Type 0 where
       pub changes_there : (key : StepKeyText) (up : ℕ) → changed_by step ≡ Some (key, up) → changed (start_of (drop up path)) (key_of_step keys key) ≡ true
-      pub computes : (key : StepKeyText) (up : ℕ) (v : ValueText) → changed_by step ≡ Some (key, up) → shared (start_of (drop up path)) (key_of_step keys key) ≡ Some v → ComputesOpen keys path shared step
+      pub computes : (key : StepKeyText) (up : ℕ) (v : Given) → changed_by step ≡ Some (key, up) → shared (start_of (drop up path)) (key_of_step keys key) ≡ Some v → ComputesShared step
 
     module _ (step : StepText) (fit : IsFit step) (key : StepKeyText) (up : ℕ) (changes : changed_by step ≡ Some (key, up)) (number : ℕ) (has : HasNumberIn run (key_of_step keys key) number) where
       -- an act on the cell of the step
-      at_cell : (place : ℕ) (act : Act ℕ) → ((v : ValueText) → shared (start_of (drop up path)) (key_of_step keys key) ≡ Some v → IsComputing run h g place number (start_of (drop up path)) v act)
+      at_cell : (place : ℕ) (act : Act ℕ) → ((v : Given) → shared (start_of (drop up path)) (key_of_step keys key) ≡ Some v → IsComputing run h g place number (start_of (drop up path)) v act)
           → IsAsShared place (cell_of run number (start_of (drop up path))) act
       at_cell place act computing context n other has_other same =
           let start : ℕ = start_of (drop up path) in
@@ -375,11 +431,11 @@ module _ (run : RunView) (view : IsRunView run) (tree : IsTree run.store.tree) (
           let parts = cell_apart run.store start context number n (number_within run k number view has) (number_within run other n view has_other) same in
           let both : Some k ≡ Some other = sym has.there ∙ (ap (λ m. key_at run.numbering m) parts.1 ∙ has_other.there) in
           let key_is : k ≡ other = cc both in
-          let P : ℕ → ℕ → KeyValue → Type 0 = λ c m x. (changed c x ≡ true) × ((v : ValueText) → shared c x ≡ Some v → IsComputing run h g place m c v act) in
+          let P : ℕ → ℕ → KeyValue → Type 0 = λ c m x. (changed c x ≡ true) × ((v : Given) → shared c x ≡ Some v → IsComputing run h g place m c v act) in
           subst (λ c. P c n other) parts.0 (subst (λ m. P start m other) parts.1 (subst (λ x. P start number x) key_is (fit.changes_there key up changes, computing)))
 
-      -- a step that computes no value of a place
-      does_one : (ComputesOpen keys path shared step → ⊥) → (a b : PlanLane) → Only (cell_of run number (start_of (drop up path)) ∷ []) a.cells.view b.cells.view → DoesAsShared a b
+      -- a step that computes at no place
+      does_one : (ComputesShared step → ⊥) → (a b : PlanLane) → Only (cell_of run number (start_of (drop up path)) ∷ []) a.cells.view b.cells.view → DoesAsShared a b
       does_one never a b only = does_only IsAsShared (cell_of run number (start_of (drop up path)) ∷ []) a b only (λ place at act there.
           let such = at_cell place act (λ v is. absurd (never (fit.computes key up v changes is))) in
           elim (contains_cons (cell_of run number (start_of (drop up path))) [] at there) [
@@ -387,16 +443,19 @@ module _ (run : RunView) (view : IsRunView run) (tree : IsTree run.store.tree) (
             | inr none ↦ absurd (contains_none at none)
           ])
 
-      -- one that computes this value
-      does_compute : (v : ValueText) → ((w : ValueText) → shared (start_of (drop up path)) (key_of_step keys key) ≡ Some w → w ≡ v) → (name label : List ℕ) (a : PlanLane) (o : Outcome) (b : PlanLane) → IsLaneIn run b
-          → IsPrefix g (seen_by a.cells.view) → IsPrefix (seen_by b.cells.view) h → ComputesValue run.store (start_of (drop up path)) number name label v a o b → DoesAsShared a b
-      does_compute v is_value name label a o b lane low high made =
+      -- one that computes this
+      does_compute : (v : Given) → (ComputesShared step → shared (start_of (drop up path)) (key_of_step keys key) ≡ Some v) → (a b : PlanLane)
+          → Does (ComputesThere run h g tree number (start_of (drop up path)) v) a.cells.view b.cells.view → DoesAsShared a b
+      does_compute v is_given a b does =
           let start : ℕ = start_of (drop up path) in
           does_more (ComputesThere run h g tree number start v) IsAsShared a.cells.view b.cells.view
           (λ place at act its.
-          let such = at_cell place act (λ w is. subst (λ x. IsComputing run h g place number start x act) (sym (is_value w is)) its.computing) in
+          let such = at_cell place act (λ w is.
+          let both : Some w ≡ Some v = sym is ∙ is_given (fit.computes key up w changes is) in
+          let same : w ≡ v = cc both in
+          subst (λ x. IsComputing run h g place number start x act) (sym same) its.computing) in
           subst (λ c. IsAsShared place c act) (sym its.at_is) such)
-          (compute_does run h g tree number start v name label a o b lane low high made)
+          does
 
     does_nothing : (a b : PlanLane) → Only [] a.cells.view b.cells.view → DoesAsShared a b
     does_nothing a b only = does_only IsAsShared [] a b only (λ place at act there. absurd (contains_none at there))
@@ -418,7 +477,7 @@ module _ (run : RunView) (view : IsRunView run) (tree : IsTree run.store.tree) (
       has_number : (number : ℕ) → IsKeyNumber b.keys (key_of_step keys key) number → HasNumberIn run (key_of_step keys key) number
       has_number number named = number_stays b.keys run.numbering (key_of_step keys key) number lane.keys named
 
-      puts : (ComputesOpen keys path shared step → ⊥) → (value : ValueText) → StepPuts run.store (call_of keys path name key up) value a o b → DoesAsShared a b
+      puts : (ComputesShared step → ⊥) → (value : ValueText) → StepPuts run.store (call_of keys path name key up) value a o b → DoesAsShared a b
       puts never value (inr n) = does_nothing a b (keep_fails run.store a.cells b.cells n.why n.keeps_nothing.fails)
       puts never value (inl p) = does_then IsAsShared a.cells.view p.between.cells.view b.cells.view (does_nothing a p.between (keeps_only p.kept_value a p.between p.kept p.keeps)) (stores p)
         where
@@ -428,30 +487,51 @@ module _ (run : RunView) (view : IsRunView run) (tree : IsTree run.store.tree) (
             | inr refused ↦ still p.between b refused.1.still
           ]
 
-      removes : (ComputesOpen keys path shared step → ⊥) → StepRemoves run.store (call_of keys path name key up) a o b → DoesAsShared a b
+      removes : (ComputesShared step → ⊥) → StepRemoves run.store (call_of keys path name key up) a o b → DoesAsShared a b
       removes never (inl made) = does_one step fit key up changes made.0 (has_number made.0 made.1) never a b (removes_only run.store (start_of (drop up path)) made.0 a.cells b.cells made.2.result made.2.removes)
       removes never (inr refused) = still a b refused.1.still
 
-      fails : (ComputesOpen keys path shared step → ⊥) → (text : List ℕ) → StepFails run.store (call_of keys path name key up) text a o b → DoesAsShared a b
-      fails never text (inl made) = does_one step fit key up changes made.0 (has_number made.0 made.1) never a b (waits_only run.store (start_of (drop up path)) made.0 a.cells b.cells made.2.result made.2.computed)
-      fails never text (inr refused) = still a b refused.1.still
-
-      computing : (v : ValueText) → (ComputesOpen keys path shared step → shared (start_of (drop up path)) (key_of_step keys key) ≡ Some v) → IsPrefix g (seen_by a.cells.view) → IsPrefix (seen_by b.cells.view) h
+      gives : (v : ValueText) → (ComputesShared step → shared (start_of (drop up path)) (key_of_step keys key) ≡ Some (values.of_value v)) → IsPrefix g (seen_by a.cells.view) → IsPrefix (seen_by b.cells.view) h
           → StepComputes run.store (call_of keys path name key up) v a o b → DoesAsShared a b
-      computing v is_value low high (inl made) =
-          does_compute step fit key up changes made.0 (has_number made.0 made.1) v
-          (λ w is. let both : Some w ≡ Some v = sym is ∙ is_value (fit.computes key up w changes is) in cc both) _ _ a o b lane low high made.2
-      computing v is_value low high (inr refused) = still a b refused.1.still
+      gives v is_given low high (inl made) =
+          does_compute step fit key up changes made.0 (has_number made.0 made.1) (values.of_value v) is_given a b
+          (value_does run h g tree made.0 (start_of (drop up path)) name (label_of keys key) a o b lane low high v made.2)
+      gives v is_given low high (inr refused) = still a b refused.1.still
+
+      fails : (text : List ℕ) → (ComputesShared step → shared (start_of (drop up path)) (key_of_step keys key) ≡ Some (left_by text)) → IsPrefix g (seen_by a.cells.view) → IsPrefix (seen_by b.cells.view) h
+          → StepFails run.store (call_of keys path name key up) text a o b → DoesAsShared a b
+      fails text is_given low high (inl made) =
+          does_compute step fit key up changes made.0 (has_number made.0 made.1) (left_by text) is_given a b
+          (fault_does run h g tree made.0 (start_of (drop up path)) name (label_of keys key) a o b lane low high text (left_by text) legal (λ keeps. ap (left_if text) keeps) made.2)
+      fails text is_given low high (inr refused) = still a b refused.1.still
+
+    -- what a step gives that computes, and is shared
+    shared_value : (word : Word) (key : StepKeyText) (text : List ℕ) (up : ℕ) → (word ≡ words.ComputeFail → ⊥) → ComputesShared (keyed word key text up)
+        → shared (start_of (drop up path)) (key_of_step keys key) ≡ Some (given_by true word text)
+    shared_value word key text up never (inl it) = it.1
+    shared_value word key text up never (inr fails) = absurd (never fails.0)
+
+    shared_fault : (key : StepKeyText) (text : List ℕ) (up : ℕ) → ComputesShared (keyed words.ComputeFail key text up) → shared (start_of (drop up path)) (key_of_step keys key) ≡ Some (left_by text)
+    shared_fault key text up (inl it) =
+        let start : ℕ = start_of (drop up path) in
+        it.1 ∙ ap Some (sym (ap (left_if text) (kept start (key_of_step keys key) (values.of_fault text) it.1)))
+    shared_fault key text up (inr fails) =
+        let start : ℕ = start_of (drop up path) in
+        fails.1 ∙ ap Some (sym (ap (left_if text) (kept start (key_of_step keys key) (values.of_nothing text) fails.1)))
+
+    never_computes : (word : Word) (key : StepKeyText) (text : List ℕ) (up : ℕ) → step_words.computes word ≡ false → ComputesShared (keyed word key text up) → ⊥
+    never_computes word key text up none (inl it) = let both : true ≡ false = sym it.0 ∙ none in cc both
+    never_computes word key text up none (inr fails) = let both : true ≡ false = ap step_words.computes (sym fails.0) ∙ none in cc both
 
     step_does : (step : StepText) (a : PlanLane) (o : Outcome) (b : PlanLane) → StepRun run.store keys path step a o b → IsFit step → IsLaneIn run b → IsPrefix g (seen_by a.cells.view) → IsPrefix (seen_by b.cells.view) h → DoesAsShared a b
-    step_does (keyed words.Put key text up) a o b (inl made) fit lane low high = puts (keyed words.Put key text up) fit key up refl (codes "put") a o b lane (λ never. cc never.0) _ made
-    step_does (keyed words.PutCloseable key text up) a o b (inl made) fit lane low high = puts (keyed words.PutCloseable key text up) fit key up refl (codes "put!") a o b lane (λ never. cc never.0) _ made
+    step_does (keyed words.Put key text up) a o b (inl made) fit lane low high = puts (keyed words.Put key text up) fit key up refl (codes "put") a o b lane (never_computes words.Put key text up refl) _ made
+    step_does (keyed words.PutCloseable key text up) a o b (inl made) fit lane low high = puts (keyed words.PutCloseable key text up) fit key up refl (codes "put!") a o b lane (never_computes words.PutCloseable key text up refl) _ made
     step_does (keyed words.Want key text up) a o b (inl made) fit lane low high = looks (call_of keys path (codes "want") key up) _ a o b made
     step_does (keyed words.None key text up) a o b (inl made) fit lane low high = looks (call_of keys path (codes "none") key up) _ a o b made
-    step_does (keyed words.Remove key text up) a o b (inl made) fit lane low high = removes (keyed words.Remove key text up) fit key up refl (codes "remove") a o b lane (λ never. cc never.0) made
-    step_does (keyed words.Compute key text up) a o b (inl made) fit lane low high = computing (keyed words.Compute key text up) fit key up refl (codes "compute") a o b lane _ (λ is. is.1) low high made
-    step_does (keyed words.ComputeCloseable key text up) a o b (inl made) fit lane low high = computing (keyed words.ComputeCloseable key text up) fit key up refl (codes "compute!") a o b lane _ (λ is. is.1) low high made
-    step_does (keyed words.ComputeFail key text up) a o b (inl made) fit lane low high = fails (keyed words.ComputeFail key text up) fit key up refl (codes "computefail") a o b lane (λ never. cc never.0) text made
+    step_does (keyed words.Remove key text up) a o b (inl made) fit lane low high = removes (keyed words.Remove key text up) fit key up refl (codes "remove") a o b lane (never_computes words.Remove key text up refl) made
+    step_does (keyed words.Compute key text up) a o b (inl made) fit lane low high = gives (keyed words.Compute key text up) fit key up refl (codes "compute") a o b lane _ (shared_value words.Compute key text up (λ is. cc is)) low high made
+    step_does (keyed words.ComputeCloseable key text up) a o b (inl made) fit lane low high = gives (keyed words.ComputeCloseable key text up) fit key up refl (codes "compute!") a o b lane _ (shared_value words.ComputeCloseable key text up (λ is. cc is)) low high made
+    step_does (keyed words.ComputeFail key text up) a o b (inl made) fit lane low high = fails (keyed words.ComputeFail key text up) fit key up refl (codes "computefail") a o b lane text (shared_fault key text up) low high made
     step_does (keyed word key text up) a o b (inr lacks) fit lane low high = unchanged a b (finds_none keys word key a o b lacks).unchanged
     step_does (fail text) a o b made fit lane low high = unchanged a b made.0
     step_does (abort text) a o b made fit lane low high = unchanged a b made.0

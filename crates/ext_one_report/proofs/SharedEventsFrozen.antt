@@ -1,9 +1,8 @@
 -- Where a value stands, or stands above, and all events at the place are by those who would compute it, nothing happens there.
-use Rattle.std.proofs.Common.{◌≡◌, ℕ, ◌≤◌, inl, inr, ◌⊎◌, true, List, [], ◌∷◌, ◌++◌, Option, Some, None, length, length-append, refl, ap, sym, subst, ◌∙◌, arith, nat_eq, append_assoc, append-nil}
+use Rattle.std.proofs.Common.{◌≡◌, ℕ, ◌≤◌, inl, inr, ◌⊎◌, List, [], ◌∷◌, ◌++◌, Option, Some, None, length, length-append, refl, ap, sym, subst, ◌∙◌, arith, nat_eq, append_assoc, append-nil}
 use Rattle.std.specs.Prelude.{All, slice_get}
 use mathlib.Core.List.{IsPrefix, append_cancel_left}
 use base.Growing.{prefix_trans}
-use Rattle.std.proofs.lemmas.Bool.Decides.{nat_tests}
 use Rattle.std.proofs.lemmas.List.Elements.{All-cons, All-head, All-nil, All-tail, All-weaker}
 use Rattle.ext_history.proofs.Lists.{bools, left_nil}
 use Rattle.ext_model.specs.declared.event.Act.{Act}
@@ -14,16 +13,16 @@ use Rattle.ext_model.specs.declared.slot.Slot.{Slot}
 use Rattle.ext_model.specs.declared.slot.Slot.TheVariants as slot
 use Rattle.ext_model.specs.State.{lookup}
 use Rattle.ext_model.specs.CallActs.{look_after}
-use Rattle.ext_model.specs.Events.{Happens, end_reply, is_at, is_on, place_of}
+use Rattle.ext_model.specs.Events.{Happens, end_reply, is_on, place_of}
 use Rattle.ext_model.specs.History.{History, IsLegal, Limits, reply_after, slots_in, state_after}
 use Rattle.ext_model.proofs.Lookups.{lookup_past, nearest_decides}
-use Rattle.ext_plan.specs.Values.{ValueText}
 use Rattle.ext_engine.proofs.Acts.{shorter}
 use Rattle.ext_one_report.specs.Changing.{events_at}
 use Rattle.ext_one_report.proofs.Events.{behind_part}
 use Rattle.ext_one_report.proofs.MatchingWords.{RunView, cell_of}
 use Rattle.ext_one_report.proofs.OnCells.{at-append, passes_not, same_slot}
-use Rattle.ext_one_report.proofs.Open.{Computes}
+use Rattle.ext_one_report.proofs.Sees.{at_place}
+use Rattle.ext_one_report.proofs.Open.{Computes, Given}
 use Rattle.ext_one_report.proofs.SharedEventsWords.{FrozenIsQuiet, IsLookedFor, IsSeenBetween}
 
 -- ---- the first event on a cell
@@ -37,14 +36,10 @@ record IsFirstAt (cell : ℕ) (more : History) : Type 0 where
   none : events_at cell quiet ≡ []
   on : place_of event.act ≡ Some cell
 
-on_place : (cell : ℕ) (place : Option ℕ) → is_at nat_eq cell place ≡ true → place ≡ Some cell
-on_place cell None on = absurd (cc on)
-on_place cell (Some at) on = let e : at ≡ cell = grind (arith, nat_tests) in ap Some e
-
 first_at : (cell : ℕ) (more : History) → (events_at cell more ≡ []) ⊎ IsFirstAt cell more
 first_at cell [] = inl refl
 first_at cell (e ∷ more) = elim (bools (is_on nat_eq cell e.act)) [
-  | inl on ↦ inr (record { quiet = []; event = e; later = more; is = refl; none = refl; on = on_place cell (place_of e.act) on })
+  | inl on ↦ inr (record { quiet = []; event = e; later = more; is = refl; none = refl; on = at_place cell (place_of e.act) on })
   | inr off ↦ elim (first_at cell more) [
     | inl none ↦ inl (passes_not (λ (x : Event ℕ). is_on nat_eq cell x.act) e more off ∙ none)
     | inr one ↦ inr (record {
@@ -90,8 +85,8 @@ claim_stands lane (Some (slot.Fault number)) answer is = absurd (cc is)
 claim_stands lane (Some (slot.Claim by)) answer is = (by, refl)
 claim_stands lane (Some (slot.Sealed kept)) answer is = absurd (cc is)
 
--- where no claim stands, an event that computes the value is a claim
-is_claim : (run : RunView) (v : ValueText) (limits : Limits) (h : History) (lane cell : ℕ) (act : Act ℕ) (answer : Option ℕ) → place_of act ≡ Some cell → Computes run v act → reply_after limits h lane act ≡ Happens answer
+-- where no claim stands, an event of those who compute there is a claim
+is_claim : (run : RunView) (v : Given) (limits : Limits) (h : History) (lane cell : ℕ) (act : Act ℕ) (answer : Option ℕ) → place_of act ≡ Some cell → Computes run v act → reply_after limits h lane act ≡ Happens answer
     → ((by : ℕ) → ¬ ((state_after h).slots cell ≡ Some (slot.Claim by))) → act ≡ Claim cell
 is_claim run v limits h lane cell (Keep number) answer on computes happens none = absurd computes
 is_claim run v limits h lane cell (Put at number) answer on computes happens none = absurd computes
@@ -101,7 +96,10 @@ is_claim run v limits h lane cell (Fill at number) answer on computes happens no
     let e : at ≡ cell = cc on in
     let by = claim_stands lane ((state_after h).slots at) answer happens in
     absurd (none by.0 (subst (λ c. (state_after h).slots c ≡ Some (slot.Claim by.0)) e by.1))
-is_claim run v limits h lane cell (Fail at number) answer on computes happens none = absurd computes
+is_claim run v limits h lane cell (Fail at number) answer on computes happens none =
+    let e : at ≡ cell = cc on in
+    let by = claim_stands lane ((state_after h).slots at) answer happens in
+    absurd (none by.0 (subst (λ c. (state_after h).slots c ≡ Some (slot.Claim by.0)) e by.1))
 is_claim run v limits h lane cell (Abandon at) answer on computes happens none =
     let e : at ≡ cell = cc on in
     let by = claim_stands lane ((state_after h).slots at) answer happens in
@@ -130,7 +128,7 @@ look_stays cell_of_it context path g p before j since in_before in_j quiet above
     All-weaker (λ c. events_at (cell_of_it c) j ≡ events_at (cell_of_it c) g) Same (λ c is. same_slot p g (cell_of_it c) (between_same (cell_of_it c) g p j since in_j is)) path above in
     look_same (slots_in cell_of_it p) (slots_in cell_of_it g) (context ∷ path) (All-cons Same context path here higher)
 
-module _ (run : RunView) (h g j : History) (context number : ℕ) (path : List ℕ) (v : ValueText) (legal : IsLegal run.store.id.cells.limits h)
+module _ (run : RunView) (h g j : History) (context number : ℕ) (path : List ℕ) (v : Given) (legal : IsLegal run.store.id.cells.limits h)
     (computes : (place : ℕ) (event : Event ℕ) → IsSeenBetween g j place → slice_get h place ≡ Some event → place_of event.act ≡ Some (cell_of run number context) → Computes run v event.act)
     (looked : (place : ℕ) (event : Event ℕ) → IsSeenBetween g j place → slice_get h place ≡ Some event → event.act ≡ Claim (cell_of run number context) → IsLookedFor run h g place number (context ∷ path))
     (above : All (λ c. events_at (cell_of run number c) j ≡ events_at (cell_of run number c) g) path) (no_claim : (lane : ℕ) → ¬ (slots_in (cell_of run number) g context ≡ Some (slot.Claim lane)))

@@ -1,6 +1,6 @@
--- The places that a node shares: a node at or below it touches them, and so does one beside it, and one of both changes them. All of these compute one value there, or find it.
+-- The places that a node shares: a node at or below it touches them, and so does one beside it, and one of both changes them. All of these compute the same there, or find it, or all of them fail there with one text.
 use Rattle.std.proofs.Common.{◌≡◌, ◌<◌, ℕ, Bool, true, false, List, [], ◌∷◌, length, Contains, Option, Some, None, refl, ap, sym, subst, ◌∙◌, arith, inl, inr, eq-eqb}
-use Rattle.std.specs.Prelude.{◌==◌, ◌&&◌, ◌||◌, ◌⊎◌, find, if◌then◌else◌, option_map, drop}
+use Rattle.std.specs.Prelude.{◌==◌, ◌&&◌, ◌||◌, ◌⊎◌, find, if◌then◌else◌, drop}
 use Rattle.std.specs.Cmp.Lexicographic.{bytes_decides}
 use Rattle.std.specs.List.{list_any}
 use Rattle.std.specs.Str.{bytes_eq}
@@ -11,24 +11,24 @@ use Rattle.ext_tree.specs.Keys.{KeyValue}
 use Rattle.ext_plan.specs.Plans.{PlanText}
 use Rattle.ext_plan.specs.ReadPlans.{IsReadPlan, ids_of_nodes}
 use Rattle.ext_plan.specs.StoreKeys.{place_of_key}
-use Rattle.ext_plan.specs.Values.{ValueText}
-use Rattle.ext_plan.specs.declared.word.Word.TheVariants as words
 use Rattle.ext_races.specs.Clashes.{agree}
 use Rattle.ext_races.specs.Beside.{nodes_beside}
 use Rattle.ext_races.specs.MadeSteps.{plan_path}
 use Rattle.ext_races.specs.Touches.{TouchText, keys_named, touches_made}
-use Rattle.ext_plan.specs.StepWords.{computes, gives_value, word_eq}
+use Rattle.ext_plan.specs.StepWords.{computes, word_eq}
 use Rattle.ext_races.proofs.Equalities.{word_is}
 use Rattle.ext_races.proofs.Lists.{contains_first, contains_later}
 use Rattle.ext_races.proofs.Sides.{nodes_found, nodes_told}
 use Rattle.ext_races.proofs.TouchNodes.{touch_within}
-use Rattle.ext_one_report.specs.Shares.{is_at, is_beside_at, is_shared_at, shares_in, value_given}
+use Rattle.ext_one_report.specs.Shares.{is_at, is_beside_at, is_shared_at}
 use Rattle.ext_races.specs.OneReports.{SharesValues}
 use Rattle.ext_one_report.specs.Within.{is_within}
 use Rattle.ext_one_report.proofs.ComputedAbove.{IsComputedIn}
 use Rattle.ext_one_report.proofs.CoveredPaths.{path_holds, path_there}
 use Rattle.ext_one_report.proofs.CoveredPlans.{IsTouchedBelow, within_found}
 use Rattle.ext_one_report.proofs.FoundAbove.{IsFoundAbove, how_it_acts, key_there, one_key}
+use Rattle.ext_one_report.proofs.Open.{Given, given_by}
+use Rattle.ext_one_report.proofs.Shared.{given_in, given_of}
 use Rattle.ext_one_report.proofs.SharedBeside.{AreBelow, above_both, above_cases, also_below, are_below, are_beside, turned}
 
 -- ---- the first that passes
@@ -50,9 +50,13 @@ find_some p (y ∷ xs) any = elim (cases_Bool (p y)) [
   | inr fails ↦ let rest = find_some p xs (rw fails at any) in (rest.0, ap (λ (b : Bool). if b then Some y else find p xs) fails ∙ rest.1)
 ]
 
-mapped : {A B : Type 0} (f : A → B) (o : Option A) (v : B) → option_map f o ≡ Some v → (x : A) × (o ≡ Some x) × (f x ≡ v)
-mapped f None v e = absurd (cc e)
-mapped f (Some x) v e = (x, refl, cc e)
+-- what the touch computes, or finds
+abbrev pub touch_gives : PlanText → TouchText → Given
+touch_gives plan touch = given_by plan.keep_faults touch.acts touch.text
+
+given_touch : (plan : PlanText) (o : Option TouchText) (v : Given) → given_of plan o ≡ Some v → (t : TouchText) × (o ≡ Some t) × (touch_gives plan t ≡ v)
+given_touch plan None v e = absurd (cc e)
+given_touch plan (Some t) v e = (t, refl, cc e)
 
 -- ---- what a node shares
 
@@ -81,10 +85,10 @@ beside_at plan node context key is = record { touch = is.touch; made = is.made; 
 abbrev pub EitherChanges : TouchText → TouchText → Type 0
 EitherChanges t u = (t.changes ≡ true) ⊎ (u.changes ≡ true)
 
--- a node at or below this one gives the value there, and a node beside it touches the place
-pub record IsShared (plan : PlanText) (node context : ℕ) (key : KeyValue) (v : ValueText) : Type 0 where
+-- a node at or below this one computes this there, and a node beside it touches the place
+pub record IsShared (plan : PlanText) (node context : ℕ) (key : KeyValue) (v : Given) : Type 0 where
   pub first : IsTouchedBelow plan node context key false
-  pub gives : value_given first.touch ≡ v
+  pub gives : touch_gives plan first.touch ≡ v
   pub second : IsTouchedBeside plan node context key
   pub one : EitherChanges first.touch second.touch
 
@@ -160,10 +164,10 @@ module _ (plan : PlanText) (read : IsReadPlan plan) where
         and_from (is_at plan node context key one.touch) (list_any changing (touches_made plan)) (below_told told one)
         (told_any changing two.touch two.made (and_from (is_beside_at plan node context key two.touch) (one.touch.changes || two.touch.changes) (beside_told two less) (either_told one.touch two.touch either)))
 
-    pub shares_found : (v : ValueText) → shares_in plan node context key ≡ Some v → IsShared plan node context key v
-    unfolding shares_in below_found beside_found
+    pub shares_found : (v : Given) → given_in plan node context key ≡ Some v → IsShared plan node context key v
+    unfolding given_in below_found beside_found
     shares_found v e =
-        let one = mapped value_given (find (is_shared_at plan node context key) (touches_made plan)) v e in
+        let one = given_touch plan (find (is_shared_at plan node context key) (touches_made plan)) v e in
         let there = find_is (is_shared_at plan node context key) (touches_made plan) one.0 one.1 in
         let changing : TouchText → Bool = λ u. is_beside_at plan node context key u && (one.0.changes || u.changes) in
         let parts = and_parts (is_at plan node context key one.0) (list_any changing (touches_made plan)) there.1 in
@@ -177,32 +181,36 @@ module _ (plan : PlanText) (read : IsReadPlan plan) where
           one = or_cases one.0.changes some.1.changes both.1;
         }
 
-    shares_some : (told : Bool) → (one : IsTouchedBelow plan node context key told) → (two : IsTouchedBeside plan node context key) → EitherChanges one.touch two.touch → (v : ValueText) × (shares_in plan node context key ≡ Some v)
-    unfolding shares_in
+    shares_some : (told : Bool) → (one : IsTouchedBelow plan node context key told) → (two : IsTouchedBeside plan node context key) → EitherChanges one.touch two.touch → (v : Given) × (given_in plan node context key ≡ Some v)
+    unfolding given_in
     shares_some told one two either =
         let first = find_some (is_shared_at plan node context key) (touches_made plan) (told_any (is_shared_at plan node context key) one.touch one.made (shared_told told one two either)) in
-        (value_given first.0, ap (option_map value_given) first.1)
+        (touch_gives plan first.0, ap (given_of plan) first.1)
 
 -- ---- touches that agree
 
-agreed : (t u : TouchText) → agree t u ≡ true → (t.acts ≡ u.acts) × (value_given t ≡ value_given u)
+-- both compute, or find what is computed, with one word and one text
+pub record AreOne (t u : TouchText) : Type 0 where
+  pub computing : computes t.acts ≡ true
+  pub acts : t.acts ≡ u.acts
+  pub text : t.text ≡ u.text
+
+pub agreed : (t u : TouchText) → agree t u ≡ true → AreOne t u
 agreed t u is =
     let all = and_parts (computes t.acts && word_eq t.acts u.acts) (bytes_eq t.text u.text) is in
     let more = and_parts (computes t.acts) (word_eq t.acts u.acts) all.0 in
-    let acts = word_is t.acts u.acts more.1 in
-    let text = (bytes_decides t.text u.text).0 all.1 in
-    (acts, λ i. record { text = text i; closeable = word_eq (acts i) words.ComputeCloseable })
+    record { computing = more.0; acts = word_is t.acts u.acts more.1; text = (bytes_decides t.text u.text).0 all.1 }
 
--- it computes this value, or finds it
-pub record Gives (t : TouchText) (v : ValueText) : Type 0 where
-  pub acts : gives_value t.acts ≡ true
-  pub value : value_given t ≡ v
+-- it computes this, or finds it
+pub record Gives (plan : PlanText) (t : TouchText) (v : Given) : Type 0 where
+  pub acts : computes t.acts ≡ true
+  pub value : touch_gives plan t ≡ v
 
--- both give one value
-pub record GiveOne (t u : TouchText) : Type 0 where
-  pub first : gives_value t.acts ≡ true
-  pub second : gives_value u.acts ≡ true
-  pub value : value_given t ≡ value_given u
+-- both compute one thing, or find it
+pub record GiveOne (plan : PlanText) (t u : TouchText) : Type 0 where
+  pub first : computes t.acts ≡ true
+  pub second : computes u.acts ≡ true
+  pub value : touch_gives plan t ≡ touch_gives plan u
 
 -- what may change its place counts as its own word
 pub own_word : (plan : PlanText) → IsReadPlan plan → (t : TouchText) → Contains (touches_made plan) t → t.changes ≡ true → t.acts ≡ t.word
@@ -217,15 +225,14 @@ own_word plan read t made changing = elim (how_it_acts plan read t made) [
 module _ (plan : PlanText) (read : IsReadPlan plan) (shares : SharesValues plan) where
   -- ---- two nodes beside one another
 
-  give_alike : (context : ℕ) (key : KeyValue) (x y : IsTouchedAt plan context key) → AreBelow plan x.touch.node y.touch.node → x.touch.changes ≡ true → GiveOne x.touch y.touch
+  give_alike : (context : ℕ) (key : KeyValue) (x y : IsTouchedAt plan context key) → AreBelow plan x.touch.node y.touch.node → x.touch.changes ≡ true → GiveOne plan x.touch y.touch
   give_alike context key x y beside changing =
       let alike = shares.alike x.touch y.touch x.made y.made (are_beside plan read x.touch.node y.touch.node beside) changing (x.context_is ∙ sym y.context_is) (x.key_is ∙ sym y.key_is) in
-      let same = agreed x.touch y.touch alike.0 in
-      let gives = ap gives_value (own_word plan read x.touch x.made changing) ∙ alike.1 in
-      record { first = gives; second = ap gives_value (sym same.0) ∙ gives; value = same.1 }
+      let same = agreed x.touch y.touch alike in
+      record { first = same.computing; second = ap computes (sym same.acts) ∙ same.computing; value = λ i. given_by plan.keep_faults (same.acts i) (same.text i) }
 
   -- where one of both changes the place that both touch
-  pub give_one : (context : ℕ) (key : KeyValue) (x y : IsTouchedAt plan context key) → AreBelow plan x.touch.node y.touch.node → EitherChanges x.touch y.touch → GiveOne x.touch y.touch
+  pub give_one : (context : ℕ) (key : KeyValue) (x y : IsTouchedAt plan context key) → AreBelow plan x.touch.node y.touch.node → EitherChanges x.touch y.touch → GiveOne plan x.touch y.touch
   give_one context key x y beside (inl first) = give_alike context key x y beside first
   give_one context key x y beside (inr second) =
       let both = give_alike context key y x (turned plan read x.touch.node y.touch.node beside) second in
@@ -233,27 +240,27 @@ module _ (plan : PlanText) (read : IsReadPlan plan) (shares : SharesValues plan)
 
   -- a node at or below this one, and one beside it
   pub both_give : (node context : ℕ) (key : KeyValue) (told : Bool) → (one : IsTouchedBelow plan node context key told) → (two : IsTouchedBeside plan node context key) → EitherChanges one.touch two.touch
-      → GiveOne one.touch two.touch
+      → GiveOne plan one.touch two.touch
   both_give node context key told one two either =
       give_one context key (below_at plan node context key told one) (beside_at plan node context key two) (also_below plan read node two.touch.node one.touch.node two.beside one.below) either
 
   -- ---- what a node shares
 
-  module _ (node context : ℕ) (key : KeyValue) (v : ValueText) (is : IsShared plan node context key v) where
+  module _ (node context : ℕ) (key : KeyValue) (v : Given) (is : IsShared plan node context key v) where
     abbrev pair : Type 0
-    pair = GiveOne is.first.touch is.second.touch
+    pair = GiveOne plan is.first.touch is.second.touch
 
     both : pair
     both = both_give node context key false is.first is.second is.one
 
-    pub first_gives : Gives is.first.touch v
+    pub first_gives : Gives plan is.first.touch v
     first_gives = record { acts = both.first; value = is.gives }
 
-    pub second_gives : Gives is.second.touch v
+    pub second_gives : Gives plan is.second.touch v
     second_gives = record { acts = both.second; value = sym both.value ∙ is.gives }
 
-    -- each node at or below it that changes the place gives the value,
-    pub changing_gives : (told : Bool) → (one : IsTouchedBelow plan node context key told) → one.touch.changes ≡ true → Gives one.touch v
+    -- each node at or below it that changes the place computes this,
+    pub changing_gives : (told : Bool) → (one : IsTouchedBelow plan node context key told) → one.touch.changes ≡ true → Gives plan one.touch v
     changing_gives told one changing =
         let give = both_give node context key told one is.second (inl changing) in
         record { acts = give.first; value = give.value ∙ second_gives.value }
@@ -293,46 +300,46 @@ module _ (plan : PlanText) (read : IsReadPlan plan) (shares : SharesValues plan)
           key_is = from.key_is ∙ u.key_is;
         }
 
-    -- so a node beside it changes the place, and gives the value
+    -- so a node beside it changes the place, and computes this
     pub record IsChangedBeside : Type 0 where
       pub two : IsTouchedBeside plan node context key
       pub changes : two.touch.changes ≡ true
-      pub value : value_given two.touch ≡ v
+      pub value : touch_gives plan two.touch ≡ v
 
     pub changed_beside : ¬ IsComputedIn plan (drop 1 (plan_path plan node)) context key → IsChangedBeside
     unfolding computed_beside
     changed_beside none = elim (how_it_acts plan read is.second.touch is.second.made) [
       | inl own ↦ record { two = is.second; changes = own.0; value = second_gives.value }
       | inr still ↦ elim still [
-        | inl looks ↦ absurd (want_gives_none (sym (ap gives_value looks.1) ∙ second_gives.acts))
+        | inl looks ↦ absurd (want_computes (sym (ap computes looks.1) ∙ second_gives.acts))
         | inr finds ↦
             let from = finds.2 in record {
               two = computed_beside from none;
               changes = from.changes;
-              value = (λ i. record { text = from.text i; closeable = word_eq (from.acts i) words.ComputeCloseable }) ∙ second_gives.value;
+              value = (λ i. given_by plan.keep_faults (from.acts i) (from.text i)) ∙ second_gives.value;
             }
       ]
     ]
       where
-        want_gives_none : false ≡ true → ⊥
-        want_gives_none is = absurd (cc is)
+        want_computes : false ≡ true → ⊥
+        want_computes is = absurd (cc is)
 
-    -- and all at or below it give the value
-    pub all_give : ¬ IsComputedIn plan (drop 1 (plan_path plan node)) context key → (told : Bool) → (one : IsTouchedBelow plan node context key told) → Gives one.touch v
+    -- and all at or below it compute this, or find it
+    pub all_give : ¬ IsComputedIn plan (drop 1 (plan_path plan node)) context key → (told : Bool) → (one : IsTouchedBelow plan node context key told) → Gives plan one.touch v
     all_give none told one =
         let other = changed_beside none in
         let give = both_give node context key told one other.two (inr other.changes) in
         record { acts = give.first; value = give.value ∙ other.value }
 
-  -- ---- which value it is
+  -- ---- what it is
 
-  -- it shares the value where a node at or below it touches the place, and a node beside it, and one of both changes it
+  -- it shares what is computed where a node at or below it touches the place, and a node beside it, and one of both changes it
   pub shares_told : (node context : ℕ) (key : KeyValue) (told : Bool) → (one : IsTouchedBelow plan node context key told) → (two : IsTouchedBeside plan node context key) → EitherChanges one.touch two.touch
-      → shares_in plan node context key ≡ Some (value_given one.touch)
+      → given_in plan node context key ≡ Some (touch_gives plan one.touch)
   shares_told node context key told one two either =
       let some = shares_some plan read node context key told one two either in
       let is = shares_found plan read node context key some.0 some.1 in
-      let same : some.0 ≡ value_given one.touch =
+      let same : some.0 ≡ touch_gives plan one.touch =
       elim either [
         | inl changing ↦ sym (changing_gives node context key some.0 is told one changing).value
         | inr changing ↦

@@ -7,8 +7,7 @@ use Rattle.ext_tree.proofs.Walks.{one_path}
 use Rattle.ext_plan.specs.Plans.{PlanText}
 use Rattle.ext_plan.specs.PlanCalls.{concurrent_of}
 use Rattle.ext_plan.specs.ReadPlans.{IsReadPlan, ids_of_nodes}
-use Rattle.ext_plan.specs.StepWords.{gives_value}
-use Rattle.ext_plan.specs.Values.{ValueText}
+use Rattle.ext_plan.specs.StepWords.{computes}
 use Rattle.ext_plan.specs.declared.word.Word.TheVariants as words
 use Rattle.ext_races.specs.MadeSteps.{plan_path}
 use Rattle.ext_races.specs.Touches.{TouchText, touches_made}
@@ -18,27 +17,26 @@ use Rattle.ext_one_report.specs.Within.{is_within}
 use Rattle.ext_one_report.proofs.CoveredPaths.{has_context, path_there}
 use Rattle.ext_one_report.proofs.CoveredPlans.{IsTouchedBelow, changed_cases, changed_touched, siblings, touched_by, touched_cases, within_itself, within_parent, within_told}
 use Rattle.ext_one_report.proofs.CoveredTouches.{touch_on_path}
-use Rattle.ext_one_report.specs.Shares.{shares_in, value_given}
 use Rattle.ext_races.specs.OneReports.{SharesValues}
-use Rattle.ext_one_report.proofs.Open.{some_or_none}
-use Rattle.ext_one_report.proofs.Shared.{unshared}
+use Rattle.ext_one_report.proofs.Open.{Given, some_or_none}
+use Rattle.ext_one_report.proofs.Shared.{given_in, unshared}
 use Rattle.ext_one_report.proofs.ComputedAbove.{IsComputedIn}
 use Rattle.ext_one_report.proofs.SharedBeside.{AreBelow, IsBelowOther, also_below, beside_cases, not_below, turned, within_through}
-use Rattle.ext_one_report.proofs.SharedFound.{EitherChanges, IsShared, IsTouchedAt, IsTouchedBeside, above_near, below_at, beside_at, both_give, changed_beside, changing_gives, first_gives, give_one, same_count, second_gives, shares_found, shares_told}
+use Rattle.ext_one_report.proofs.SharedFound.{EitherChanges, IsShared, IsTouchedAt, IsTouchedBeside, above_near, below_at, beside_at, both_give, changed_beside, changing_gives, first_gives, give_one, same_count, second_gives, shares_found, shares_told, touch_gives}
 use Rattle.ext_one_report.proofs.SharedTouches.{IsLooked, compute_looks}
 
 -- what is touched and not shared
-pub unshared_is : (plan : PlanText) (node context : ℕ) (key : KeyValue) → touched_in plan node context key ≡ true → shares_in plan node context key ≡ None
-    → unshared (touched_in plan node) (shares_in plan node) context key ≡ true
+pub unshared_is : (plan : PlanText) (node context : ℕ) (key : KeyValue) → touched_in plan node context key ≡ true → given_in plan node context key ≡ None
+    → unshared (touched_in plan node) (given_in plan node) context key ≡ true
 unshared_is plan node context key touched none = rw none touched
 
 -- what it may change it touches
 weaker : (plan : PlanText) (node context : ℕ) (key : KeyValue) (told : Bool) → IsTouchedBelow plan node context key told → IsTouchedBelow plan node context key false
 weaker plan node context key told is = record { touch = is.touch; made = is.made; below = is.below; context_is = is.context_is; key_is = is.key_is; changes = λ false_told. absurd cc }
 
--- what only looks gives no value
-looks_only : (t : TouchText) → t.acts ≡ words.Want → gives_value t.acts ≡ true → ⊥
-looks_only t only gives = let no : false ≡ true = sym (ap gives_value only) ∙ gives in absurd (cc no)
+-- what only looks computes nothing
+looks_only : (t : TouchText) → t.acts ≡ words.Want → computes t.acts ≡ true → ⊥
+looks_only t only gives = let no : false ≡ true = sym (ap computes only) ∙ gives in absurd (cc no)
 
 module _ (plan : PlanText) (read : IsReadPlan plan) (shares : SharesValues plan) where
   abbrev ids : List Id
@@ -47,7 +45,7 @@ module _ (plan : PlanText) (read : IsReadPlan plan) (shares : SharesValues plan)
   itself : (node : ℕ) → node < length ids → is_within plan node node ≡ true
   itself node less = let count = same_count plan in within_itself plan read node (omega (arith, less, count))
 
-  module _ (node context : ℕ) (key : KeyValue) (v : ValueText) (e : shares_in plan node context key ≡ Some v) where
+  module _ (node context : ℕ) (key : KeyValue) (v : Given) (e : given_in plan node context key ≡ Some v) where
     found : IsShared plan node context key v
     found = shares_found plan read node context key v e
 
@@ -67,7 +65,7 @@ module _ (plan : PlanText) (read : IsReadPlan plan) (shares : SharesValues plan)
     -- ---- the places above a shared one
 
     module _ (walk : List ℕ) (is : IsPathOf ids context (context ∷ walk)) (c : ℕ) (there : Contains walk c) where
-      looks_from : (t : TouchText) → Contains (touches_made plan) t → t.context ≡ context → gives_value t.acts ≡ true → IsLooked plan t.node c t.key
+      looks_from : (t : TouchText) → Contains (touches_made plan) t → t.context ≡ context → computes t.acts ≡ true → IsLooked plan t.node c t.key
       looks_from t made at gives = compute_looks plan read t gives walk (subst (λ x. IsWalk ids x walk) (sym at) is.1) c there made
 
       -- the node looks at them
@@ -131,7 +129,7 @@ module _ (plan : PlanText) (read : IsReadPlan plan) (shares : SharesValues plan)
       ]
 
       -- and what changes them beside it the node's own
-      not_shared : (w : ValueText) → shares_in plan node c key ≡ Some w → ⊥
+      not_shared : (w : Given) → given_in plan node c key ≡ Some w → ⊥
       not_shared w f =
           let is = shares_found plan read node c key w f in
           elim is.one [
@@ -147,15 +145,15 @@ module _ (plan : PlanText) (read : IsReadPlan plan) (shares : SharesValues plan)
             | inr changing ↦ looks_only looked.one.touch looked.only (both_give plan read shares node c key false looked.one is.second (inr changing)).first
           ]
 
-      above_at : (touched_in plan node c key ≡ true) × (shares_in plan node c key ≡ None) × (changed_in plan node c key ≡ false)
+      above_at : (touched_in plan node c key ≡ true) × (given_in plan node c key ≡ None) × (changed_in plan node c key ≡ false)
       above_at = (
         touched_by plan node c key looked.one,
-        elim (some_or_none (shares_in plan node c key)) [ inl none ↦ none | inr some ↦ absurd (not_shared some.0 some.1) ],
+        elim (some_or_none (given_in plan node c key)) [ inl none ↦ none | inr some ↦ absurd (not_shared some.0 some.1) ],
         elim (cases_Bool (changed_in plan node c key)) [ inl changed ↦ absurd (not_changed changed) | inr not ↦ not ],
       )
 
-    pub above : (walk : List ℕ) → IsPathOf ids context (context ∷ walk) → All (λ c. (touched_in plan node c key ≡ true) × (shares_in plan node c key ≡ None) × (changed_in plan node c key ≡ false)) walk
-    above walk is = all_contained (λ c. (touched_in plan node c key ≡ true) × (shares_in plan node c key ≡ None) × (changed_in plan node c key ≡ false)) walk (above_at walk is)
+    pub above : (walk : List ℕ) → IsPathOf ids context (context ∷ walk) → All (λ c. (touched_in plan node c key ≡ true) × (given_in plan node c key ≡ None) × (changed_in plan node c key ≡ false)) walk
+    above walk is = all_contained (λ c. (touched_in plan node c key ≡ true) × (given_in plan node c key ≡ None) × (changed_in plan node c key ≡ false)) walk (above_at walk is)
 
   -- ---- children
 
@@ -178,8 +176,8 @@ module _ (plan : PlanText) (read : IsReadPlan plan) (shares : SharesValues plan)
     changes = one.changes;
   }
 
-  pub below_changed : (parent child context : ℕ) (key : KeyValue) (v : ValueText) → IsParentOf ids parent child → shares_in plan parent context key ≡ Some v → changed_in plan child context key ≡ true
-      → shares_in plan child context key ≡ Some v
+  pub below_changed : (parent child context : ℕ) (key : KeyValue) (v : Given) → IsParentOf ids parent child → given_in plan parent context key ≡ Some v → changed_in plan child context key ≡ true
+      → given_in plan child context key ≡ Some v
   below_changed parent child context key v up e changed =
       let is = shares_found plan read parent context key v e in
       elim (changed_cases plan child context key changed) [
@@ -189,8 +187,8 @@ module _ (plan : PlanText) (read : IsReadPlan plan) (shares : SharesValues plan)
             ∙ ap (λ w. Some w) (changing_gives plan read shares parent context key v is true (to_parent parent child context key true up one) (one.changes refl)).value
       ]
 
-  pub below : (parent child context : ℕ) (key : KeyValue) (v : ValueText) → IsParentOf ids parent child → shares_in plan parent context key ≡ Some v → touched_in plan child context key ≡ true
-      → ¬ IsComputedIn plan (plan_path plan parent) context key → shares_in plan child context key ≡ Some v
+  pub below : (parent child context : ℕ) (key : KeyValue) (v : Given) → IsParentOf ids parent child → given_in plan parent context key ≡ Some v → touched_in plan child context key ≡ true
+      → ¬ IsComputedIn plan (plan_path plan parent) context key → given_in plan child context key ≡ Some v
   below parent child context key v up e touched none =
       let is = shares_found plan read parent context key v e in
       elim (touched_cases plan child context key touched) [
@@ -232,7 +230,7 @@ module _ (plan : PlanText) (read : IsReadPlan plan) (shares : SharesValues plan)
   }
 
   pub beside : (parent child other context : ℕ) (key : KeyValue) → IsParentOf ids parent child → IsParentOf ids parent other → child ≢ other → concurrent_of plan child ≡ true → concurrent_of plan other ≡ true
-      → changed_in plan child context key ≡ true → touched_in plan other context key ≡ true → (v : ValueText) × (shares_in plan child context key ≡ Some v) × (shares_in plan other context key ≡ Some v)
+      → changed_in plan child context key ≡ true → touched_in plan other context key ≡ true → (v : Given) × (given_in plan child context key ≡ Some v) × (given_in plan other context key ≡ Some v)
   beside parent child other context key up up' differ concurrent concurrent' changed touched = elim (changed_cases plan child context key changed) [
     | inl own ↦ absurd (siblings plan read parent child other context key up up' differ own.below touched)
     | inr one ↦ elim (touched_cases plan other context key touched) [
@@ -240,7 +238,7 @@ module _ (plan : PlanText) (read : IsReadPlan plan) (shares : SharesValues plan)
       | inr two ↦
           let second = beside_child parent child other context key false up up' differ concurrent concurrent' two in
           let first = beside_child parent other child context key true up' up (λ same. differ (sym same)) concurrent' concurrent one in (
-            value_given one.touch,
+            touch_gives plan one.touch,
             shares_told plan read shares child context key true one second (inl (one.changes refl)),
             shares_told plan read shares other context key false two first (inr (one.changes refl))
                 ∙ ap (λ w. Some w) (sym (both_give plan read shares child context key true one second (inl (one.changes refl))).value),
@@ -248,24 +246,24 @@ module _ (plan : PlanText) (read : IsReadPlan plan) (shares : SharesValues plan)
     ]
   ]
 
-  -- ---- one value for all children
+  -- ---- the same for all children
 
-  one_value : (v w : ValueText) (o : Option ValueText) → o ≡ Some v → o ≡ Some w → v ≡ w
+  one_value : (v w : Given) (o : Option Given) → o ≡ Some v → o ≡ Some w → v ≡ w
   one_value v w o e f = let same : Some v ≡ Some w = sym e ∙ f in cc same
 
-  -- where two touches give one value if either of them changes the place
+  -- where two touches compute one thing if either of them changes the place
   abbrev OneIf : TouchText → TouchText → Type 0
-  OneIf t u = EitherChanges t u → value_given t ≡ value_given u
+  OneIf t u = EitherChanges t u → touch_gives plan t ≡ touch_gives plan u
 
-  -- Of two pairs of touches each gives one value. The first ones of both give one, if the second of the first pair may be compared with the first of the other, and one of the first pair with its second
-  by_second : (t u t' u' : TouchText) → EitherChanges t u → EitherChanges t' u' → value_given t ≡ value_given u → value_given t' ≡ value_given u' → OneIf u t' → OneIf u u' ⊎ OneIf t u' → value_given t ≡ value_given t'
+  -- Of two pairs of touches each computes one thing. The first ones of both compute one, if the second of the first pair may be compared with the first of the other, and one of the first pair with its second
+  by_second : (t u t' u' : TouchText) → EitherChanges t u → EitherChanges t' u' → touch_gives plan t ≡ touch_gives plan u → touch_gives plan t' ≡ touch_gives plan u' → OneIf u t' → OneIf u u' ⊎ OneIf t u' → touch_gives plan t ≡ touch_gives plan t'
   by_second t u t' u' (inr second) either' pair pair' across to = pair ∙ across (inl second)
   by_second t u t' u' (inl first) (inl first') pair pair' across to = pair ∙ across (inr first')
   by_second t u t' u' (inl first) (inr second') pair pair' across (inl both) = pair ∙ (both (inr second') ∙ sym pair')
   by_second t u t' u' (inl first) (inr second') pair pair' across (inr over) = over (inl first) ∙ sym pair'
 
   -- or if both first ones may be compared, and both second ones
-  by_both : (t u t' u' : TouchText) → EitherChanges t u → EitherChanges t' u' → value_given t ≡ value_given u → value_given t' ≡ value_given u' → OneIf t t' → OneIf u u' → value_given t ≡ value_given t'
+  by_both : (t u t' u' : TouchText) → EitherChanges t u → EitherChanges t' u' → touch_gives plan t ≡ touch_gives plan u → touch_gives plan t' ≡ touch_gives plan u' → OneIf t t' → OneIf u u' → touch_gives plan t ≡ touch_gives plan t'
   by_both t u t' u' (inl first) either' pair pair' firsts seconds = firsts (inl first)
   by_both t u t' u' (inr second) (inl first') pair pair' firsts seconds = firsts (inr first')
   by_both t u t' u' (inr second) (inr second') pair pair' firsts seconds = pair ∙ (seconds (inl second) ∙ sym pair')
@@ -299,7 +297,7 @@ module _ (plan : PlanText) (read : IsReadPlan plan) (shares : SharesValues plan)
           }) either).value
 
     -- a child that shares with what is beside the parent
-    module _ (child other : ℕ) (v w : ValueText) (up : IsParentOf ids parent child) (up' : IsParentOf ids parent other) (one : IsShared plan child context key v) (two : IsShared plan other context key w) where
+    module _ (child other : ℕ) (v w : Given) (up : IsParentOf ids parent child) (up' : IsParentOf ids parent other) (one : IsShared plan child context key v) (two : IsShared plan other context key w) where
       abbrev t : TouchText
       t = one.first.touch
 
@@ -318,13 +316,13 @@ module _ (plan : PlanText) (read : IsReadPlan plan) (shares : SharesValues plan)
       below_two : is_within plan parent t'.node ≡ true
       below_two = within_parent plan read parent other t'.node up' two.first.below
 
-      pair : value_given t ≡ value_given u
+      pair : touch_gives plan t ≡ touch_gives plan u
       pair = (both_give plan read shares child context key false one.first one.second one.one).value
 
-      pair' : value_given t' ≡ value_given u'
+      pair' : touch_gives plan t' ≡ touch_gives plan u'
       pair' = (both_give plan read shares other context key false two.first two.second two.one).value
 
-      with_same : value_given t ≡ value_given t' → v ≡ w
+      with_same : touch_gives plan t ≡ touch_gives plan t' → v ≡ w
       with_same same = sym one.gives ∙ (same ∙ two.gives)
 
       from_high : AreBelow plan parent u.node → v ≡ w
@@ -357,8 +355,8 @@ module _ (plan : PlanText) (read : IsReadPlan plan) (shares : SharesValues plan)
                 (across low.other low'.other low.other_is low'.other_is others low.other_concurrent low'.other_concurrent second second' low.below low'.below))
           ]
 
-  pub same : (parent child other context : ℕ) (key : KeyValue) (v w : ValueText) → IsParentOf ids parent child → IsParentOf ids parent other
-      → shares_in plan child context key ≡ Some v → shares_in plan other context key ≡ Some w → v ≡ w
+  pub same : (parent child other context : ℕ) (key : KeyValue) (v w : Given) → IsParentOf ids parent child → IsParentOf ids parent other
+      → given_in plan child context key ≡ Some v → given_in plan other context key ≡ Some w → v ≡ w
   same parent child other context key v w up up' e f =
       let one = shares_found plan read child context key v e in
       let two = shares_found plan read other context key w f in
@@ -367,7 +365,7 @@ module _ (plan : PlanText) (read : IsReadPlan plan) (shares : SharesValues plan)
         | inr low ↦ elim (beside_cases plan read parent other two.second.touch.node up' two.second.beside) [
           | inl high ↦ sym (from_high parent context key other child w v up' up two one high)
           | inr low' ↦ elim (cases_eq child other) [
-            | inl is ↦ one_value v w (shares_in plan child context key) e (subst (λ n. shares_in plan n context key ≡ Some w) (sym is) f)
+            | inl is ↦ one_value v w (given_in plan child context key) e (subst (λ n. given_in plan n context key ≡ Some w) (sym is) f)
             | inr differ ↦ from_low parent context key child other v w up up' one two differ low low'
           ]
         ]

@@ -1,4 +1,5 @@
 -- What a comparison of nodes that share values stands on: the tree, which events nodes make, and which places children share.
+use Rattle.ext_one_report.proofs.Open.{Given, Open}
 use Rattle.std.proofs.Common.{◌≡◌, ◌≢◌, ℕ, ◌<◌, ◌==◌, inl, inr, true, false, List, ◌∷◌, length, None, Some, refl, ap, sym, subst, ◌∙◌, arith, eq-eqb}
 use Rattle.std.specs.Prelude.{All, Contains, slice_get}
 use Rattle.std.proofs.lemmas.Bool.{eqb-true}
@@ -13,7 +14,6 @@ use Rattle.ext_locks.specs.Opening.{LocksView}
 use Rattle.ext_plan.specs.Plans.{PlanText}
 use Rattle.ext_plan.specs.PlanCalls.{concurrent_of}
 use Rattle.ext_plan.specs.ReadPlans.{ids_of_nodes}
-use Rattle.ext_plan.specs.Values.{ValueText}
 use Rattle.ext_races.specs.MadeSteps.{plan_path}
 use Rattle.ext_engine.specs.Meeting.{HasSeenWithin}
 use Rattle.ext_engine.specs.Order.{ChildRun, IsMadeIn}
@@ -23,7 +23,6 @@ use Rattle.ext_one_report.proofs.Changing.{runs_change_only}
 use Rattle.ext_parallel.specs.declared.steps.stored_value.StoredValue.{StoredValue}
 use Rattle.ext_one_report.proofs.MatchingWords.{HasNumberIn, Places, RunView, cell_of}
 use Rattle.ext_one_report.specs.Within.{is_within}
-use Rattle.ext_one_report.specs.Shares.{Open}
 use Rattle.ext_one_report.proofs.FullRuns.{setting_in}
 use Rattle.ext_one_report.proofs.SharedNodesWords.{IsSharedBasis}
 use Rattle.ext_one_report.proofs.LanesAlone.{view_moves}
@@ -86,10 +85,10 @@ module _ (plan : PlanText) (run : RunView) (locks : LocksView) (h : History) (to
     unchanged child context key off = never (changes child context key) (λ ch. both_ways (touched child context key) (basis.covered.touches child context key ch) off)
 
     -- a place that a child shares is touched by it, in a context that is neither the child's, nor that of another child, nor below
-    pub shared_touched : (child context : ℕ) (key : KeyValue) (v : ValueText) → shares child context key ≡ Some v → touched child context key ≡ true
+    pub shared_touched : (child context : ℕ) (key : KeyValue) (v : Given) → shares child context key ≡ Some v → touched child context key ≡ true
     shared_touched child context key v is = basis.shared.touched_there child context key v is
 
-    pub shared_elsewhere : (child other context : ℕ) (key : KeyValue) (v : ValueText) → IsChild child → IsChild other → shares child context key ≡ Some v → is_within plan other context ≡ true → ⊥
+    pub shared_elsewhere : (child other context : ℕ) (key : KeyValue) (v : Given) → IsChild child → IsChild other → shares child context key ≡ Some v → is_within plan other context ≡ true → ⊥
     shared_elsewhere child other context key v first second is within = elim (bools (other == child)) [
       | inl same ↦
           let e = eqb-true other child same in
@@ -105,7 +104,7 @@ module _ (plan : PlanText) (run : RunView) (locks : LocksView) (h : History) (to
 
     -- where one changes what another touches, both share it
     pub both_share : (child other context : ℕ) (key : KeyValue) → IsConcurrent child → IsConcurrent other → child ≢ other → changes child context key ≡ true → touched other context key ≡ true
-        → (v : ValueText) × (shares child context key ≡ Some v) × (shares other context key ≡ Some v)
+        → (v : Given) × (shares child context key ≡ Some v) × (shares other context key ≡ Some v)
     both_share child other context key first second differ ch is = basis.shared.beside node child other context key first.0 second.0 differ first.1 second.1 ch is
 
     -- so what one touches that it does not share, no other changes,
@@ -113,8 +112,8 @@ module _ (plan : PlanText) (run : RunView) (locks : LocksView) (h : History) (to
     not_shared child other context key first second differ is none =
         never (changes child context key) (λ ch. let both = both_share child other context key first second differ ch is in not_both (shares other context key) both.0 none both.2)
 
-    -- and where one shares a place, another that changes it shares the same value there
-    pub shares_too : (child other context : ℕ) (key : KeyValue) (v : ValueText) → IsConcurrent child → IsConcurrent other → shares other context key ≡ Some v → changes child context key ≡ true → shares child context key ≡ Some v
+    -- and where one shares a place, another that changes it shares it too, and computes the same there
+    pub shares_too : (child other context : ℕ) (key : KeyValue) (v : Given) → IsConcurrent child → IsConcurrent other → shares other context key ≡ Some v → changes child context key ≡ true → shares child context key ≡ Some v
     shares_too child other context key v first second is ch = elim (bools (child == other)) [
       | inl same ↦ subst (λ n. shares n context key ≡ Some v) (sym (eqb-true child other same)) is
       | inr differ ↦
@@ -123,7 +122,7 @@ module _ (plan : PlanText) (run : RunView) (locks : LocksView) (h : History) (to
     ]
 
     -- above a place that one shares none of them changes anything under the key
-    pub above_unchanged : (child other context at : ℕ) (key : KeyValue) (v : ValueText) (above : List ℕ) → IsConcurrent child → IsConcurrent other → shares other context key ≡ Some v → IsPathOf ids context (context ∷ above)
+    pub above_unchanged : (child other context at : ℕ) (key : KeyValue) (v : Given) (above : List ℕ) → IsConcurrent child → IsConcurrent other → shares other context key ≡ Some v → IsPathOf ids context (context ∷ above)
         → Contains above at → changes child at key ≡ false
     above_unchanged child other context at key v above first second is path_is among =
         let P : ℕ → Type 0 = λ c. (touched other c key ≡ true) × (shares other c key ≡ None) × (changes other c key ≡ false) in

@@ -12,7 +12,6 @@ use Rattle.ext_model.specs.Events.{place_of}
 use Rattle.ext_model.specs.History.{slots_in}
 use Rattle.ext_tree.specs.Keys.{KeyValue}
 use Rattle.ext_tree.specs.Trees.{IsPathOf}
-use Rattle.ext_plan.specs.Values.{ValueText}
 use Rattle.ext_races.specs.MadeSteps.{plan_path}
 use Rattle.ext_engine.specs.Meeting.{first_seen}
 use Rattle.ext_engine.specs.Order.{IsMadeIn}
@@ -27,8 +26,7 @@ use Rattle.ext_one_report.proofs.OnCells.{same_slot}
 use Rattle.ext_one_report.proofs.Standings.{matched_empty}
 use Rattle.ext_one_report.specs.Within.{is_within}
 use Rattle.ext_one_report.proofs.PlainFrames.{IsOpen, LeavesElse}
-use Rattle.ext_one_report.proofs.Open.{AreNear, Computes, MayStand, StandsOrNot, is_open, some_or_none}
-use Rattle.ext_one_report.specs.Shares.{Open}
+use Rattle.ext_one_report.proofs.Open.{AreNear, Computes, Given, MayStand, Open, StandsOrNot, is_left, is_open, some_or_none}
 use Rattle.ext_one_report.proofs.OpenSteps.{StandsInBoth}
 use Rattle.ext_one_report.proofs.Shared.{unshared}
 use Rattle.ext_one_report.proofs.OpenStep.{knows_more, open_value, or_not_more, value_is_open}
@@ -76,7 +74,7 @@ module _ (g : Ground) (b : Body g) where
   leaves_to i = all_leave (take i (cs g b)) b.r (all_children (take i (cs g b)) (first_ones i)) b.fine
 
   -- a place that a child shares is in the context of no concurrent child
-  pub off_all : (xs : List ℕ) → ((x : ℕ) → Contains xs x → Contains (cs g b) x) → (c context : ℕ) (key : KeyValue) (v : ValueText) → Contains (cs g b) c → g.shares c context key ≡ Some v → within_any g.plan xs context ≡ false
+  pub off_all : (xs : List ℕ) → ((x : ℕ) → Contains xs x → Contains (cs g b) x) → (c context : ℕ) (key : KeyValue) (v : Given) → Contains (cs g b) c → g.shares c context key ≡ Some v → within_any g.plan xs context ≡ false
   off_all xs in_all c context key v c_in is =
       within_none g.plan xs context (λ x there within.
       shared_elsewhere g.plan g.run g.locks g.h g.touched g.changes g.changed g.shares g.basis g.node c x context key v (beside_child g c c_in) (beside_child g x (in_all x there)) is within)
@@ -89,7 +87,7 @@ module _ (g : Ground) (b : Body g) where
   ]
 
   -- in the plain run nothing stands at the place above an open one
-  pub none_first : (c : ℕ) → Contains (cs g b) c → (context at : ℕ) (key : KeyValue) (v : ValueText) (above : List ℕ) → free g b context key ≡ true → IsPathOf g.run.store.tree context (context ∷ above)
+  pub none_first : (c : ℕ) → Contains (cs g b) c → (context at : ℕ) (key : KeyValue) (v : Given) (above : List ℕ) → free g b context key ≡ true → IsPathOf g.run.store.tree context (context ∷ above)
       → Contains above at → plain_slot b.r.state at key ≡ None
   none_first c c_in context at key v above fr path_is there =
       let P : ℕ → Type 0 = λ k. plain_slot b.r.state k key ≡ None in
@@ -128,20 +126,20 @@ module _ (g : Ground) (b : Body g) where
 
   -- ---- what is so when a child begins in the plain run
 
-  -- Of the first of the concurrent children, which have run in the plain run up to this state: at the places that they have settled the value stands; at those that are open still nothing is changed, and
-  -- none of them made an event; and at those that are not free the same stands as on the lanes at first
+  -- Of the first of the concurrent children, which have run in the plain run up to this state: at the places that they have settled the value or the fault stands; at those that are open still nothing is changed, and
+  -- none of them made an event, but where nothing is kept; and at those that are not free the same stands as on the lanes at first
   pub record Gone (i : ℕ) (q : RunState) : Type 0 where
     pub settled : Places
-    pub were : (context : ℕ) (key : KeyValue) → settled context key ≡ true → (v : ValueText) × (c : ℕ) × Contains (cs g b) c × (g.shares c context key ≡ Some v) × (free g b context key ≡ true)
+    pub were : (context : ℕ) (key : KeyValue) → settled context key ≡ true → (v : Given) × (c : ℕ) × Contains (cs g b) c × (g.shares c context key ≡ Some v) × (free g b context key ≡ true)
     pub named : (context : ℕ) (key : KeyValue) → settled context key ≡ true → ((number : ℕ) → ¬ HasNumberIn g.run key number) → ⊥
-    pub stand : (context : ℕ) (key : KeyValue) (v : ValueText) (c : ℕ) → settled context key ≡ true → Contains (cs g b) c → g.shares c context key ≡ Some v → StandsInBoth g.run v context key (until g b) q.state
-    pub unchanged : (context : ℕ) (key : KeyValue) (v : ValueText) (c : ℕ) → settled context key ≡ false → free g b context key ≡ true → Contains (cs g b) c → g.shares c context key ≡ Some v
+    pub stand : (context : ℕ) (key : KeyValue) (v : Given) (c : ℕ) → settled context key ≡ true → Contains (cs g b) c → g.shares c context key ≡ Some v → StandsInBoth g.run v context key (until g b) q.state
+    pub unchanged : (context : ℕ) (key : KeyValue) (v : Given) (c : ℕ) → settled context key ≡ false → free g b context key ≡ true → Contains (cs g b) c → g.shares c context key ≡ Some v
         → plain_slot q.state context key ≡ plain_slot b.r.state context key
-    pub untouched : (j context number place : ℕ) (key : KeyValue) (v : ValueText) (c : ℕ) (event : Event ℕ) → j < i → settled context key ≡ false → free g b context key ≡ true → Contains (cs g b) c
-        → g.shares c context key ≡ Some v → HasNumberIn g.run key number → slice_get g.h place ≡ Some event → place_of event.act ≡ Some (cell g b number context) → IsMadeIn g.h place (s_of g b j).first (u_of g b j).first → ⊥
-    pub kept : (context number : ℕ) (key : KeyValue) (v : ValueText) (c : ℕ) → free g b context key ≡ false → Contains (cs g b) c → g.shares c context key ≡ Some v → HasNumberIn g.run key number
+    pub untouched : (j context number place : ℕ) (key : KeyValue) (v : Given) (c : ℕ) (event : Event ℕ) → j < i → settled context key ≡ false → free g b context key ≡ true → Contains (cs g b) c
+        → g.shares c context key ≡ Some v → is_left v ≡ true → HasNumberIn g.run key number → slice_get g.h place ≡ Some event → place_of event.act ≡ Some (cell g b number context) → IsMadeIn g.h place (s_of g b j).first (u_of g b j).first → ⊥
+    pub kept : (context number : ℕ) (key : KeyValue) (v : Given) (c : ℕ) → free g b context key ≡ false → Contains (cs g b) c → g.shares c context key ≡ Some v → HasNumberIn g.run key number
         → AreMatched g.run.meaning (plain_meaning q.state.values) (slots_in (cell_of g.run number) (since g b) context) (plain_slot q.state context key)
-    pub kept_none : (context : ℕ) (key : KeyValue) (v : ValueText) (c : ℕ) → free g b context key ≡ false → Contains (cs g b) c → g.shares c context key ≡ Some v → ((number : ℕ) → ¬ HasNumberIn g.run key number)
+    pub kept_none : (context : ℕ) (key : KeyValue) (v : Given) (c : ℕ) → free g b context key ≡ false → Contains (cs g b) c → g.shares c context key ≡ Some v → ((number : ℕ) → ¬ HasNumberIn g.run key number)
         → plain_slot q.state context key ≡ None
 
   -- ---- a child that begins
@@ -279,7 +277,7 @@ module _ (g : Ground) (b : Body g) where
     knows : KnowsMore (plain_meaning b.r.state.values) (plain_meaning (before_it i).state.values)
     knows = knows_more (any_of g.changes (take i (cs g b))) (within_any g.plan (take i (cs g b))) b.r.state (before_it i).state (leaves_to i)
 
-    near_first : (context number : ℕ) (key : KeyValue) (v : ValueText) → free g b context key ≡ true → g.shares c context key ≡ Some v → HasNumberIn g.run key number
+    near_first : (context number : ℕ) (key : KeyValue) (v : Given) → free g b context key ≡ true → g.shares c context key ≡ Some v → HasNumberIn g.run key number
         → MayStand g.run.meaning v (slots_in (cell_of g.run number) (since g b) context)
     near_first context number key v fr is has =
         let touched = touches g b c context key v is in
@@ -292,7 +290,7 @@ module _ (g : Ground) (b : Body g) where
               subst (λ x. MayStand g.run.meaning v x) (sym nothing) tt
         ]
 
-    plain_first : (context : ℕ) (key : KeyValue) (v : ValueText) → free g b context key ≡ true → g.shares c context key ≡ Some v → StandsOrNot (plain_meaning b.r.state.values) v (plain_slot b.r.state context key)
+    plain_first : (context : ℕ) (key : KeyValue) (v : Given) → free g b context key ≡ true → g.shares c context key ≡ Some v → StandsOrNot (plain_meaning b.r.state.values) v (plain_slot b.r.state context key)
     plain_first context key v fr is =
         let touched = touches g b c context key v is in
         elim (some_or_none (b.o context key)) [
@@ -302,7 +300,7 @@ module _ (g : Ground) (b : Body g) where
           | inl none ↦ none_stands_or_not (plain_meaning b.r.state.values) v (plain_slot b.r.state context key) (empty_first context key (in_nodes g b c context key touched) none fr)
         ]
 
-    begins_plain : (context : ℕ) (key : KeyValue) (v : ValueText) → o context key ≡ Some v → StandsOrNot (plain_meaning (before_it i).state.values) v (plain_slot (before_it i).state context key)
+    begins_plain : (context : ℕ) (key : KeyValue) (v : Given) → o context key ≡ Some v → StandsOrNot (plain_meaning (before_it i).state.values) v (plain_slot (before_it i).state context key)
     begins_plain context key v is =
         let parts = open_parts g b c context key v is in
         elim (bools (gone.settled context key)) [
@@ -312,7 +310,7 @@ module _ (g : Ground) (b : Body g) where
               (or_not_more (plain_meaning b.r.state.values) (plain_meaning (before_it i).state.values) v (plain_slot b.r.state context key) knows (plain_first context key v parts.0 parts.1))
         ]
 
-    begins_above : (context : ℕ) (key : KeyValue) (v : ValueText) (above : List ℕ) → o context key ≡ Some v → IsPathOf g.run.store.tree context (context ∷ above) → All (λ at. plain_slot (before_it i).state at key ≡ None) above
+    begins_above : (context : ℕ) (key : KeyValue) (v : Given) (above : List ℕ) → o context key ≡ Some v → IsPathOf g.run.store.tree context (context ∷ above) → All (λ at. plain_slot (before_it i).state at key ≡ None) above
     begins_above context key v above is path_is =
         let parts = open_parts g b c context key v is in
         let in_ids = in_plan g.plan g.run g.locks g.h g.touched g.changes g.changed g.shares g.basis context (context ∷ above) path_is in

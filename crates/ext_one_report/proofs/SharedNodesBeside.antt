@@ -1,28 +1,29 @@
 -- The concurrent children of a container that share places: from before them to after them, on the lanes and in the plain run.
-use Rattle.std.proofs.Common.{◌≡◌, ◌≢◌, ℕ, ◌<◌, inl, inr, true, false, not, List, ◌∷◌, length, take_all, None, Option, Some, is_some, refl, ap, sym, subst, ◌∙◌, arith}
+use Rattle.std.proofs.Common.{◌≡◌, ◌≢◌, ℕ, ◌<◌, ◌⊎◌, inl, inr, true, false, not, List, ◌∷◌, length, take_all, None, Option, Some, is_some, refl, ap, sym, subst, ◌∙◌, arith}
 use Rattle.std.specs.Prelude.{All, Contains}
 use Rattle.std.proofs.lemmas.List.Elements.{All-contains, Contains-get_or}
 use Rattle.ext_history.proofs.Lists.{bools, contains_later}
-use Rattle.ext_model.specs.History.{slots_in}
-use Rattle.ext_model.specs.Sizes.{most_numbers}
+use Rattle.ext_model.specs.declared.event.Act.TheVariants.{Claim}
+use Rattle.ext_model.specs.declared.slot.Slot.{Slot}
+use Rattle.ext_model.specs.declared.slot.Slot.TheVariants as slot
+use Rattle.ext_model.specs.History.{by as event_by, slots_in}
+use Rattle.ext_one_report.proofs.Numbers.{enough_numbers}
 use Rattle.ext_tree.specs.Keys.{KeyValue}
 use Rattle.ext_tree.specs.Trees.{IsPathOf}
-use Rattle.ext_plan.specs.Values.{ValueText}
 use Rattle.ext_engine.specs.Meeting.{first_seen}
 use Rattle.ext_engine.proofs.Above.{Under, under_under}
 use Rattle.ext_engine.proofs.Acts.{shorter}
 use Rattle.ext_one_report.specs.Changing.{events_at}
 use Rattle.ext_one_report.proofs.Kept.{same_there}
 use Rattle.ext_plain.specs.PlainRun.{RunState}
-use Rattle.ext_one_report.proofs.MatchingWords.{HasNumberIn, cell_of, plain_meaning, plain_slot}
-use Rattle.ext_one_report.proofs.StandingsWords.{AreMatched, KnowsMore}
+use Rattle.ext_one_report.proofs.MatchingWords.{HasNumberIn, TextMeaning, cell_of, plain_meaning, plain_slot}
+use Rattle.ext_one_report.proofs.StandingsWords.{AreMatched, KnowsMore, nothing, standing_of}
 use Rattle.ext_one_report.proofs.Matching.{knows_itself}
 use Rattle.ext_one_report.proofs.OnCells.{same_slot}
 use Rattle.ext_one_report.proofs.Standings.{matched_by_more}
 use Rattle.ext_one_report.specs.Within.{is_within}
 use Rattle.ext_one_report.proofs.PlainFrames.{IsOpen, LeavesElse}
-use Rattle.ext_one_report.proofs.Open.{AreNear, StandsOrNot, also, is_open, still_open}
-use Rattle.ext_one_report.specs.Shares.{Open}
+use Rattle.ext_one_report.proofs.Open.{AreNear, Given, MayStand, Open, StandsOrNot, also, is_left, is_open, of_fault, of_nothing, of_value, still_open}
 use Rattle.ext_one_report.proofs.Shared.{unshared}
 use Rattle.ext_one_report.proofs.OpenStep.{both_match, knows_more, open_value, or_not_more, value_is_open}
 use Rattle.ext_one_report.proofs.Levels.{AreLevel, outside}
@@ -30,9 +31,10 @@ use Rattle.ext_one_report.proofs.ChildLists.{apart_behind, which}
 use Rattle.ext_one_report.proofs.NodePlaces.{and_of, any_none, any_of, away, away_first, away_from, both_ways, carried, never, or_first, within_any, within_none}
 use Rattle.ext_one_report.proofs.NodePlain.{IsFine}
 use Rattle.ext_one_report.proofs.NodeTrees.{long, under_within, within_parent, within_under}
+use Rattle.ext_one_report.proofs.SharedEventsClaims.{claim_is_last, claims_end}
 use Rattle.ext_one_report.proofs.SharedNodesBasis.{both_share, in_plan, plan_tree}
-use Rattle.ext_one_report.proofs.SharedNodesBegins.{Gone, all_children, all_fine, all_leave, before_it, clear_first, its_own, once_beside}
-use Rattle.ext_one_report.proofs.SharedNodesBody.{Body, ChildrenEnd, Ends, Ground, IsChild, acts_at, after_all, beside_child, begun_at, cell, child_at, conc, cs, ended_at, free, frozen, here, ids, in_nodes, maker, maker_changes, maker_of, open_of, over_at, ran_at, s_of, shared_below, since, since_until, touches, u_of, unshared_none, until, until_in_h, up_to}
+use Rattle.ext_one_report.proofs.SharedNodesBegins.{Gone, absent_first, all_children, all_fine, all_leave, before_it, clear_first, empty_first, its_own, once_beside}
+use Rattle.ext_one_report.proofs.SharedNodesBody.{Body, ChildrenEnd, Ends, Ground, IsChild, acts_at, after_all, beside_child, begun_at, cell, child_at, computed_at, conc, cs, ended_at, ends_in, free, frozen, here, ids, in_nodes, job_at, maker, maker_changes, maker_of, open_of, over_at, ran_at, s_of, shared_below, since, since_until, touches, u_of, unshared_none, until, until_in_h, up_to}
 use Rattle.ext_one_report.proofs.SharedNodesCells.{near_stay}
 use Rattle.ext_one_report.proofs.SharedNodesGone.{after_it, behind, behind_in, ended_near, gone_at, rest_leaves, to_all}
 use Rattle.ext_one_report.proofs.SharedNodesPasses.{Passes, computed_between}
@@ -42,7 +44,7 @@ use Rattle.ext_one_report.proofs.SharedNodesPlaces.{not_both, still_cases, still
 
 module _ (g : Ground) where
   -- a place that the node shares is in the context of none of its children, nor below one
-  pub off_node : (context : ℕ) (key : KeyValue) (v : ValueText) → g.shares g.node context key ≡ Some v → (xs : List ℕ) → ((x : ℕ) → Contains xs x → IsChild g x) → within_any g.plan xs context ≡ false
+  pub off_node : (context : ℕ) (key : KeyValue) (v : Given) → g.shares g.node context key ≡ Some v → (xs : List ℕ) → ((x : ℕ) → Contains xs x → IsChild g x) → within_any g.plan xs context ≡ false
   off_node context key v is xs children = within_none g.plan xs context (λ x there within.
       let few = g.basis.covered.within g.node context key (g.basis.shared.touched_there g.node context key v is) in
       let size = long g.plan (plan_tree g.plan g.run g.locks g.h g.touched g.changes g.changed g.shares g.basis) in
@@ -50,7 +52,7 @@ module _ (g : Ground) where
       (within_parent g.plan (plan_tree g.plan g.run g.locks g.h g.touched g.changes g.changed g.shares g.basis) g.node x context (children x there) (omega (arith, few, size)) within) (g.basis.shared.outside g.node context key v is))
 
   -- nor are the places above it
-  pub off_above : (context at : ℕ) (key : KeyValue) (v : ValueText) (above : List ℕ) → g.shares g.node context key ≡ Some v → IsPathOf (ids g) context (context ∷ above) → Contains above at → (xs : List ℕ)
+  pub off_above : (context at : ℕ) (key : KeyValue) (v : Given) (above : List ℕ) → g.shares g.node context key ≡ Some v → IsPathOf (ids g) context (context ∷ above) → Contains above at → (xs : List ℕ)
       → ((x : ℕ) → Contains xs x → IsChild g x) → within_any g.plan xs at ≡ false
   off_above context at key v above is path_is there xs children = within_none g.plan xs at (λ x among within.
       let tree = plan_tree g.plan g.run g.locks g.h g.touched g.changes g.changed g.shares g.basis in
@@ -64,22 +66,32 @@ module _ (g : Ground) where
       both_ways (is_within g.plan g.node context) (within_parent g.plan tree g.node x context (children x among) (omega (arith, few, size)) (under_within g.plan tree x context low)) (g.basis.shared.outside g.node context key v is))
 
   -- and none of its children changes those
-  pub above_same : (context at : ℕ) (key : KeyValue) (v : ValueText) (above : List ℕ) → g.shares g.node context key ≡ Some v → IsPathOf (ids g) context (context ∷ above) → Contains above at → (xs : List ℕ)
+  pub above_same : (context at : ℕ) (key : KeyValue) (v : Given) (above : List ℕ) → g.shares g.node context key ≡ Some v → IsPathOf (ids g) context (context ∷ above) → Contains above at → (xs : List ℕ)
       → ((x : ℕ) → Contains xs x → IsChild g x) → any_of g.changes xs at key ≡ false
   above_same context at key v above is path_is there xs children = any_none g.changes xs at key (λ x among ch.
       let P : ℕ → Type 0 = λ k. (g.touched g.node k key ≡ true) × (g.shares g.node k key ≡ None) × (g.changes g.node k key ≡ false) in
       let one = All-contains P above at (g.basis.shared.above g.node context key v above is path_is) there in
       both_ways (g.changes g.node at key) (g.basis.covered.changed_above g.node x at key (children x among) ch) one.2)
 
-pub some_there : (o : Option ValueText) → is_some o ≡ true → (v : ValueText) × (o ≡ Some v)
+pub some_there : (o : Option Given) → is_some o ≡ true → (v : Given) × (o ≡ Some v)
 some_there None is = absurd (cc is)
 some_there (Some v) is = (v, refl)
 
-pub no_value : (o : Option ValueText) → (is_some o ≡ true → ⊥) → o ≡ None
+-- where nothing is kept, nothing stands, or a claim
+none_or_claimed : (meaning : TextMeaning) (v : Given) (x : Option Slot) → is_left v ≡ false → MayStand meaning v x → (x ≡ None) ⊎ ((lane : ℕ) × (x ≡ Some (slot.Claim lane)))
+none_or_claimed meaning (of_value v) x off near = absurd (cc off)
+none_or_claimed meaning (of_fault text) x off near = absurd (cc off)
+none_or_claimed meaning (of_nothing text) None off near = inl refl
+none_or_claimed meaning (of_nothing text) (Some (slot.Entry number)) off near = absurd near
+none_or_claimed meaning (of_nothing text) (Some (slot.Fault number)) off near = absurd near
+none_or_claimed meaning (of_nothing text) (Some (slot.Claim lane)) off near = inr (lane, refl)
+none_or_claimed meaning (of_nothing text) (Some (slot.Sealed kept)) off near = absurd near
+
+pub no_value : (o : Option Given) → (is_some o ≡ true → ⊥) → o ≡ None
 no_value None none = refl
 no_value (Some v) none = absurd (none refl)
 
-module _ (g : Ground) (b : Body g) (each : ChildrenEnd g) (drawn : (after_all g b.r (cs g b)).state.store.drawn < most_numbers g.plan.size) where
+module _ (g : Ground) (b : Body g) (each : ChildrenEnd g) (drawn : (after_all g b.r (cs g b)).state.store.drawn < enough_numbers g.plan.size) where
   abbrev count : ℕ
   count = length (cs g b)
 
@@ -117,21 +129,54 @@ module _ (g : Ground) (b : Body g) (each : ChildrenEnd g) (drawn : (after_all g 
 
   -- ---- a place that one of them shares
 
-  -- one that is free and not open for the container, where nothing was done
-  newly_open : (context number : ℕ) (key : KeyValue) (v : ValueText) (c : ℕ) → Contains (cs g b) c → g.shares c context key ≡ Some v → b.o context key ≡ None → free g b context key ≡ true → gone.settled context key ≡ false
-      → HasNumberIn g.run key number → AreMatched g.run.meaning (plain_meaning last.state.values) (slots_in (cell_of g.run number) (until g b) context) (plain_slot last.state context key)
-  newly_open context number key v c c_in is none fr off has =
+  -- One that is free and not open for the container, where nothing is kept: a claim that stands there in the end was made by one of them, and in its run it ended
+  pub given_up : (context number : ℕ) (key : KeyValue) (v : Given) (c : ℕ) → Contains (cs g b) c → g.shares c context key ≡ Some v → is_left v ≡ false → b.o context key ≡ None → free g b context key ≡ true
+      → HasNumberIn g.run key number → slots_in (cell_of g.run number) (until g b) context ≡ None
+  given_up context number key v c c_in is nothing_left none fr has =
+      let wide = up_to g b c context key c_in (touches g b c context key v is) in
+      let empty = absent_first g b context number key wide none fr has in
+      let first : MayStand g.run.meaning v (slots_in (cell_of g.run number) (since g b) context) = subst (λ x. MayStand g.run.meaning v x) (sym empty) tt in
+      let in_the_end = near_stay g.h (since g b) (until g b) (since_until g b) (until_in_h g b) (cell g b number context) g.run v first (computed_at g b c c_in context number key v is has) in
+      elim (none_or_claimed g.run.meaning v (slots_in (cell_of g.run number) (until g b) context) nothing_left in_the_end) [
+        | inl nothing_there ↦ nothing_there
+        | inr claimed ↦
+            let lane = claimed.0 in
+            let since_then = claim_is_last g.h (since g b) (until g b) (cell g b number context) lane (since_until g b) (until_in_h g b) (λ early. absurd (cc (sym empty ∙ early))) claimed.1 in
+            let by = maker g b context number since_then.place key (event_by lane (Claim (cell g b number context))) wide none has since_then.seen.since since_then.seen.until since_then.there refl in
+            let ended = claims_end g.plan g.run g.locks g.h g.touched g.changes g.changed g.shares g.depth (child_at g b by.i) (s_of g b by.i) (ran_at g b by.i) (u_of g b by.i) g.basis (job_at g b by.i by.less).run (ends_in g b by.i by.less)
+            since_then.place lane (cell g b number context) since_then.there by.made in
+            let within = ((acts_at g b by.i by.less).seen ended.later ended.made).1 in
+            let end = shorter (first_seen (u_of g b by.i).first) (until g b) (ended_at g b by.i by.less) in
+            absurd (since_then.last ended.later ended.event ended.behind (omega (arith, within, end)) ended.there ended.on)
+      ]
+
+  -- nothing stands there in either run
+  none_kept : (context number : ℕ) (key : KeyValue) (v : Given) (c : ℕ) → Contains (cs g b) c → g.shares c context key ≡ Some v → is_left v ≡ false → b.o context key ≡ None → free g b context key ≡ true
+      → gone.settled context key ≡ false → HasNumberIn g.run key number
+      → AreMatched g.run.meaning (plain_meaning last.state.values) (slots_in (cell_of g.run number) (until g b) context) (plain_slot last.state context key)
+  none_kept context number key v c c_in is nothing_left none fr off has =
+      let few = in_nodes g b c context key (touches g b c context key v is) in
+      record {
+        standing = nothing;
+        here = ap (standing_of g.run.meaning) (given_up context number key v c c_in is nothing_left none fr has);
+        there = ap (standing_of (plain_meaning last.state.values)) (gone.unchanged context key v c off fr c_in is ∙ empty_first g b context key few none fr);
+      }
+
+  -- one where something is left, and where nothing was done
+  newly_open : (context number : ℕ) (key : KeyValue) (v : Given) (c : ℕ) → Contains (cs g b) c → g.shares c context key ≡ Some v → b.o context key ≡ None → free g b context key ≡ true → gone.settled context key ≡ false
+      → is_left v ≡ true → HasNumberIn g.run key number → AreMatched g.run.meaning (plain_meaning last.state.values) (slots_in (cell_of g.run number) (until g b) context) (plain_slot last.state context key)
+  newly_open context number key v c c_in is none fr off left has =
       let wide = up_to g b c context key c_in (touches g b c context key v is) in
       let quiet = same_there g.h (since g b) (until g b) (cell g b number context) (since_until g b) (until_in_h g b) (λ place event low high there on.
       let by = maker g b context number place key event wide none has low high there on in
-      gone.untouched by.i context number place key v c event by.less off fr c_in is has there on by.made) in
+      gone.untouched by.i context number place key v c event by.less off fr c_in is left has there on by.made) in
       let first = matched_by_more g.run.meaning (plain_meaning b.r.state.values) g.run.meaning (plain_meaning last.state.values) (slots_in (cell_of g.run number) (since g b) context) (plain_slot b.r.state context key)
       (knows_itself g.run.meaning) knows (b.level.matches.slots context key number (unshared_is (g.touched g.node) b.o context key wide none) has) in
       subst (λ y. AreMatched g.run.meaning (plain_meaning last.state.values) (slots_in (cell_of g.run number) (until g b) context) y) (sym (gone.unchanged context key v c off fr c_in is))
       (subst (λ x. AreMatched g.run.meaning (plain_meaning last.state.values) x (plain_slot b.r.state context key)) (same_slot (since g b) (until g b) (cell g b number context) (sym quiet)) first)
 
   -- one that is not free
-  frozen_still : (context number : ℕ) (key : KeyValue) (v : ValueText) (c : ℕ) → Contains (cs g b) c → g.shares c context key ≡ Some v → free g b context key ≡ false → HasNumberIn g.run key number
+  frozen_still : (context number : ℕ) (key : KeyValue) (v : Given) (c : ℕ) → Contains (cs g b) c → g.shares c context key ≡ Some v → free g b context key ≡ false → HasNumberIn g.run key number
       → AreMatched g.run.meaning (plain_meaning last.state.values) (slots_in (cell_of g.run number) (until g b) context) (plain_slot last.state context key)
   frozen_still context number key v c c_in is off has =
       subst (λ x. AreMatched g.run.meaning (plain_meaning last.state.values) x (plain_slot last.state context key))
@@ -245,7 +290,10 @@ module _ (g : Ground) (b : Body g) (each : ChildrenEnd g) (drawn : (after_all g 
               let c_in = here g b one.0 one.1 in
               let value = some_there (g.shares (child_at g b one.0) context key) one.2 in
               elim (bools (free g b context key)) [
-                | inl fr ↦ newly_open context number key value.0 (child_at g b one.0) c_in value.1 not_settled.1 fr not_settled.0 has
+                | inl fr ↦ elim (bools (is_left value.0)) [
+                  | inl left ↦ newly_open context number key value.0 (child_at g b one.0) c_in value.1 not_settled.1 fr not_settled.0 left has
+                  | inr nothing_left ↦ none_kept context number key value.0 (child_at g b one.0) c_in value.1 nothing_left not_settled.1 fr not_settled.0 has
+                ]
                 | inr not_free ↦ frozen_still context number key value.0 (child_at g b one.0) c_in value.1 not_free has
               ]
         ]
@@ -287,16 +335,16 @@ module _ (g : Ground) (b : Body g) (each : ChildrenEnd g) (drawn : (after_all g 
 
   -- ---- places that are open still
 
-  open_touched : (context : ℕ) (key : KeyValue) (v : ValueText) → b.o context key ≡ Some v → g.touched g.node context key ≡ true
+  open_touched : (context : ℕ) (key : KeyValue) (v : Given) → b.o context key ≡ Some v → g.touched g.node context key ≡ true
   open_touched context key v is = touches g b g.node context key v (b.among context key v is)
 
-  open_free : (context : ℕ) (key : KeyValue) (v : ValueText) → b.o context key ≡ Some v → free g b context key ≡ true
+  open_free : (context : ℕ) (key : KeyValue) (v : Given) → b.o context key ≡ Some v → free g b context key ≡ true
   open_free context key v is = or_first (is_open b.o context key) _ (value_is_open b.o context key v is)
 
-  off_children : (context : ℕ) (key : KeyValue) (v : ValueText) → b.o context key ≡ Some v → within_any g.plan (cs g b) context ≡ false
+  off_children : (context : ℕ) (key : KeyValue) (v : Given) → b.o context key ≡ Some v → within_any g.plan (cs g b) context ≡ false
   off_children context key v is = off_node g context key v (b.among context key v is) (cs g b) (λ x there. beside_child g x there)
 
-  plain_end : (context : ℕ) (key : KeyValue) (v : ValueText) → later context key ≡ Some v → plain_slot last.state context key ≡ plain_slot b.r.state context key
+  plain_end : (context : ℕ) (key : KeyValue) (v : Given) → later context key ≡ Some v → plain_slot last.state context key ≡ plain_slot b.r.state context key
   plain_end context key v is =
       let parts = still_parts gone.settled b.o context key v is in
       elim (which (λ c. is_some (g.shares c context key)) (cs g b)) [
@@ -355,11 +403,11 @@ module _ (g : Ground) (b : Body g) (each : ChildrenEnd g) (drawn : (after_all g 
           gone.stand context key v was.1 on was.2 (shared_below g b was.1 context key v was.2 (touches g b was.1 context key was.0 was.3) is)
     ];
     unchanged = plain_end;
-    untouched = λ context number place key v event is has there on made.
+    untouched = λ context number place key v event is left has there on made.
         let parts = still_parts gone.settled b.o context key v is in
         let by = maker_of g b place made in
         let ch = maker_changes g b by.i by.less context number place key event (in_nodes g b g.node context key (open_touched context key v parts.1)) has there on by.made in
         let c_in = here g b by.i by.less in
         gone.untouched by.i context number place key v (child_at g b by.i) event by.less parts.0 (open_free context key v parts.1) c_in
-        (shared_below g b (child_at g b by.i) context key v c_in (g.basis.covered.touches (child_at g b by.i) context key ch) parts.1) has there on by.made;
+        (shared_below g b (child_at g b by.i) context key v c_in (g.basis.covered.touches (child_at g b by.i) context key ch) parts.1) left has there on by.made;
   }

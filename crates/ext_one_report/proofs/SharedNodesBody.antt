@@ -10,7 +10,7 @@ use Rattle.ext_model.specs.declared.look.Look.TheVariants as look
 use Rattle.ext_model.specs.CallActs.{look_after}
 use Rattle.ext_model.specs.Events.{place_of}
 use Rattle.ext_model.specs.History.{History, slots_in}
-use Rattle.ext_model.specs.Sizes.{most_numbers}
+use Rattle.ext_one_report.proofs.Numbers.{enough_numbers}
 use Rattle.ext_tree.specs.Keys.{KeyValue}
 use Rattle.ext_tree.specs.Trees.{Id, IsParentOf, IsPathOf, IsTree, children_of}
 use Rattle.ext_tree.proofs.TreeLaws.{parents_list_children}
@@ -18,7 +18,6 @@ use Rattle.ext_locks.specs.Opening.{LocksView}
 use Rattle.ext_plan.specs.Plans.{PlanText}
 use Rattle.ext_plan.specs.PlanCalls.{concurrent_of}
 use Rattle.ext_plan.specs.ReadPlans.{ids_of_nodes}
-use Rattle.ext_plan.specs.Values.{ValueText}
 use Rattle.ext_races.specs.MadeSteps.{plan_path}
 use Rattle.ext_engine.specs.RunLaws.{HasRun}
 use Rattle.ext_engine.specs.Meeting.{HasSeenWithin, first_seen}
@@ -36,8 +35,7 @@ use Rattle.ext_one_report.proofs.MatchingWords.{HasNumberIn, Places, RunView, ce
 use Rattle.ext_one_report.proofs.StepsWords.{IsLaneIn}
 use Rattle.ext_one_report.proofs.Calls.{lane_before}
 use Rattle.ext_one_report.proofs.Standings.{matched_empty}
-use Rattle.ext_one_report.proofs.Open.{AreNear, Computes, is_open, some_or_none}
-use Rattle.ext_one_report.specs.Shares.{Open}
+use Rattle.ext_one_report.proofs.Open.{AreNear, Computes, Given, Open, is_open, some_or_none}
 use Rattle.ext_one_report.proofs.Shared.{unshared}
 use Rattle.ext_one_report.proofs.SharedFresh.{IsFresh}
 use Rattle.ext_one_report.specs.Within.{is_within}
@@ -104,7 +102,7 @@ module _ (g : Ground) where
   abbrev pub ChildrenEnd : Type 0
   ChildrenEnd =
       (child : ℕ) (o : Open) (s : Lanes StoredValue) (ran : List Ran) (u : Lanes StoredValue) (r : RunState) → IsChild child → ChildRun over g.depth child s ran u
-      → BeginsNear g.plan g.run g.locks g.h g.touched g.changes g.changed g.shares child o s u r → (step r child).state.store.drawn < most_numbers g.plan.size
+      → BeginsNear g.plan g.run g.locks g.h g.touched g.changes g.changed g.shares child o s u r → (step r child).state.store.drawn < enough_numbers g.plan.size
       → Ends g.plan g.run g.locks g.h g.touched g.changes g.changed g.shares child o s ran u r (step r child)
 
   abbrev pub beside_ones : List ℕ
@@ -171,7 +169,7 @@ pub record Body (g : Ground) : Type 0 where
   pub known : All (IsLaneIn g.run) body.joined
   pub apart : AreApart body.joined
   pub o : Open
-  pub among : (context : ℕ) (key : KeyValue) (v : ValueText) → o context key ≡ Some v → g.shares g.node context key ≡ Some v
+  pub among : (context : ℕ) (key : KeyValue) (v : Given) → o context key ≡ Some v → g.shares g.node context key ≡ Some v
   pub own : AreOwn g.run g.h (unshared (g.touched g.node) o) opened.first body.joined
   pub computed : AreComputed g.run g.h o opened.first body.joined
   pub r : RunState
@@ -251,7 +249,7 @@ module _ (g : Ground) (b : Body g) where
   pub in_nodes : (n context : ℕ) (key : KeyValue) → g.touched n context key ≡ true → context < length g.plan.nodes
   in_nodes n context key is = g.basis.covered.within n context key is
 
-  pub touches : (c context : ℕ) (key : KeyValue) (v : ValueText) → g.shares c context key ≡ Some v → g.touched c context key ≡ true
+  pub touches : (c context : ℕ) (key : KeyValue) (v : Given) → g.shares c context key ≡ Some v → g.touched c context key ≡ true
   touches c context key v is = g.basis.shared.touched_there c context key v is
 
   -- ---- which places are open for the children
@@ -263,10 +261,10 @@ module _ (g : Ground) (b : Body g) where
   abbrev pub open_of : ℕ → Open
   open_of c context key = if free context key then g.shares c context key else None
 
-  pub open_is : (c context : ℕ) (key : KeyValue) (v : ValueText) → free context key ≡ true → g.shares c context key ≡ Some v → open_of c context key ≡ Some v
+  pub open_is : (c context : ℕ) (key : KeyValue) (v : Given) → free context key ≡ true → g.shares c context key ≡ Some v → open_of c context key ≡ Some v
   open_is c context key v is shares = ap (λ x. if x then g.shares c context key else None) is ∙ shares
 
-  pub open_parts : (c context : ℕ) (key : KeyValue) (v : ValueText) → open_of c context key ≡ Some v → (free context key ≡ true) × (g.shares c context key ≡ Some v)
+  pub open_parts : (c context : ℕ) (key : KeyValue) (v : Given) → open_of c context key ≡ Some v → (free context key ≡ true) × (g.shares c context key ≡ Some v)
   open_parts c context key v is = elim (bools (free context key)) [
     | inl on ↦ (on, sym (ap (λ x. if x then g.shares c context key else None) on) ∙ is)
     | inr off ↦ not_both (open_of c context key) v (ap (λ x. if x then g.shares c context key else None) off) is
@@ -282,7 +280,7 @@ module _ (g : Ground) (b : Body g) where
   ]
 
   -- what is shared and not open is not free
-  pub not_free : (c context : ℕ) (key : KeyValue) (v : ValueText) → g.shares c context key ≡ Some v → open_of c context key ≡ None → free context key ≡ false
+  pub not_free : (c context : ℕ) (key : KeyValue) (v : Given) → g.shares c context key ≡ Some v → open_of c context key ≡ None → free context key ≡ false
   not_free c context key v is none = elim (bools (free context key)) [
     | inl on ↦ not_both (open_of c context key) v none (open_is c context key v on is)
     | inr off ↦ off
@@ -304,7 +302,7 @@ module _ (g : Ground) (b : Body g) where
       ])
 
   -- what a child touches that is open for the container, it shares: nothing was computed there before it
-  pub shared_below : (c context : ℕ) (key : KeyValue) (v : ValueText) → Contains cs c → g.touched c context key ≡ true → b.o context key ≡ Some v → g.shares c context key ≡ Some v
+  pub shared_below : (c context : ℕ) (key : KeyValue) (v : Given) → Contains cs c → g.touched c context key ≡ true → b.o context key ≡ Some v → g.shares c context key ≡ Some v
   shared_below c context key v c_in is opens =
       g.basis.shared.below g.node c context key v (beside_child g c c_in) (b.among context key v opens) is (λ computed. not_both (b.o context key) v (b.closed.none context key computed) opens)
 
@@ -314,8 +312,8 @@ module _ (g : Ground) (b : Body g) where
     | inr some ↦ not_both (g.shares c context key) some.0 none (shared_below c context key some.0 c_in is some.1)
   ]
 
-  -- all children that share a place share one value there
-  pub same_value : (c x context : ℕ) (key : KeyValue) (v w : ValueText) → Contains cs c → Contains cs x → g.shares c context key ≡ Some v → g.shares x context key ≡ Some w → v ≡ w
+  -- all children that share a place compute the same there
+  pub same_value : (c x context : ℕ) (key : KeyValue) (v w : Given) → Contains cs c → Contains cs x → g.shares c context key ≡ Some v → g.shares x context key ≡ Some w → v ≡ w
   same_value c x context key v w c_in x_in first second = g.basis.shared.same g.node c x context key v w (beside_child g c c_in) (beside_child g x x_in) first second
 
   -- ---- who made events
@@ -352,14 +350,14 @@ module _ (g : Ground) (b : Body g) where
       context number place key event few has there on made
 
   -- a child that makes an event at a place that another shares shares it too
-  pub maker_shares : (c : ℕ) → Contains cs c → (context number : ℕ) (key : KeyValue) (v : ValueText) → g.shares c context key ≡ Some v → HasNumberIn g.run key number → (place : ℕ) (event : Event ℕ) → slice_get g.h place ≡ Some event
+  pub maker_shares : (c : ℕ) → Contains cs c → (context number : ℕ) (key : KeyValue) (v : Given) → g.shares c context key ≡ Some v → HasNumberIn g.run key number → (place : ℕ) (event : Event ℕ) → slice_get g.h place ≡ Some event
       → place_of event.act ≡ Some (cell number context) → (i : ℕ) → i < length cs → IsMadeIn g.h place (s_of i).first (u_of i).first → g.shares (child_at i) context key ≡ Some v
   maker_shares c c_in context number key v is has place event there on i less made =
       shares_too g.plan g.run g.locks g.h g.touched g.changes g.changed g.shares g.basis g.node (child_at i) c context key v (conc (child_at i) (here i less)) (conc c c_in) is
       (maker_changes i less context number place key event (in_nodes c context key (touches c context key v is)) has there on made)
 
-  -- each event at a place that a child shares computes its value
-  pub computed_at : (c : ℕ) → Contains cs c → (context number : ℕ) (key : KeyValue) (v : ValueText) → g.shares c context key ≡ Some v → HasNumberIn g.run key number → Between g.h since until (cell number context) (Computes g.run v)
+  -- each event at a place that a child shares computes what they compute there
+  pub computed_at : (c : ℕ) → Contains cs c → (context number : ℕ) (key : KeyValue) (v : Given) → g.shares c context key ≡ Some v → HasNumberIn g.run key number → Between g.h since until (cell number context) (Computes g.run v)
   computed_at c c_in context number key v is has place event low high there on =
       let touched = touches c context key v is in
       elim (some_or_none (b.o context key)) [
@@ -377,7 +375,7 @@ module _ (g : Ground) (b : Body g) where
   path_of : (context : ℕ) → context < length g.plan.nodes → HasPath g.plan g.run g.locks g.h g.touched g.changes g.changed g.shares g.basis context
   path_of context less = has_path g.plan g.run g.locks g.h g.touched g.changes g.changed g.shares g.basis context less
 
-  module _ (c : ℕ) (c_in : Contains cs c) (context number : ℕ) (key : KeyValue) (v : ValueText) (is : g.shares c context key ≡ Some v) (has : HasNumberIn g.run key number) (above : List ℕ)
+  module _ (c : ℕ) (c_in : Contains cs c) (context number : ℕ) (key : KeyValue) (v : Given) (is : g.shares c context key ≡ Some v) (has : HasNumberIn g.run key number) (above : List ℕ)
       (path_is : IsPathOf (ids g) context (context ∷ above)) where
     -- what stands above it
     pub record IsAbove (at : ℕ) : Type 0 where
@@ -438,13 +436,13 @@ module _ (g : Ground) (b : Body g) where
         both_ways (free context key) (or_second (is_open b.o context key) (all_clear b.r.state (plan_path g.plan context) key) clear) off)
 
   -- nothing happens at a place that a child shares and that is not free,
-  pub frozen : (c : ℕ) → Contains cs c → (context number : ℕ) (key : KeyValue) (v : ValueText) → g.shares c context key ≡ Some v → HasNumberIn g.run key number → free context key ≡ false
+  pub frozen : (c : ℕ) → Contains cs c → (context number : ℕ) (key : KeyValue) (v : Given) → g.shares c context key ≡ Some v → HasNumberIn g.run key number → free context key ≡ false
       → events_at (cell number context) until ≡ events_at (cell number context) since
   frozen c c_in context number key v is has off =
       let path = path_of context (in_nodes c context key (touches c context key v is)) in
       frozen_there c c_in context number key v is has path.above path.path_is path.same off
 
   -- up to any moment between
-  pub frozen_to : (m : History) → IsPrefix since m → IsPrefix m until → (c : ℕ) → Contains cs c → (context number : ℕ) (key : KeyValue) (v : ValueText) → g.shares c context key ≡ Some v → HasNumberIn g.run key number
+  pub frozen_to : (m : History) → IsPrefix since m → IsPrefix m until → (c : ℕ) → Contains cs c → (context number : ℕ) (key : KeyValue) (v : Given) → g.shares c context key ≡ Some v → HasNumberIn g.run key number
       → free context key ≡ false → events_at (cell number context) m ≡ events_at (cell number context) since
   frozen_to m first second c c_in context number key v is has off = quiet_up_to g.h since until m (cell number context) first second until_in_h (frozen c c_in context number key v is has off)

@@ -1,14 +1,15 @@
--- The callbacks of a container, on the first of its lanes and in the plain run: from before them to after them, where some of their steps compute values at open places.
+-- The callbacks of a container, on the first of its lanes and in the plain run: from before them to after them, where some of their steps compute at open places.
 use Rattle.std.proofs.Common.{◌≡◌, ℕ, ◌≤◌, ◌+◌, ◌<◌, ◌&&◌, inl, inr, true, not, drop, List, [], ◌∷◌, ◌++◌, append-nil, length, None, Some, refl, ap, sym, subst, ◌∙◌, arith}
 use Rattle.std.specs.Prelude.{All, Contains}
 use Rattle.std.specs.List.{flat_map}
 use Rattle.std.proofs.lemmas.List.Elements.{All-contains, All-head, All-tail, Contains-get_or}
+use Rattle.std.proofs.lemmas.List.Sums.{sum_by-append}
 use Rattle.ext_history.specs.Histories.{seen_by}
 use Rattle.ext_history.proofs.Legal.{legal_begun}
 use Rattle.ext_history.proofs.Lists.{contains_none}
 use Rattle.ext_model.specs.declared.event.Event.{Event}
 use Rattle.ext_model.specs.History.{History}
-use Rattle.ext_model.specs.Sizes.{most_numbers}
+use Rattle.ext_one_report.proofs.Numbers.{enough_numbers}
 use Rattle.ext_tree.specs.Keys.{KeyValue}
 use Rattle.ext_tree.specs.Trees.{IsPathOf}
 use Rattle.ext_lifecycle.specs.declared.call.Call.{Call}
@@ -19,7 +20,6 @@ use Rattle.ext_plan.specs.Plans.{KeyText, PlanText, StepText}
 use Rattle.ext_plan.specs.PlanCalls.{steps_of_call}
 use Rattle.ext_plan.specs.ReadPlans.{StayOnPath}
 use Rattle.ext_plan.specs.Steps.{height}
-use Rattle.ext_plan.specs.Values.{ValueText}
 use Rattle.ext_races.specs.Touches.{keys_named}
 use Rattle.ext_store.specs.Stores.{IsLaneOf}
 use Rattle.ext_engine.specs.Meeting.{HasSeenWithin, first_seen}
@@ -31,19 +31,17 @@ use Rattle.ext_races.proofs.Lists.{all_contained}
 use Rattle.ext_plain.specs.NodeCalls.{CallsEnd, call_run, make_all, make_befores, no_calls}
 use Rattle.ext_plain.specs.ValueStates.{ValueState}
 use Rattle.ext_plain.proofs.Nodes.{start_is}
-use Rattle.ext_one_report.proofs.CallListsWords.{CallFits}
 use Rattle.ext_one_report.proofs.ComputedAbove.{NoneOpenAbove}
 use Rattle.ext_one_report.proofs.MatchingWords.{Matches, Places, RunView, cell_of}
 use Rattle.ext_one_report.proofs.StepsWords.{IsLaneIn}
-use Rattle.ext_one_report.proofs.CallLists.{all_alike, befores_first}
 use Rattle.ext_one_report.proofs.Matching.{matches_at_fewer, numbered_at_fewer}
 use Rattle.ext_one_report.proofs.Orders.{Orders}
 use Rattle.ext_one_report.proofs.OrdersBounds.{orders_kept}
 use Rattle.ext_one_report.proofs.Fills.{Fills, IsFilledBy, IsFilledIn, Spot}
 use Rattle.ext_one_report.proofs.FillsLanes.{filled_by, filled_in, none_filled}
 use Rattle.ext_one_report.proofs.FillsLaws.{fills_as, fills_none}
-use Rattle.ext_one_report.proofs.Open.{AreNear, AreOpenBeside, also, place_of_step, still_open}
-use Rattle.ext_one_report.specs.Shares.{Open, SharesNothing}
+use Rattle.ext_one_report.proofs.Open.{AreNear, AreOpenBeside, Given, Open, also, place_of_step, still_open, values_of}
+use Rattle.ext_one_report.specs.Shares.{SharesNothing}
 use Rattle.ext_one_report.proofs.OpenCalls.{BeforesFit, CallFitsOpen, CallsNear, LeavesNear, NoneOpen, StepsFit}
 use Rattle.ext_one_report.proofs.OpenSteps.{AreBesideOpen, StandsInBoth}
 use Rattle.ext_one_report.proofs.Shared.{unshared}
@@ -51,7 +49,7 @@ use Rattle.ext_one_report.proofs.Levels.{AreLevel}
 use Rattle.ext_one_report.proofs.SharedNodesWords.{AreComputed, AreOwn}
 use Rattle.ext_one_report.proofs.Beside.{MakesFully, all_find, all_made, befores_find, befores_made, first_of_all, first_of_befores}
 use Rattle.ext_one_report.proofs.LanesAlone.{first_is_alone, first_is_shown, is_more, is_on_place}
-use Rattle.ext_one_report.proofs.NodeCalls.{each_of, fits_more, step_more}
+use Rattle.ext_one_report.proofs.NodeCalls.{each_of, step_more}
 use Rattle.ext_one_report.proofs.NodePlaces.{and_of, away, away_first, away_from, away_is, or_either, or_first, or_second, within_any}
 use Rattle.ext_one_report.proofs.NodeRooms as node_calls
 use Rattle.ext_one_report.proofs.NodeRooms.{all_room, befores_room}
@@ -63,7 +61,7 @@ use Rattle.ext_one_report.proofs.SharedNodesPasses.{Passes, own_fewer}
 use Rattle.ext_one_report.proofs.SharedNodesPlaces.{not_both, still_cases, still_parts, unshared_is, unshared_parts}
 use Rattle.ext_one_report.proofs.SharedNodesTold.{AreCounted}
 use Rattle.ext_one_report.proofs.SharedNodesTurn.{Since, Whole, computed_then, own_then}
-use Rattle.ext_one_report.proofs.SharedTestsOpen.{after_fits, befores_fit, beside_at_others, calls_fit_others, none_fewer, shared_beside}
+use Rattle.ext_one_report.proofs.SharedTestsOpen.{after_fits, befores_fit, none_fewer, same_filled, shared_beside}
 use Rattle.ext_one_report.proofs.OpenCallLists.{all_calls_end_near, befores_end_near}
 
 -- steps that fit some places fit others, where these have all of them that are in a context of the path
@@ -75,14 +73,15 @@ fits_places run keys path (step ∷ steps) places more o stay each fits =
     let rest : StayOnPath (length path) steps = All-tail High step steps stay in
     elim fits [
       | inl within ↦ inl (step_more keys path places more each step (All-head High step steps stay) within.0, within.1, fits_places run keys path steps places more o rest each within.2)
-      | inr computes ↦ inr (
+      | inr (inl computes) ↦ inr (inl (
         computes.0,
         fits_places run keys path steps (also (place_of_step keys path step) places) (also (place_of_step keys path step) more) (still_open (place_of_step keys path step) o) rest
             (λ context key there is. elim (or_either (places context key) (place_of_step keys path step context key) is) [
               | inl was ↦ or_first (more context key) (place_of_step keys path step context key) (each context key there was)
               | inr at ↦ or_second (more context key) (place_of_step keys path step context key) at
             ]) computes.1,
-      )
+      ))
+      | inr (inr fails) ↦ inr (inr (fails.0, fits_places run keys path steps places more o rest each fails.1))
     ]
 
 -- and so do calls one after another
@@ -119,7 +118,7 @@ module _ (g : Ground) where
     abbrev places : Places
     places = away g.plan done (unshared (g.touched g.node) o)
 
-    among : (context : ℕ) (key : KeyValue) (v : ValueText) → o context key ≡ Some v → g.shares g.node context key ≡ Some v
+    among : (context : ℕ) (key : KeyValue) (v : Given) → o context key ≡ Some v → g.shares g.node context key ≡ Some v
     among context key v opens = w.among context key v (since.fewer context key v opens)
 
     apart : NoneOpenAbove g.plan (drop 1 g.path) o
@@ -150,6 +149,7 @@ module _ (g : Ground) where
               and_of (unshared (g.touched g.node) o at key) (not (within_any g.plan done at)) (All-contains P path at (all.above context key v path opens path_is) there)
               (ap not (off_above g context at key v path (among context key v opens) in_ids there done are)) in
               λ k d inside. each _ (Contains-get_or path k d inside);
+          kept = all.kept;
         }
 
     beside : IsLaneOf g.run.store.id a → AreBesideOpen g.run g.path places o a b s
@@ -190,14 +190,6 @@ module _ (g : Ground) where
           fits_places g.run g.plan.keys g.path (steps_of_call g.plan call) (unshared (g.touched g.node) o) places o one.0 on_its_way one.1,
         )
 
-    -- and where the node shares nothing, all that they touch is among them
-    fits_others : SharesNothing (g.shares g.node) → (call : Call) → Own call → CallFits g.plan g.path places call
-    fits_others nothing call own =
-        fits_more g.plan g.path (unshared (g.touched g.node) o) places call
-        (λ context key there place. away_is g.plan done (unshared (g.touched g.node) o) context key place
-        (λ x x_in inside. path_apart g.plan (plan_tree g.plan g.run g.locks g.h g.touched g.changes g.changed g.shares g.basis) g.node g.path x context (path_in g) (are x x_in) there inside))
-        (calls_fit_others g.plan g.run g.locks g.h g.touched g.changes g.changed g.shares g.basis g.node g.path (path_in g) o among nothing call own)
-
     -- what is not open after them was not, or is settled
     not_open_more : (settled : Places) (context : ℕ) (key : KeyValue) → away g.plan done (unshared (g.touched g.node) (still_open settled o)) context key ≡ true → also settled places context key ≡ true
     not_open_more settled context key there =
@@ -233,7 +225,7 @@ module _ (g : Ground) where
             | inl on ↦ to_ys (λ m. StandsInBoth g.run v context key m t) (leaves.stand context key v on opens)
           ];
           unchanged = λ context key v opens. let parts = still_parts leaves.settled o context key v opens in leaves.unchanged context key v parts.0 parts.1;
-          untouched = λ context number place key v event opens has there on made.
+          untouched = λ context number place key v event opens left has there on made.
               let parts = still_parts leaves.settled o context key v opens in
               let here : IsMadeIn g.h place (a ∷ rest) (b ∷ rest) = subst (λ (l : List PlanLane). IsMadeIn g.h place (a ∷ rest) l) is (subst (λ (l : List PlanLane). IsMadeIn g.h place l ys) was made) in
               elim here [
@@ -241,7 +233,7 @@ module _ (g : Ground) where
                 | inl one ↦
                     let both : Some one.event ≡ Some event = sym one.there ∙ there in
                     let same : one.event ≡ event = cc both in
-                    leaves.untouched context key number v parts.0 parts.1 has goes.seen.0 (sym goes.seen.1) event
+                    leaves.untouched context key number v parts.0 parts.1 left has goes.seen.0 (sym goes.seen.1) event
                     (is_more g.h (seen_by a.cells.view) (seen_by b.cells.view) goes.seen b_in place event there one.since one.until)
                     (is_on_place (cell_of g.run number context) event.act on) (sym (ap (λ (x : Event ℕ). x.lane) same) ∙ one.own_event)
               ];
@@ -257,7 +249,7 @@ module _ (g : Ground) where
           near = subst (λ (l : List PlanLane). AreNear g.run o (first_seen l) s) one since.near;
           stand = λ context key v opens none. not_both (o context key) v none opens;
           unchanged = λ context key v opens. refl;
-          untouched = λ context number place key v event opens has there on made. same_made g.h xs place (subst (λ (l : List PlanLane). IsMadeIn g.h place xs l) (sym one) made);
+          untouched = λ context number place key v event opens left has there on made. same_made g.h xs place (subst (λ (l : List PlanLane). IsMadeIn g.h place xs l) (sym one) made);
         }
 
     -- what the lanes fill the first of them does
@@ -283,7 +275,7 @@ module _ (g : Ground) where
     -- What is so after these calls, where all up to them had these outcomes, and those before them computed so many values in the plain run
     pub record Called (outcomes made : List Outcome) (had : ℕ) (end : CallsEnd) : Type 0 where
       pub near : CallsNear outcomes end
-      pub counted : SharesNothing (g.shares g.node) → AreCounted outcomes end
+      pub counted : SharesNothing (values_of (g.shares g.node)) → AreCounted outcomes end
       pub later : Open
       pub step : Passes g.plan g.run g.h (g.touched g.node) done o xs s later ys end.state
       pub plain : ℕ
@@ -313,7 +305,7 @@ module _ (g : Ground) where
     held_here = record { memory = since.level.memory; keeps = since.level.keeps; gave = since.level.gave; of_plan = since.level.of_plan }
 
     pub befores_called : (calls : List Call) (os : List Outcome) → All Own calls → calls_before g.plan g.node ≡ calls → MakesBefores (MakesFully g.plan g.run g.locks g.node None) calls a os b
-        → (make_befores (call_run g.plan g.path) calls (no_calls s)).state.store.drawn < most_numbers g.plan.size → Opened os (make_befores (call_run g.plan g.path) calls (no_calls s))
+        → (make_befores (call_run g.plan g.path) calls (no_calls s)).state.store.drawn < enough_numbers g.plan.size → Opened os (make_befores (call_run g.plan g.path) calls (no_calls s))
     befores_called [] os own are_its made drawn = record {
       called = record {
         near = subst (λ (l : List Outcome). CallsNear l (no_calls s)) (sym made.0) (record { says = refl; counts = refl });
@@ -332,7 +324,7 @@ module _ (g : Ground) where
     }
     befores_called (call ∷ calls) os own are_its made drawn =
         let all = call ∷ calls in
-        let room = befores_room (keys_named g.plan) (most_numbers g.plan.size) g.plan g.path all (no_calls s) refl (each_of Own Named all named own) since.level.gave since.level.memory drawn in
+        let room = befores_room (keys_named g.plan) (enough_numbers g.plan.size) g.plan g.path all (no_calls s) refl (each_of Own Named all named own) since.level.gave since.level.memory drawn in
         let its = beside (first_of_befores g.plan g.run g.locks g.node None call calls a os b made) in
         let finds = befores_find g.plan g.run g.locks g.node None all a os b made in
         let makes = befores_made g.plan g.run g.locks g.node None all a os b made in
@@ -341,9 +333,9 @@ module _ (g : Ground) where
           called = record {
             near = both.0;
             counted = λ nothing.
-                let alike = befores_first g.run g.plan g.node g.path places g.path_is all a os b s
-                (record { beside = beside_at_others g.run g.path places o a b s its; fits = each_of Own (CallFits g.plan g.path places) all (fits_others nothing) own; finds = finds }) room makes in
-                record { computed = alike.computed; found = alike.found };
+                let end = make_befores (call_run g.plan g.path) all (no_calls s) in
+                let same = same_filled (g.shares g.node) o (still_open both.1.settled o) (IsFilledBy g.run a b) s (computed_in os) end.computed among nothing both.3 in
+                record { computed = same; found = omega (arith, same, both.0.counts) };
             later = still_open both.1.settled o;
             step = passes _ both.1 (node_calls.befores_hold g.plan g.run g.basis.read g.node g.path (path_in g) all (no_calls s) own held_here);
             plain = (make_befores (call_run g.plan g.path) all (no_calls s)).computed;
@@ -356,8 +348,8 @@ module _ (g : Ground) where
               subst (λ (l : List Call). NoneOpen g.plan.keys g.path (still_open both.1.settled o) (flat_map (steps_of_call g.plan) l)) (sym are_its) (both.2 successful);
         }
 
-    pub all_called : (calls : List Call) (before os : List Outcome) (e : CallsEnd) → e.state ≡ s → CallsNear before e → (SharesNothing (g.shares g.node) → AreCounted before e) → All Own calls → calls_after g.plan g.node ≡ calls → MakesAll (MakesFully g.plan g.run g.locks g.node None) calls a os b
-        → (make_all (call_run g.plan g.path) calls e).state.store.drawn < most_numbers g.plan.size → Called (before ++ os) os e.computed (make_all (call_run g.plan g.path) calls e)
+    pub all_called : (calls : List Call) (before os : List Outcome) (e : CallsEnd) → e.state ≡ s → CallsNear before e → (SharesNothing (values_of (g.shares g.node)) → AreCounted before e) → All Own calls → calls_after g.plan g.node ≡ calls → MakesAll (MakesFully g.plan g.run g.locks g.node None) calls a os b
+        → (make_all (call_run g.plan g.path) calls e).state.store.drawn < enough_numbers g.plan.size → Called (before ++ os) os e.computed (make_all (call_run g.plan g.path) calls e)
     all_called [] before os e at near counted own are_its made drawn = record {
       near = subst (λ (l : List Outcome). CallsNear (before ++ l) e) (sym made.0) (subst (λ (l : List Outcome). CallsNear l e) (sym (append-nil before)) near);
       counted = λ nothing.
@@ -374,7 +366,7 @@ module _ (g : Ground) where
         let all = call ∷ calls in
         let B : ValueState → Type 0 = λ t. AreBesideOpen g.run g.path places o a b t in
         let held : Holds e.state = subst Holds (sym at) held_here in
-        let room = all_room (keys_named g.plan) (most_numbers g.plan.size) g.plan g.path all e (each_of Own Named all named own) held.gave held.memory drawn in
+        let room = all_room (keys_named g.plan) (enough_numbers g.plan.size) g.plan g.path all e (each_of Own Named all named own) held.gave held.memory drawn in
         let its : AreBesideOpen g.run g.path places o a b e.state = subst B (sym at) (beside (first_of_all g.plan g.run g.locks g.node None call calls a os b made)) in
         let finds = all_find g.plan g.run g.locks g.node None all a os b made in
         let makes = all_made g.plan g.run g.locks g.node None all a os b made in
@@ -389,10 +381,10 @@ module _ (g : Ground) where
           near = both.0;
           counted = λ nothing.
               let early = counted nothing in
-              let alike = all_alike g.run g.plan g.node g.path places g.path_is all before a os b e
-              (record { says = near.says; computed = early.computed; found = early.found; matches = its.matches; numbered = its.numbered })
-              (record { beside = beside_at_others g.run g.path places o a b e.state its; fits = each_of Own (CallFits g.plan g.path places) all (fits_others nothing) own; finds = finds }) room makes in
-              record { computed = alike.computed; found = alike.found };
+              let same = same_filled (g.shares g.node) o (still_open leaves.settled o) (IsFilledBy g.run a b) s (computed_in os) leaves_all.1 among nothing leaves_all.3 in
+              let sum = sum_by-append (λ (x : Outcome). x.computed) before os in
+              let computed : computed_in (before ++ os) ≡ last.computed = omega (arith, sum, early.computed, same, leaves_all.2) in
+              record { computed = computed; found = omega (arith, computed, both.0.counts) };
           later = still_open leaves.settled o;
           step = passes _ leaves (node_calls.all_hold g.plan g.run g.basis.read g.node g.path (path_in g) all e own held);
           plain = leaves_all.1;

@@ -1,4 +1,4 @@
--- One cell between two moments of a history: where nothing happens there, where a value stands that all events compute, and where it may stand.
+-- One cell between two moments of a history: where nothing happens there, where a value or a fault stands that all events compute, and where it may stand.
 use Rattle.std.proofs.Common.{◌≡◌, ℕ, ◌+◌, ◌<◌, ◌≤◌, zero, suc, true, [], ◌∷◌, ◌++◌, Contains, Some, length, length-append, append-nil, ap, refl, sym, subst, ◌∙◌, arith, nat_eq}
 use Rattle.std.specs.Prelude.{slice_get}
 use mathlib.Core.List.{IsPrefix, append_cancel_left}
@@ -11,7 +11,6 @@ use Rattle.ext_model.specs.declared.event.Act.{Act}
 use Rattle.ext_model.specs.declared.event.Event.{Event}
 use Rattle.ext_model.specs.Events.{is_on, place_of}
 use Rattle.ext_model.specs.History.{History, IsLegal, Limits, state_after}
-use Rattle.ext_plan.specs.Values.{ValueText}
 use Rattle.ext_one_report.specs.Changing.{events_at}
 use Rattle.ext_one_report.proofs.Events.{behind_part, in_part, in_whole}
 use Rattle.ext_one_report.proofs.Kept.{same_there}
@@ -19,8 +18,8 @@ use Rattle.ext_one_report.proofs.Sees.{at_place}
 use Rattle.ext_engine.proofs.Acts.{shorter}
 use Rattle.ext_one_report.proofs.MatchingWords.{RunView}
 use Rattle.ext_one_report.proofs.OnCells.{none_at, same_slot}
-use Rattle.ext_one_report.proofs.Open.{Computes, MayStand, Stands}
-use Rattle.ext_one_report.proofs.Standing.{keeps_near, stays_there}
+use Rattle.ext_one_report.proofs.Open.{Computes, Given, MayStand, Stands}
+use Rattle.ext_one_report.proofs.Standing.{keeps_near, standing_stays}
 use Rattle.ext_one_report.proofs.LanesAlone.{is_on_place, place_in}
 
 there_in : (more : History) (k : ℕ) (e : Event ℕ) → slice_get more k ≡ Some e → Contains more e
@@ -65,17 +64,17 @@ module _ (h g f : History) (on : IsPrefix g f) (within : IsPrefix f h) (cell : �
           behind (suc n) zero less = absurd (omega (arith, less))
           behind (suc n) (suc m) less = let r = behind n m (omega (arith, less)) in let e = r.1 in (r.0, omega (arith, e))
 
-  -- where the value stands, and all events compute it, there is none
-  pub stands_stay : (run : RunView) (limits : Limits) (v : ValueText) → IsLegal limits h → Stands run.meaning v ((state_after g).slots cell) → Between h g f cell (Computes run v) → events_at cell f ≡ events_at cell g
+  -- where it stands, and all events compute it, there is none
+  pub stands_stay : (run : RunView) (limits : Limits) (v : Given) → IsLegal limits h → Stands run.meaning v ((state_after g).slots cell) → Between h g f cell (Computes run v) → events_at cell f ≡ events_at cell g
   stands_stay run limits v legal stands computed =
       let more = on.0 in
       let up_to : IsLegal limits (g ++ more) = subst (IsLegal limits) (sym on.1) (legal_begun f h within legal) in
-      let quiet = stays_there run limits v cell stands.number more g up_to stands.there (each_more (Computes run v) computed) in
+      let quiet = standing_stays run limits v cell g more up_to stands (each_more (Computes run v) computed) in
       let parts = filter-append (λ (x : Event ℕ). is_on nat_eq cell x.act) g more in
       sym (ap (λ (l : History). events_at cell l) on.1) ∙ (parts ∙ (ap (λ l. events_at cell g ++ l) (none_at more cell quiet) ∙ append-nil (events_at cell g)))
 
   -- where it may stand, it may later
-  pub near_stay : (run : RunView) (v : ValueText) → MayStand run.meaning v ((state_after g).slots cell) → Between h g f cell (Computes run v) → MayStand run.meaning v ((state_after f).slots cell)
+  pub near_stay : (run : RunView) (v : Given) → MayStand run.meaning v ((state_after g).slots cell) → Between h g f cell (Computes run v) → MayStand run.meaning v ((state_after f).slots cell)
   near_stay run v near computed =
       subst (λ (l : History). MayStand run.meaning v ((state_after l).slots cell)) on.1 (keeps_near run v cell g on.0 near (each_more (Computes run v) computed))
 
@@ -93,5 +92,5 @@ quiet_up_to h g f m cell first second within same =
     (λ place e low high there is. let b = shorter m f second in none_between h g f (prefix_trans g m f first second) within cell same place e low (omega (arith, b, high)) there is)
 
 -- and what stands there stands there still
-pub still_stands : (run : RunView) (v : ValueText) (g f : History) (cell : ℕ) → events_at cell f ≡ events_at cell g → Stands run.meaning v ((state_after g).slots cell) → Stands run.meaning v ((state_after f).slots cell)
+pub still_stands : (run : RunView) (v : Given) (g f : History) (cell : ℕ) → events_at cell f ≡ events_at cell g → Stands run.meaning v ((state_after g).slots cell) → Stands run.meaning v ((state_after f).slots cell)
 still_stands run v g f cell same stands = subst (λ x. Stands run.meaning v x) (same_slot g f cell (sym same)) stands

@@ -10,7 +10,7 @@ use Rattle.ext_history.proofs.Legal.{legal_begun}
 use Rattle.ext_history.proofs.Lists.{bools, contains_cons, contains_here, contains_none}
 use Rattle.ext_model.specs.Events.{place_of}
 use Rattle.ext_model.specs.History.{History}
-use Rattle.ext_model.specs.Sizes.{most_numbers}
+use Rattle.ext_one_report.proofs.Numbers.{enough_numbers}
 use Rattle.ext_tree.specs.Keys.{KeyValue}
 use Rattle.ext_tree.specs.Trees.{Id, IsParentOf, IsPathOf, IsTree, children_of}
 use Rattle.ext_tree.proofs.TreeLaws.{paths_are_unique}
@@ -66,8 +66,8 @@ use Rattle.ext_one_report.proofs.FillsCounts.{computed_is, of_first, told_first,
 use Rattle.ext_one_report.proofs.FillsLanes.{filled_first, filled_then, none_filled}
 use Rattle.ext_one_report.proofs.FillsLaws.{fills_as, fills_none}
 use Rattle.ext_one_report.proofs.NodeTold.{set-there}
-use Rattle.ext_one_report.proofs.Open.{AreNear, also, is_open, some_or_none, still_open}
-use Rattle.ext_one_report.specs.Shares.{Open, AreToldNear}
+use Rattle.ext_one_report.proofs.Open.{AreNear, Given, Open, also, is_open, of_value, some_or_none, still_open, values_of}
+use Rattle.ext_one_report.specs.Shares.{AreToldNear}
 use Rattle.ext_one_report.proofs.OpenSteps.{StandsInBoth}
 use Rattle.ext_one_report.proofs.Shared.{unshared}
 use Rattle.ext_one_report.proofs.OpenStep.{open_value, value_is_open}
@@ -264,14 +264,14 @@ module _ (g : Ground) (container : is_some (test_of g.plan g.node) ≡ false) (e
     | inr off ↦ subst Kept (sym (bodied_off off)) (record { fine = opened_fine; drawn = omega arith })
   ]
 
-  module _ (drawn : sealed.store.drawn < most_numbers g.plan.size) where
-    called_drawn : called_end.state.store.drawn < most_numbers g.plan.size
+  module _ (drawn : sealed.store.drawn < enough_numbers g.plan.size) where
+    called_drawn : called_end.state.store.drawn < enough_numbers g.plan.size
     called_drawn = let one = (seals_leave g.node called_end.state).drawn in omega (arith, one, drawn)
 
-    bodied_drawn : bodied_run.state.store.drawn < most_numbers g.plan.size
+    bodied_drawn : bodied_run.state.store.drawn < enough_numbers g.plan.size
     bodied_drawn = let one = all_draw g.plan g.path afters (record opened_end { state = bodied_run.state }) kept.fine.memory in let last = called_drawn in omega (arith, one, last)
 
-    opened_drawn : opened_end.state.store.drawn < most_numbers g.plan.size
+    opened_drawn : opened_end.state.store.drawn < enough_numbers g.plan.size
     opened_drawn = let one = kept.drawn in let last = bodied_drawn in omega (arith, one, last)
 
     no_child : (x : ℕ) → Contains [] x → IsChild g x
@@ -308,7 +308,7 @@ module _ (g : Ground) (container : is_some (test_of g.plan g.node) ≡ false) (e
     went_on : all_successful opened_end.calls ≡ all_successful (endings_of lanes_run.befores)
     went_on = ap all_successful (sym opened.called.near.says) ∙ texts-successful (endings_of lanes_run.befores)
 
-    among_opened : (context : ℕ) (key : KeyValue) (v : ValueText) → opened.called.later context key ≡ Some v → g.shares g.node context key ≡ Some v
+    among_opened : (context : ℕ) (key : KeyValue) (v : Given) → opened.called.later context key ≡ Some v → g.shares g.node context key ≡ Some v
     among_opened context key v is = begins.open_is context key v (opened.called.step.fewer context key v is)
 
     -- where its body is run, what its callbacks and those of nodes above have computed is not open still, and stands in the plain run
@@ -328,7 +328,7 @@ module _ (g : Ground) (container : is_some (test_of g.plan g.node) ≡ false) (e
       are : (x : ℕ) → Contains done x → IsChild g x
       open_still : Open
       since : Since g w done open_still lanes_run.body.first bodied_run.state
-      fewer : (context : ℕ) (key : KeyValue) (v : ValueText) → open_still context key ≡ Some v → opened.called.later context key ≡ Some v
+      fewer : (context : ℕ) (key : KeyValue) (v : Given) → open_still context key ≡ Some v → opened.called.later context key ≡ Some v
       fills : Fills (IsFilledIn g.run g.h lanes_run.opened lanes_run.body.first) opened.called.later open_still opened_end.state (computed_of lanes_run.below) (computed_told lanes_run.below bodied_run.results)
       orders : Orders g.run (away g.plan (first_ones ++ later_ones) (unshared (g.touched g.node) opened.called.later)) (first_seen lanes_run.opened) (first_seen lanes_run.body.first) opened_end.state bodied_run.state
       told : AllToldNear g.shares lanes_run.below r.results bodied_run.results
@@ -340,7 +340,7 @@ module _ (g : Ground) (container : is_some (test_of g.plan g.node) ≡ false) (e
         let begun : Lanes StoredValue = record { first = lanes_run.opened; second = before.second } in
         let body = lanes_run.body_made.made on in
         let is = bodied_on (went_on ∙ on) in
-        let last : (after_all g (after_all g opened_run first_ones) later_ones).state.store.drawn < most_numbers g.plan.size = subst (λ (q : RunState). q.state.store.drawn < most_numbers g.plan.size) is bodied_drawn in
+        let last : (after_all g (after_all g opened_run first_ones) later_ones).state.store.drawn < enough_numbers g.plan.size = subst (λ (q : RunState). q.state.store.drawn < enough_numbers g.plan.size) is bodied_drawn in
         let turned = body_turned g w each begun lanes_run.below lanes_run.body body bodied_in bodied_within opening from_bodied opened.called.later opened_run opened_fine since_opened (closed_opened (went_on ∙ on)) last fresh_opened in
         record {
           done = turned.done;
@@ -404,7 +404,7 @@ module _ (g : Ground) (container : is_some (test_of g.plan g.node) ≡ false) (e
     since_called : Since g w bodied.done last lanes_run.ends.called called_end.state
     since_called = since_then g w bodied.done bodied.done bodied.open_still last lanes_run.body.first lanes_run.ends.called bodied_run.state called_end.state bodied.are bodied.are to_bodied calling closing bodied.since called.step
 
-    among_last : (context : ℕ) (key : KeyValue) (v : ValueText) → last context key ≡ Some v → g.shares g.node context key ≡ Some v
+    among_last : (context : ℕ) (key : KeyValue) (v : Given) → last context key ≡ Some v → g.shares g.node context key ≡ Some v
     among_last context key v is = begins.open_is context key v (since_called.fewer context key v is)
 
     -- ---- the close
@@ -413,7 +413,7 @@ module _ (g : Ground) (container : is_some (test_of g.plan g.node) ≡ false) (e
     around = away g.plan bodied.done (unshared (g.touched g.node) last)
 
     -- open places are in other contexts
-    elsewhere : (context : ℕ) (key : KeyValue) (v : ValueText) → o context key ≡ Some v → context ≢ g.node
+    elsewhere : (context : ℕ) (key : KeyValue) (v : Given) → o context key ≡ Some v → context ≢ g.node
     elsewhere = open_elsewhere g.plan g.run g.locks g.h g.touched g.changes g.changed g.shares g.basis g.node g.path (path_in g) o begins.open_is
 
     own_context : Contains g.path g.node
@@ -450,7 +450,7 @@ module _ (g : Ground) (container : is_some (test_of g.plan g.node) ≡ false) (e
           | inr out ↦ both_ways (is_within g.plan g.node context) (child_in_node x context parent few inside) (from_not (is_within g.plan g.node context) out)
         ]
 
-    mine_away : (q : Open) (xs : List ℕ) → ((context : ℕ) (key : KeyValue) (v : ValueText) → q context key ≡ Some v → o context key ≡ Some v) → ((x : ℕ) → Contains xs x → IsChild g x) → (context : ℕ) (key : KeyValue)
+    mine_away : (q : Open) (xs : List ℕ) → ((context : ℕ) (key : KeyValue) (v : Given) → q context key ≡ Some v → o context key ≡ Some v) → ((x : ℕ) → Contains xs x → IsChild g x) → (context : ℕ) (key : KeyValue)
         → mine context key ≡ true → away g.plan xs (unshared (g.touched g.node) q) context key ≡ true
     mine_away q xs fewer children context key is =
         let parts = unshared_parts (g.touched g.node) o context key (mine_parts context key is).0 in
@@ -537,9 +537,9 @@ module _ (g : Ground) (container : is_some (test_of g.plan g.node) ≡ false) (e
     own_node : lanes_run.own.result.node ≡ g.node
     own_node = ap (λ (x : Ran). x.result.node) lanes_run.ends.own_is
 
-    own_told : AreToldNear (g.shares lanes_run.own.result.node) (with_fault_told fault_text lanes_run.own.result) outcome
+    own_told : AreToldNear (values_of (g.shares lanes_run.own.result.node)) (with_fault_told fault_text lanes_run.own.result) outcome
     own_told =
-        subst (λ (x : Ran). AreToldNear (g.shares x.result.node) (with_fault_told fault_text x.result) outcome) (sym lanes_run.ends.own_is)
+        subst (λ (x : Ran). AreToldNear (values_of (g.shares x.result.node)) (with_fault_told fault_text x.result) outcome) (sym lanes_run.ends.own_is)
         (told_as (g.shares g.node) g.node false (lanes_run.befores ++ lanes_run.ends.afters) lanes_run.ends.faults called_end (faults_of_closes called_end.state.places g.node sealed) closed.told called.near.counts called.counted)
 
     own_apart : HasRun lanes_run.below lanes_run.own.result.node → ⊥
@@ -561,7 +561,7 @@ module _ (g : Ground) (container : is_some (test_of g.plan g.node) ≡ false) (e
     abbrev settled : Places
     settled context key = is_open o context key && not (is_open last context key)
 
-    settled_was : (context : ℕ) (key : KeyValue) → settled context key ≡ true → (v : ValueText) × (o context key ≡ Some v)
+    settled_was : (context : ℕ) (key : KeyValue) → settled context key ≡ true → (v : Given) × (o context key ≡ Some v)
     settled_was context key on = open_value o context key (and_both (is_open o context key) (not (is_open last context key)) on).0
 
     settled_closed : (context : ℕ) (key : KeyValue) → settled context key ≡ true → last context key ≡ None
@@ -570,7 +570,7 @@ module _ (g : Ground) (container : is_some (test_of g.plan g.node) ≡ false) (e
       | inr some ↦ both_ways (is_open last context key) (value_is_open last context key some.0 some.1) (from_not (is_open last context key) (and_both (is_open o context key) (not (is_open last context key)) on).1)
     ]
 
-    open_last : (context : ℕ) (key : KeyValue) (v : ValueText) → settled context key ≡ false → o context key ≡ Some v → last context key ≡ Some v
+    open_last : (context : ℕ) (key : KeyValue) (v : Given) → settled context key ≡ false → o context key ≡ Some v → last context key ≡ Some v
     open_last context key v off is = elim (some_or_none (last context key)) [
       | inl none ↦
           both_ways (settled context key) (and_of (is_open o context key) (not (is_open last context key)) (value_is_open o context key v is)
@@ -588,7 +588,7 @@ module _ (g : Ground) (container : is_some (test_of g.plan g.node) ≡ false) (e
 
     near_still : AreNear g.run (still_open settled o) (first_seen after.first) sealed
     near_still =
-        let to_last : (context : ℕ) (key : KeyValue) (v : ValueText) → still_open settled o context key ≡ Some v → last context key ≡ Some v =
+        let to_last : (context : ℕ) (key : KeyValue) (v : Given) → still_open settled o context key ≡ Some v → last context key ≡ Some v =
         λ context key v is. let parts = still_parts settled o context key v is in open_last context key v parts.0 parts.1 in
         record {
           lanes = λ context key number v is has. near_last.lanes context key number v (to_last context key v is) has;
@@ -628,8 +628,8 @@ module _ (g : Ground) (container : is_some (test_of g.plan g.node) ≡ false) (e
 
     untouched : AreUntouched g.run g.h o settled before.first after.first
     untouched = record {
-      none = λ context number place key v event is off has there on made. elim (all_made_then g.h before.first lanes_run.ends.called after.first place to_called.goes made) [
-        | inl early ↦ since_called.untouched context number place key v event (open_last context key v off is) has there on early
+      none = λ context number place key v event is off left has there on made. elim (all_made_then g.h before.first lanes_run.ends.called after.first place to_called.goes made) [
+        | inl early ↦ since_called.untouched context number place key v event (open_last context key v off is) left has there on early
         | inr late ↦
             none_elsewhere g.plan g.run g.locks g.h g.basis.view g.basis.legal g.node lane rest after.first lanes_run.ends.faults closes begins.within context number place key event (elsewhere context key v is) has there on
             (subst (λ (l : List PlanLane). IsMadeIn g.h place l after.first) lanes_run.ends.afters_made.first_is late)
@@ -654,9 +654,9 @@ module _ (g : Ground) (container : is_some (test_of g.plan g.node) ≡ false) (e
         (no_acts g.h before.first) to_bodied calling closing (λ context key v is. is) called.step.fewer bodied.since fills_bodied called.fills
 
     -- which fills none
-    closed_fill : (spot : Spot) (v : ValueText) → o spot.0 spot.1 ≡ Some v → IsFilledIn g.run g.h lanes_run.ends.called after.first spot → ⊥
+    closed_fill : (spot : Spot) (v : ValueText) → o spot.0 spot.1 ≡ Some (of_value v) → IsFilledIn g.run g.h lanes_run.ends.called after.first spot → ⊥
     closed_fill spot v is filled =
-        none_elsewhere g.plan g.run g.locks g.h g.basis.view g.basis.legal g.node lane rest after.first lanes_run.ends.faults closes begins.within spot.0 filled.number filled.place spot.1 filled.event (elsewhere spot.0 spot.1 v is)
+        none_elsewhere g.plan g.run g.locks g.h g.basis.view g.basis.legal g.node lane rest after.first lanes_run.ends.faults closes begins.within spot.0 filled.number filled.place spot.1 filled.event (elsewhere spot.0 spot.1 (of_value v) is)
         filled.has filled.there (ap place_of filled.act) (subst (λ (l : List PlanLane). IsMadeIn g.h filled.place l after.first) lanes_run.ends.afters_made.first_is filled.made)
 
     -- what is open in the end is what is not settled
@@ -780,7 +780,7 @@ module _ (plan : PlanText) (run : RunView) (locks : LocksView) (h : History) (to
 
   pub node_ends : (depth levels node : ℕ) (path : List ℕ) (o : Open) (before : Lanes StoredValue) (ran : List Ran) (after : Lanes StoredValue) (r : RunState) → IsPathOf run.store.tree node path
       → length plan.nodes < levels + length path → ChildRun setting depth node before ran after → BeginsNear plan run locks h touched changes changed shares node o before after r
-      → (node_run plan levels path r).state.store.drawn < most_numbers plan.size → Ends plan run locks h touched changes changed shares node o before ran after r (node_run plan levels path r)
+      → (node_run plan levels path r).state.store.drawn < enough_numbers plan.size → Ends plan run locks h touched changes changed shares node o before ran after r (node_run plan levels path r)
   node_ends zero levels node path o before ran after r path_is deep tree_run begins drawn = absurd tree_run
   node_ends (suc depth) levels node path o before ran after r path_is deep tree_run begins drawn =
       let tree = plan_tree plan run locks h touched changes changed shares basis in
@@ -790,7 +790,7 @@ module _ (plan : PlanText) (run : RunView) (locks : LocksView) (h : History) (to
       let inside = within_nodes plan node path tree in_ids in
       let some : levels ≢ 0 = λ none. omega (arith, none, deep, short, inside) in
       let E : RunState → Type 0 = λ q. Ends plan run locks h touched changes changed shares node o before ran after r q in
-      let D : RunState → Type 0 = λ q. q.state.store.drawn < most_numbers plan.size in
+      let D : RunState → Type 0 = λ q. q.state.store.drawn < enough_numbers plan.size in
       elim (bools (is_some (test_of plan node))) [
         | inl test ↦
             let is : node_run plan levels path r ≡ test_node_run plan node path r = node_run-more plan levels path r node true some (start_is (ids_of_nodes plan.nodes) node path in_ids) test in

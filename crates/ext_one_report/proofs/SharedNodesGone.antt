@@ -7,9 +7,8 @@ use Rattle.ext_history.proofs.Lists.{bools}
 use Rattle.ext_model.specs.declared.event.Event.{Event}
 use Rattle.ext_model.specs.Events.{place_of}
 use Rattle.ext_model.specs.History.{slots_in}
-use Rattle.ext_model.specs.Sizes.{most_numbers}
+use Rattle.ext_one_report.proofs.Numbers.{enough_numbers}
 use Rattle.ext_tree.specs.Keys.{KeyValue}
-use Rattle.ext_plan.specs.Values.{ValueText}
 use Rattle.ext_engine.specs.Meeting.{first_seen}
 use Rattle.ext_engine.specs.Order.{IsMadeIn}
 use Rattle.ext_plain.specs.PlainRun.{RunState, node_run}
@@ -18,9 +17,9 @@ use Rattle.ext_one_report.proofs.StandingsWords.{AreMatched}
 use Rattle.ext_one_report.proofs.OnCells.{same_slot}
 use Rattle.ext_one_report.specs.Within.{is_within}
 use Rattle.ext_one_report.proofs.PlainFrames.{IsOpen, LeavesElse}
-use Rattle.ext_one_report.proofs.Open.{Computes, also, some_or_none}
-use Rattle.ext_one_report.specs.Shares.{Open}
+use Rattle.ext_one_report.proofs.Open.{Computes, Given, Open, Stands, also, is_left, some_or_none}
 use Rattle.ext_one_report.proofs.OpenSteps.{StandsInBoth}
+use Rattle.ext_one_report.proofs.OpenStep.{knows_more}
 use Rattle.ext_one_report.proofs.Shared.{unshared}
 use Rattle.ext_one_report.proofs.Levels.{outside}
 use Rattle.ext_one_report.proofs.ChildLists.{among_later, fold_at}
@@ -30,7 +29,7 @@ use Rattle.ext_one_report.proofs.SharedNodesBasis.{shared_elsewhere, shares_too,
 use Rattle.ext_one_report.proofs.SharedNodesBegins.{Gone, all_children, all_leave, before_it, begins, clear_first, fine_before, first_ones, leaves_to, off_all, one_leaves}
 use Rattle.ext_one_report.proofs.SharedNodesBody.{Body, ChildrenEnd, Ends, Ground, after_all, beside_child, begun_at, cell, child_at, computed_at, conc, cs, ended_at, free, frozen_to, here, in_nodes, job_at, maker_changes, none_is, not_open, open_is, open_of, open_parts, over_at, path_in, ran_at, s_of, same_value, since, step, touches, u_of, until, until_in_h, up_to}
 use Rattle.ext_one_report.proofs.SharedNodesCells.{between_fewer, stands_stay, still_stands}
-use Rattle.ext_one_report.proofs.SharedNodesPlaces.{not_both, unshared_is}
+use Rattle.ext_one_report.proofs.SharedNodesPlaces.{not_both, stands_more, unshared_is}
 use base.Growing.{prefix_trans}
 
 fold_next : {R : Type 0} (f : R → ℕ → R) (r : R) (cs : List ℕ) (i : ℕ) → i < length cs → fold f r (take (suc i) cs) ≡ f (fold f r (take i cs)) (slice_index_or cs i 0)
@@ -38,7 +37,7 @@ fold_next f r [] i less = absurd (omega (arith, less))
 fold_next f r (c ∷ cs) zero less = refl
 fold_next f r (c ∷ cs) (suc i) less = fold_next f (f r c) cs i (omega (arith, less))
 
-module _ (g : Ground) (b : Body g) (each : ChildrenEnd g) (drawn : (after_all g b.r (cs g b)).state.store.drawn < most_numbers g.plan.size) where
+module _ (g : Ground) (b : Body g) (each : ChildrenEnd g) (drawn : (after_all g b.r (cs g b)).state.store.drawn < enough_numbers g.plan.size) where
   -- ---- the plain run
 
   -- the children behind it
@@ -85,7 +84,7 @@ module _ (g : Ground) (b : Body g) (each : ChildrenEnd g) (drawn : (after_all g 
     leaves_it = one_leaves g b (before_it g b i) c (beside_child g c c_in) (fine_before g b i)
 
     -- a place that a concurrent child shares
-    module _ (x : ℕ) (x_in : Contains (cs g b) x) (context : ℕ) (key : KeyValue) (v : ValueText) (is : g.shares x context key ≡ Some v) where
+    module _ (x : ℕ) (x_in : Contains (cs g b) x) (context : ℕ) (key : KeyValue) (v : Given) (is : g.shares x context key ≡ Some v) where
       off_it : is_within g.plan c context ≡ false
       off_it =
           never (is_within g.plan c context)
@@ -104,7 +103,7 @@ module _ (g : Ground) (b : Body g) (each : ChildrenEnd g) (drawn : (after_all g 
             (shares_too g.plan g.run g.locks g.h g.touched g.changes g.changed g.shares g.basis g.node c x context key v (conc g b c c_in) (conc g b x x_in) is ch))) off_it clear_then
       ]
 
-      -- where the child has settled it, the value stands in both, and on the lanes for the rest of the body
+      -- where the child has settled it, the value or the fault stands in both, and on the lanes for the rest of the body
       stands_now : ends_at.ends.settled context key ≡ true → StandsInBoth g.run v context key (until g b) (after_it i).state
       stands_now on =
           let was = ends_at.ends.were_open context key on in
@@ -125,7 +124,9 @@ module _ (g : Ground) (b : Body g) (each : ChildrenEnd g) (drawn : (after_all g 
       stands_still : free g b context key ≡ true → ends_at.ends.settled context key ≡ false → StandsInBoth g.run v context key (until g b) (before_it g b i).state → StandsInBoth g.run v context key (until g b) (after_it i).state
       stands_still fr off both = record {
         lanes = both.lanes;
-        plain = record { number = both.plain.number; there = plain_same fr off ∙ both.plain.there; means = leaves_it.values both.plain.number v both.plain.means };
+        plain = subst (λ y. Stands (plain_meaning (after_it i).state.values) v y) (sym (plain_same fr off))
+            (stands_more (plain_meaning (before_it g b i).state.values) (plain_meaning (after_it i).state.values) v (plain_slot (before_it g b i).state context key)
+            (knows_more (g.changes c) (is_within g.plan c) (before_it g b i).state (after_it i).state leaves_it) both.plain);
       }
 
       -- where it is not free, the same stands as on the lanes at first
@@ -155,13 +156,13 @@ module _ (g : Ground) (b : Body g) (each : ChildrenEnd g) (drawn : (after_all g 
             ∙ gone.kept_none context key v x off x_in is without
       ]
 
-      -- it has made no event where it has not settled the place
-      untouched_then : free g b context key ≡ true → ends_at.ends.settled context key ≡ false → (number place : ℕ) (event : Event ℕ) → HasNumberIn g.run key number → slice_get g.h place ≡ Some event
+      -- it has made no event where it has not settled the place, and something is left there
+      untouched_then : free g b context key ≡ true → ends_at.ends.settled context key ≡ false → is_left v ≡ true → (number place : ℕ) (event : Event ℕ) → HasNumberIn g.run key number → slice_get g.h place ≡ Some event
           → place_of event.act ≡ Some (cell g b number context) → IsMadeIn g.h place (s_of g b i).first (u_of g b i).first → ⊥
-      untouched_then fr off number place event has there on made =
+      untouched_then fr off left number place event has there on made =
           let ch = maker_changes g b i less context number place key event (in_nodes g b x context key (touches g b x context key v is)) has there on made in
           let its = shares_too g.plan g.run g.locks g.h g.touched g.changes g.changed g.shares g.basis g.node c x context key v (conc g b c c_in) (conc g b x x_in) is ch in
-          ends_at.ends.untouched.none context number place key v event (open_is g b c context key v fr its) off has there on made
+          ends_at.ends.untouched.none context number place key v event (open_is g b c context key v fr its) off left has there on made
 
     -- a place that it has settled has a number
     named_now : (context : ℕ) (key : KeyValue) → ends_at.ends.settled context key ≡ true → ((number : ℕ) → ¬ HasNumberIn g.run key number) → ⊥
@@ -203,13 +204,13 @@ module _ (g : Ground) (b : Body g) (each : ChildrenEnd g) (drawn : (after_all g 
       unchanged = λ context key v x off fr x_in is.
           let parts = settled_parts context key off in
           plain_same x x_in context key v is fr parts.1 ∙ gone.unchanged context key v x parts.0 fr x_in is;
-      untouched = λ j context number place key v x event below off fr x_in is has there on made.
+      untouched = λ j context number place key v x event below off fr x_in is left has there on made.
           let parts = settled_parts context key off in
           elim (cases_lt j i) [
-            | inl early ↦ gone.untouched j context number place key v x event early parts.0 fr x_in is has there on made
+            | inl early ↦ gone.untouched j context number place key v x event early parts.0 fr x_in is left has there on made
             | inr late ↦
                 let same : j ≡ i = omega (arith, below, late) in
-                untouched_then x x_in context key v is fr parts.1 number place event has there on (subst (λ k. IsMadeIn g.h place (s_of g b k).first (u_of g b k).first) same made)
+                untouched_then x x_in context key v is fr parts.1 left number place event has there on (subst (λ k. IsMadeIn g.h place (s_of g b k).first (u_of g b k).first) same made)
           ];
       kept = λ context number key v x off x_in is has. kept_then x x_in context key v is off number has;
       kept_none = λ context key v x off x_in is without. kept_none_then x x_in context key v is off without;
@@ -224,7 +225,7 @@ module _ (g : Ground) (b : Body g) (each : ChildrenEnd g) (drawn : (after_all g 
     named = λ context key on without. absurd (cc on);
     stand = λ context key v c on c_in is. absurd (cc on);
     unchanged = λ context key v c off fr c_in is. refl;
-    untouched = λ j context number place key v c event below off fr c_in is has there on made. absurd (omega (arith, below));
+    untouched = λ j context number place key v c event below off fr c_in is left has there on made. absurd (omega (arith, below));
     kept = λ context number key v c off c_in is has.
         b.level.matches.slots context key number (unshared_is (g.touched g.node) b.o context key (up_to g b c context key c_in (touches g b c context key v is)) (not_open g b context key off)) has;
     kept_none = λ context key v c off c_in is without.

@@ -1,12 +1,13 @@
 -- The concurrent children of a container: from before them to after them both runs give numbers in one order, at the places that are not open for the container.
-use Rattle.std.proofs.Common.{◌≡◌, ◌≢◌, ◌<◌, ◌≤◌, ◌⊎◌, ℕ, zero, suc, inl, inr, true, false, not, List, ◌∷◌, length, drop, take, take_all, Contains, None, Some, is_some, refl, ap, sym, subst, ◌∙◌, arith, eq-eqb, eqb-true}
+use Rattle.std.proofs.Common.{◌≡◌, ◌≢◌, ◌<◌, ◌≤◌, ◌⊎◌, ℕ, zero, suc, inl, inr, true, false, not, List, ◌∷◌, length, drop, take, take_all, Contains, None, Option, Some, is_some, refl, ap, sym, subst, ◌∙◌, arith, eq-eqb, eqb-true}
 use Rattle.std.specs.Prelude.{◌==◌}
 use mathlib.Core.List.{IsPrefix}
 use base.Growing.{prefix_trans}
 use Rattle.ext_history.proofs.Legal.{legal_begun}
 use Rattle.ext_history.proofs.Lists.{bools}
+use Rattle.ext_model.specs.declared.slot.Slot.{Slot}
 use Rattle.ext_model.specs.History.{History, IsLegal, Limits, slots_in}
-use Rattle.ext_model.specs.Sizes.{most_numbers}
+use Rattle.ext_one_report.proofs.Numbers.{enough_numbers}
 use Rattle.ext_tree.specs.Keys.{KeyValue}
 use Rattle.ext_plan.specs.Values.{ValueText}
 use Rattle.ext_races.specs.MadeSteps.{plan_path}
@@ -15,7 +16,7 @@ use Rattle.ext_one_report.specs.Within.{is_within}
 use Rattle.ext_one_report.proofs.Kept.{same_there}
 use Rattle.ext_plain.specs.PlainRun.{RunState}
 use Rattle.ext_plain.specs.ValueStates.{value_of}
-use Rattle.ext_one_report.proofs.MatchingWords.{Places, cell_of, plain_meaning, plain_slot}
+use Rattle.ext_one_report.proofs.MatchingWords.{Places, TextMeaning, cell_of, plain_meaning, plain_slot}
 use Rattle.ext_one_report.proofs.OnCells.{same_slot}
 use Rattle.ext_one_report.proofs.ChildLists.{which}
 use Rattle.ext_one_report.proofs.ComputedAbove.{IsComputedIn}
@@ -30,17 +31,24 @@ use Rattle.ext_one_report.proofs.Orders.{AreNew, Fails, HaveDrawn, Orders, Stand
 use Rattle.ext_one_report.proofs.OrdersBounds.{have_drawn, lanes_drew, plain_drew}
 use Rattle.ext_one_report.proofs.OrdersHistory.{WasStored, prefix_rises, stood_or_stored}
 use Rattle.ext_one_report.proofs.OrdersMatched.{fills_in, matched_value, stands_means, stands_value}
+use Rattle.ext_one_report.proofs.Open.{Given, Stands, is_left, of_fault, of_nothing, of_value}
 use Rattle.ext_one_report.proofs.Shared.{unshared}
 use Rattle.ext_one_report.proofs.SharedEvents.{shared_is_new}
 use Rattle.ext_one_report.proofs.SharedFails.{children_beside}
 use Rattle.ext_one_report.proofs.SharedNodesBasis.{plan_tree, run_tree}
 use Rattle.ext_one_report.proofs.SharedNodesBegins.{Gone, absent_first, before_it, clear_before, clear_first, empty_first, fine_before, first_ones, leaves_to, off_before, one_leaves, same_start, unchanged_before}
-use Rattle.ext_one_report.proofs.SharedNodesBeside.{all_of_them, clear_end, gone, its, leaves, no_value, off_them, place_is, rest_off, rest_same, same_end, some_there}
+use Rattle.ext_one_report.proofs.SharedNodesBeside.{all_of_them, clear_end, given_up, gone, its, leaves, no_value, off_them, place_is, rest_off, rest_same, same_end, some_there}
 use Rattle.ext_one_report.proofs.SharedNodesBody.{Body, ChildrenEnd, Ground, after_all, begun_at, beside_child, cell, child_at, child_on, closed_off, computed_at, conc, cs, ended_at, ends_in, free, frozen, frozen_to, here, in_nodes, job_at, maker, maker_changes, maker_shares, none_is, open_is, open_of, open_parts, over, over_at, path_in, ran_at, s_of, since, since_until, u_of, unshared_none, until, until_in_h}
 use Rattle.ext_one_report.proofs.SharedNodesGone.{after_it, ended_near, gone_at, next, rest_leaves}
 use Rattle.ext_one_report.proofs.SharedNodesPlaces.{unshared_is, unshared_parts}
 
-module _ (g : Ground) (b : Body g) (each : ChildrenEnd g) (drawn : (after_all g b.r (cs g b)).state.store.drawn < most_numbers g.plan.size) where
+-- where a number of a value stands, what is left is that value
+is_value : (meaning : TextMeaning) (w : Given) (v : ValueText) (x : Option Slot) (a : ℕ) → Stands meaning w x → value_in x ≡ Some a → meaning.values a ≡ Some v → w ≡ of_value v
+is_value meaning (of_value w) v x a stands is means = ap of_value (stands_value meaning x a v w stands is means)
+is_value meaning (of_fault text) v x a stands is means = absurd (cc (sym (ap value_in stands.there) ∙ is))
+is_value meaning (of_nothing text) v x a stands is means = absurd stands.means
+
+module _ (g : Ground) (b : Body g) (each : ChildrenEnd g) (drawn : (after_all g b.r (cs g b)).state.store.drawn < enough_numbers g.plan.size) where
   abbrev count : ℕ
   count = length (cs g b)
 
@@ -86,7 +94,7 @@ module _ (g : Ground) (b : Body g) (each : ChildrenEnd g) (drawn : (after_all g 
     i : ℕ
     less : i < count
     within : IsLeftWithin g.plan (child_at g b i) context v.text
-    how : ByOne i context key a d ⊎ (open_of g b (child_at g b i) context key ≡ Some v)
+    how : ByOne i context key a d ⊎ (open_of g b (child_at g b i) context key ≡ Some (of_value v))
 
   abbrev Old : ℕ → KeyValue → ℕ → ℕ → Type 0
   Old context key a d = StandWith g.run context key (since g b) b.r.state a d
@@ -183,7 +191,7 @@ module _ (g : Ground) (b : Body g) (each : ChildrenEnd g) (drawn : (after_all g 
 
     -- ---- some share it
 
-    module _ (c : ℕ) (c_in : Contains (cs g b) c) (w : ValueText) (shared : g.shares c context key ≡ Some w) where
+    module _ (c : ℕ) (c_in : Contains (cs g b) c) (w : Given) (shared : g.shares c context key ≡ Some w) where
       -- it is not free: nothing happens there, on the lanes
       module _ (off_free : free g b context key ≡ false) where
         frozen_slots : slots_in (cell_of g.run number) (until g b) context ≡ slots_in (cell_of g.run number) (since g b) context
@@ -246,21 +254,25 @@ module _ (g : Ground) (b : Body g) (each : ChildrenEnd g) (drawn : (after_all g 
       module _ (fr : free g b context key ≡ true) where
         -- and nothing was done
         untouched_old : (gone g b each drawn).settled context key ≡ false → Old context key a d
-        untouched_old not_settled = stood
-            (sym (same_slot (since g b) (until g b) (cell g b number context)
-            (sym (same_there g.h (since g b) (until g b) (cell g b number context) (since_until g b) (until_in_h g b) (λ place event low high there on.
-            let by = maker g b context number place key event touched none stands.has low high there on in
-            (gone g b each drawn).untouched by.i context number place key w c event by.less not_settled fr c_in shared stands.has there on by.made)))))
-            ((gone g b each drawn).unchanged context key w c not_settled fr c_in shared)
+        untouched_old not_settled = elim (bools (is_left w)) [
+          | inr nothing_left ↦ absurd (cc (sym (ap value_in (given_up g b each drawn context number key w c c_in shared nothing_left none fr stands.has)) ∙ stands.lanes))
+          | inl left ↦ stood
+              (sym (same_slot (since g b) (until g b) (cell g b number context)
+              (sym (same_there g.h (since g b) (until g b) (cell g b number context) (since_until g b) (until_in_h g b) (λ place event low high there on.
+              let by = maker g b context number place key event touched none stands.has low high there on in
+              (gone g b each drawn).untouched by.i context number place key w c event by.less not_settled fr c_in shared left stands.has there on by.made)))))
+              ((gone g b each drawn).unchanged context key w c not_settled fr c_in shared)
+        ]
 
         -- or it is settled: nothing stood there at first
         module _ (settled : (gone g b each drawn).settled context key ≡ true) where
-          value_is : w ≡ v
-          value_is = stands_value g.run.meaning (slots_in (cell_of g.run number) (until g b) context) a v w (((gone g b each drawn).stand context key w c settled c_in shared).lanes number stands.has) stands.lanes means
+          value_is : w ≡ of_value v
+          value_is = is_value g.run.meaning w v (slots_in (cell_of g.run number) (until g b) context) a (((gone g b each drawn).stand context key w c settled c_in shared).lanes number stands.has) stands.lanes means
 
           plain_value : value_of last.state.values d ≡ Some v
-          plain_value = subst (λ x. value_of last.state.values d ≡ Some x) value_is
-              (stands_means (plain_meaning last.state.values) (plain_slot last.state context key) d w ((gone g b each drawn).stand context key w c settled c_in shared).plain stands.plain)
+          plain_value =
+              stands_means (plain_meaning last.state.values) (plain_slot last.state context key) d v
+              (subst (λ x. Stands (plain_meaning last.state.values) x (plain_slot last.state context key)) value_is ((gone g b each drawn).stand context key w c settled c_in shared).plain) stands.plain
 
           plain_new : b.r.state.store.drawn < d
           plain_new =
@@ -294,13 +306,13 @@ module _ (g : Ground) (b : Body g) (each : ChildrenEnd g) (drawn : (after_all g 
               let lanes_new = shared_is_new g.plan g.run g.locks g.h g.touched g.changes g.changed g.shares g.depth k (s_of g b by.i) (ran_at g b by.i) (u_of g b by.i) (since g b) g.basis (job_at g b by.i by.less).run
               (job_at g b by.i by.less).inside.begins (ends_in g b by.i by.less) context number come.place key w stored.event a shared_k stands.has come.there act_is by.made in
               let ch = maker_changes g b by.i by.less context number come.place key stored.event (in_nodes g b g.node context key touched) stands.has come.there stored.on by.made in
-              let shared_v : g.shares k context key ≡ Some v = subst (λ x. g.shares k context key ≡ Some x) value_is shared_k in (
+              let shared_v : g.shares k context key ≡ Some (of_value v) = subst (λ x. g.shares k context key ≡ Some x) value_is shared_k in (
                 (lanes_new, plain_new),
                 record {
                   i = by.i;
                   less = by.less;
                   within = g.basis.shared.fails_below k context key v shared_v ch fails;
-                  how = inr (open_is g b k context key v fr shared_v);
+                  how = inr (open_is g b k context key (of_value v) fr shared_v);
                 },
               )
 
@@ -334,11 +346,11 @@ module _ (g : Ground) (b : Body g) (each : ChildrenEnd g) (drawn : (after_all g 
       ∙ (g.basis.closes.one first.left.touch second.left.touch first.left.made second.left.made beside first.left.fails second.left.fails (first.left.context_is ∙ sym second.left.context_is) ∙ second.left.text_is)
 
   -- what is left at a place that is open for a child agrees with all that the child leaves in that context
-  open_agrees : (i context : ℕ) (key : KeyValue) (v w : ValueText) → i < count → open_of g b (child_at g b i) context key ≡ Some v → Fails v → IsLeftWithin g.plan (child_at g b i) context w.text → w.text ≡ v.text
+  open_agrees : (i context : ℕ) (key : KeyValue) (v w : ValueText) → i < count → open_of g b (child_at g b i) context key ≡ Some (of_value v) → Fails v → IsLeftWithin g.plan (child_at g b i) context w.text → w.text ≡ v.text
   open_agrees i context key v w less opens fails left =
       let c = child_at g b i in
       let parent = beside_child g c (here g b i less) in
-      let parts = open_parts g b c context key v opens in
+      let parts = open_parts g b c context key (of_value v) opens in
       let tree = plan_tree g.plan g.run g.locks g.h g.touched g.changes g.changed g.shares g.basis in
       let above : plan_path g.plan g.node ≡ drop 1 (plan_path g.plan c) =
       sym (its_path g.plan tree g.node g.path (path_in g)) ∙ ap (λ l. drop 1 l) (its_path g.plan tree c (c ∷ g.path) (child_on g c parent)) in
@@ -359,7 +371,7 @@ module _ (g : Ground) (b : Body g) (each : ChildrenEnd g) (drawn : (after_all g 
         let within = subst (λ k. IsLeftWithin g.plan (child_at g b k) context w.text) is two.within in
         elim one.how [
           | inr opens ↦ absurd (differ (sym (open_agrees one.i context key v w one.less opens fails within)))
-          | inl first ↦ elim (subst (λ k. ByOne k context other e f ⊎ (open_of g b (child_at g b k) context other ≡ Some w)) is two.how) [
+          | inl first ↦ elim (subst (λ k. ByOne k context other e f ⊎ (open_of g b (child_at g b k) context other ≡ Some (of_value w))) is two.how) [
             | inr opens ↦ absurd (differ (open_agrees one.i context other w v one.less opens failed one.within))
             | inl second ↦
                 (ended_near g b each drawn one.i one.less).ends.orders.pairs context key other a d e f v w first.place second.place first.stands second.stands means meant fails failed differ first.new second.new less

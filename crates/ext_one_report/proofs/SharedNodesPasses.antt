@@ -8,7 +8,6 @@ use Rattle.ext_model.specs.Events.{place_of}
 use Rattle.ext_model.specs.History.{History, IsLegal, slots_in}
 use Rattle.ext_tree.specs.Keys.{KeyValue}
 use Rattle.ext_plan.specs.Plans.{PlanText}
-use Rattle.ext_plan.specs.Values.{ValueText}
 use Rattle.ext_one_report.specs.Changing.{events_at}
 use Rattle.ext_engine.specs.Meeting.{first_seen}
 use Rattle.ext_engine.specs.Order.{AllGoOn, IsMadeIn}
@@ -21,8 +20,7 @@ use Rattle.ext_one_report.proofs.MatchingWords.{HasNumberIn, Places, RunView, ce
 use Rattle.ext_one_report.proofs.Fills.{Fills, IsFilledIn}
 use Rattle.ext_one_report.proofs.FillsLanes.{filled_first, filled_second, filled_then}
 use Rattle.ext_one_report.proofs.FillsLaws.{fills_then}
-use Rattle.ext_one_report.proofs.Open.{AreNear, Computes, Stands, some_or_none}
-use Rattle.ext_one_report.specs.Shares.{Open}
+use Rattle.ext_one_report.proofs.Open.{AreNear, Computes, Given, Open, Stands, is_left, of_value, some_or_none}
 use Rattle.ext_one_report.proofs.OpenSteps.{StandsInBoth}
 use Rattle.ext_one_report.proofs.Shared.{unshared}
 use Rattle.ext_one_report.proofs.Levels.{AreLevel}
@@ -31,7 +29,8 @@ use Rattle.ext_one_report.proofs.CloseSame.{numbered_or_not}
 use Rattle.ext_one_report.proofs.LanesAlone.{computed_part, own_part}
 use Rattle.ext_one_report.proofs.NodePlaces.{and_of, away, away_first, level_fewer, within_any}
 use Rattle.ext_one_report.proofs.SharedNodesCells.{Between, none_between, stands_stay, still_stands}
-use Rattle.ext_one_report.proofs.SharedNodesPlaces.{not_both, one_value, stands_matched, unshared_is, unshared_parts}
+use Rattle.ext_one_report.proofs.SharedNodesPlaces.{not_both, one_value, unshared_is, unshared_parts}
+use Rattle.ext_one_report.proofs.OpenGoing.{stands_matched}
 
 -- ---- what is seen in a part of it
 
@@ -39,8 +38,8 @@ module _ (run : RunView) (h : History) where
   pub own_fewer : (places fewer : Places) (xs ys : List PlanLane) → ((context : ℕ) (key : KeyValue) → fewer context key ≡ true → places context key ≡ true) → AreOwn run h places xs ys → AreOwn run h fewer xs ys
   own_fewer places fewer xs ys among whole = record { own = λ context number place key event is has seen there on. whole.own context number place key event (among context key is) has seen there on }
 
-  -- all events at an open place that are seen meanwhile compute its value
-  pub computed_between : (o : Open) (xs ys : List PlanLane) → AreComputed run h o xs ys → (context number : ℕ) (key : KeyValue) (v : ValueText) → o context key ≡ Some v → HasNumberIn run key number
+  -- all events at an open place that are seen meanwhile compute what is computed there
+  pub computed_between : (o : Open) (xs ys : List PlanLane) → AreComputed run h o xs ys → (context number : ℕ) (key : KeyValue) (v : Given) → o context key ≡ Some v → HasNumberIn run key number
       → Between h (first_seen xs) (first_seen ys) (cell_of run number context) (Computes run v)
   computed_between o xs ys all context number key v is has place event low high there on = all.computed context number place key v event is has (record { since = low; until = high }) there on
 
@@ -49,16 +48,16 @@ module _ (run : RunView) (h : History) where
 module _ (plan : PlanText) (run : RunView) (h : History) (touched : Places) where
   -- From these lanes and this plain state, with these places open, to those: the same stands there at all that is touched and not open still, but in contexts of `done`
   pub record Passes (done : List ℕ) (o : Open) (xs : List PlanLane) (s : ValueState) (later : Open) (ys : List PlanLane) (t : ValueState) : Type 0 where
-    pub fewer : (context : ℕ) (key : KeyValue) (v : ValueText) → later context key ≡ Some v → o context key ≡ Some v
+    pub fewer : (context : ℕ) (key : KeyValue) (v : Given) → later context key ≡ Some v → o context key ≡ Some v
     pub level : AreLevel plan run (away plan done (unshared touched later)) (first_seen ys) t
     pub near : AreNear run later (first_seen ys) t
-    pub stand : (context : ℕ) (key : KeyValue) (v : ValueText) → o context key ≡ Some v → later context key ≡ None → StandsInBoth run v context key (first_seen ys) t
-    pub unchanged : (context : ℕ) (key : KeyValue) (v : ValueText) → later context key ≡ Some v → plain_slot t context key ≡ plain_slot s context key
-    pub untouched : (context number place : ℕ) (key : KeyValue) (v : ValueText) (event : Event ℕ) → later context key ≡ Some v → HasNumberIn run key number → slice_get h place ≡ Some event
-        → place_of event.act ≡ Some (cell_of run number context) → IsMadeIn h place xs ys → ⊥
+    pub stand : (context : ℕ) (key : KeyValue) (v : Given) → o context key ≡ Some v → later context key ≡ None → StandsInBoth run v context key (first_seen ys) t
+    pub unchanged : (context : ℕ) (key : KeyValue) (v : Given) → later context key ≡ Some v → plain_slot t context key ≡ plain_slot s context key
+    pub untouched : (context number place : ℕ) (key : KeyValue) (v : Given) (event : Event ℕ) → later context key ≡ Some v → is_left v ≡ true → HasNumberIn run key number
+        → slice_get h place ≡ Some event → place_of event.act ≡ Some (cell_of run number context) → IsMadeIn h place xs ys → ⊥
 
-  -- a value that stands stays, where the same stands later and nothing happens meanwhile
-  pub stands_on : (places others : Places) (g f : History) (s t : ValueState) (context : ℕ) (key : KeyValue) (v : ValueText) → places context key ≡ true → others context key ≡ true → AreLevel plan run places g s
+  -- a value or a fault that stands stays, where the same stands later and nothing happens meanwhile
+  pub stands_on : (places others : Places) (g f : History) (s t : ValueState) (context : ℕ) (key : KeyValue) (v : Given) → places context key ≡ true → others context key ≡ true → AreLevel plan run places g s
       → AreLevel plan run others f t → ((number : ℕ) → HasNumberIn run key number → events_at (cell_of run number context) f ≡ events_at (cell_of run number context) g)
       → StandsInBoth run v context key g s → StandsInBoth run v context key f t
   stands_on places others g f s t context key v is still before after quiet both =
@@ -67,7 +66,7 @@ module _ (plan : PlanText) (run : RunView) (h : History) (touched : Places) wher
       elim (numbered_or_not run key) [
         | inl number ↦ record {
           lanes = lanes;
-          plain = stands_matched run.meaning (plain_meaning t.values) v (slots_in (cell_of run number.0) f context) (plain_slot t context key) (after.matches.slots context key number.0 still number.1) (lanes number.0 number.1);
+          plain = stands_matched run.meaning (plain_meaning t.values) v (slots_in (cell_of run number.0) f context) (plain_slot t context key) (lanes number.0 number.1) (after.matches.slots context key number.0 still number.1);
         }
         | inr none ↦ absurd (cc (sym (before.matches.unnumbered context key is none) ∙ both.plain.there))
       ]
@@ -80,13 +79,13 @@ module _ (plan : PlanText) (run : RunView) (h : History) (touched : Places) wher
     near = near;
     stand = λ context key v is none. not_both (o context key) v none is;
     unchanged = λ context key v is. refl;
-    untouched = λ context number place key v event is has there on made. same_made h xs place made;
+    untouched = λ context number place key v event is left has there on made. same_made h xs place made;
   }
 
-  module _ (limits_legal : IsLegal run.store.id.cells.limits h) (o : Open) (places_touched : (context : ℕ) (key : KeyValue) (v : ValueText) → o context key ≡ Some v → touched context key ≡ true) where
-    -- where the value stands nothing happens while all that happens is that it is computed
+  module _ (limits_legal : IsLegal run.store.id.cells.limits h) (o : Open) (places_touched : (context : ℕ) (key : KeyValue) (v : Given) → o context key ≡ Some v → touched context key ≡ true) where
+    -- where it stands nothing happens while all that happens is that it is computed
     pub quiet_from : (xs ys zs : List PlanLane) → AreComputed run h o xs zs → IsPrefix (first_seen xs) (first_seen ys) → IsPrefix (first_seen ys) (first_seen zs) → IsPrefix (first_seen zs) h
-        → (t : ValueState) (context number : ℕ) (key : KeyValue) (v : ValueText) → o context key ≡ Some v → HasNumberIn run key number → StandsInBoth run v context key (first_seen ys) t
+        → (t : ValueState) (context number : ℕ) (key : KeyValue) (v : Given) → o context key ≡ Some v → HasNumberIn run key number → StandsInBoth run v context key (first_seen ys) t
         → events_at (cell_of run number context) (first_seen zs) ≡ events_at (cell_of run number context) (first_seen ys)
     quiet_from xs ys zs computed first second within t context number key v is has both =
         stands_stay h (first_seen ys) (first_seen zs) second within (cell_of run number context) run run.store.id.cells.limits v limits_legal (both.lanes number has)
@@ -113,8 +112,8 @@ module _ (plan : PlanText) (run : RunView) (h : History) (touched : Places) wher
     }
 
     -- first to one moment, and then to another
-    pub passes_then : (done more : List ℕ) (later last : Open) (xs ys zs : List PlanLane) (s t w : ValueState) → ((context : ℕ) (key : KeyValue) (v : ValueText) → o context key ≡ Some v → within_any plan done context ≡ false)
-        → ((context : ℕ) (key : KeyValue) (v : ValueText) → o context key ≡ Some v → within_any plan more context ≡ false) → AllGoOn xs ys → AllGoOn ys zs → IsPrefix (first_seen zs) h → AreComputed run h o xs zs
+    pub passes_then : (done more : List ℕ) (later last : Open) (xs ys zs : List PlanLane) (s t w : ValueState) → ((context : ℕ) (key : KeyValue) (v : Given) → o context key ≡ Some v → within_any plan done context ≡ false)
+        → ((context : ℕ) (key : KeyValue) (v : Given) → o context key ≡ Some v → within_any plan more context ≡ false) → AllGoOn xs ys → AllGoOn ys zs → IsPrefix (first_seen zs) h → AreComputed run h o xs zs
         → Passes done o xs s later ys t → Passes more later ys t last zs w → Passes more o xs s last zs w
     passes_then done more later last xs ys zs s t w off off_more first second within computed one two = record {
       fewer = λ context key v is. one.fewer context key v (two.fewer context key v is);
@@ -133,22 +132,22 @@ module _ (plan : PlanText) (run : RunView) (h : History) (touched : Places) wher
             (λ number has. quiet_from xs ys zs computed (heads_go xs ys first) (heads_go ys zs second) within t context number key v is has stands) stands
       ];
       unchanged = λ context key v is. two.unchanged context key v is ∙ one.unchanged context key v (two.fewer context key v is);
-      untouched = λ context number place key v event is has there on made. elim (all_made_then h xs ys zs place first made) [
-        | inl early ↦ one.untouched context number place key v event (two.fewer context key v is) has there on early
-        | inr late ↦ two.untouched context number place key v event is has there on late
+      untouched = λ context number place key v event is left has there on made. elim (all_made_then h xs ys zs place first made) [
+        | inl early ↦ one.untouched context number place key v event (two.fewer context key v is) left has there on early
+        | inr late ↦ two.untouched context number place key v event is left has there on late
       ];
     }
 
     -- what is filled up to one moment, and then up to another
     pub fills_pass : (done : List ℕ) (later last : Open) (xs ys zs : List PlanLane) (s t : ValueState) (lanes plain more others : ℕ) → Acts h xs ys → Acts h ys zs → IsPrefix (first_seen zs) h → AreComputed run h o xs zs
-        → ((context : ℕ) (key : KeyValue) (v : ValueText) → last context key ≡ Some v → later context key ≡ Some v) → Passes done o xs s later ys t
+        → ((context : ℕ) (key : KeyValue) (v : Given) → last context key ≡ Some v → later context key ≡ Some v) → Passes done o xs s later ys t
         → Fills (IsFilledIn run h xs ys) o later s lanes plain → Fills (IsFilledIn run h ys zs) later last t more others → Fills (IsFilledIn run h xs zs) o last s (lanes + more) (plain + others)
     fills_pass done later last xs ys zs s t lanes plain more others first second within computed fewer passes one two =
         fills_then (IsFilledIn run h xs ys) (IsFilledIn run h ys zs) (IsFilledIn run h xs zs) o later last s t lanes plain more others passes.fewer fewer passes.unchanged
         (λ spot v is filled. filled_then run h xs ys zs first.goes spot filled) (λ spot filled. filled_first run h xs ys zs second.goes spot filled) (λ spot filled. filled_second run h xs ys zs first.goes spot filled)
         (λ spot settled filled.
-        let stands = passes.stand spot.0 spot.1 settled.value settled.was_open settled.closed in
+        let stands = passes.stand spot.0 spot.1 (of_value settled.value) settled.was_open settled.closed in
         let seen = second.seen filled.place filled.made in
         let low = heads_go ys zs second.goes in
-        let same = quiet_from xs ys zs computed (heads_go xs ys first.goes) low within t spot.0 filled.number spot.1 settled.value settled.was_open filled.has stands in
+        let same = quiet_from xs ys zs computed (heads_go xs ys first.goes) low within t spot.0 filled.number spot.1 (of_value settled.value) settled.was_open filled.has stands in
         none_between h (first_seen ys) (first_seen zs) low within (cell_of run filled.number spot.0) same filled.place filled.event seen.0 seen.1 filled.there (ap place_of filled.act)) one two

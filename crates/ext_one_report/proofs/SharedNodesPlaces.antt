@@ -8,21 +8,18 @@ use Rattle.ext_model.specs.declared.slot.Slot.{Slot}
 use Rattle.ext_model.specs.declared.slot.Slot.TheVariants as slot
 use Rattle.ext_model.specs.State.{look_at, look_in, lookup}
 use Rattle.ext_tree.specs.Keys.{KeyValue}
-use Rattle.ext_plan.specs.Values.{ValueText}
 use Rattle.ext_plain.specs.ValueStates.{ValueState}
 use Rattle.ext_one_report.proofs.MatchingWords.{Places, TextMeaning, plain_slot}
-use Rattle.ext_one_report.proofs.StandingsWords.{AreMatched, standing_of, value, value_stands}
-use Rattle.ext_one_report.proofs.Standings.{Holds, holds}
-use Rattle.ext_one_report.specs.Shares.{Open, SharesNothing}
+use Rattle.ext_one_report.proofs.StandingsWords.{AreMatched, KnowsMore, standing_of}
 use Rattle.ext_one_report.proofs.ComputedAbove.{all_clear}
-use Rattle.ext_one_report.proofs.Open.{Stands, StandsOrNot, some_or_none, still_open}
+use Rattle.ext_one_report.proofs.Open.{Given, Open, Stands, StandsOrNot, of_fault, of_nothing, of_value, some_or_none, still_open}
 use Rattle.ext_one_report.proofs.Shared.{unshared}
 use Rattle.ext_one_report.proofs.NodePlaces.{and_of}
 
-pub not_both : {A : Type 0} (o : Option ValueText) (v : ValueText) → o ≡ None → o ≡ Some v → A
+pub not_both : {A : Type 0} (o : Option Given) (v : Given) → o ≡ None → o ≡ Some v → A
 not_both o v none some = absurd (cc (sym none ∙ some))
 
-pub one_value : (o : Option ValueText) (v w : ValueText) → o ≡ Some v → o ≡ Some w → v ≡ w
+pub one_value : (o : Option Given) (v w : Given) → o ≡ Some v → o ≡ Some w → v ≡ w
 one_value o v w first second = let e : Some v ≡ Some w = sym first ∙ second in cc e
 
 -- ---- places that are touched, and are not open
@@ -36,22 +33,18 @@ unshared_parts touched o context key is = elim (some_or_none (o context key)) [
   | inr some ↦ let bad : false ≡ true = sym (ap (λ x. unshared touched (λ c k. x) context key) some.1) ∙ is in absurd (cc bad)
 ]
 
-pub unshared_off : (touched : Places) (o : Open) (context : ℕ) (key : KeyValue) (v : ValueText) → o context key ≡ Some v → unshared touched o context key ≡ false
+pub unshared_off : (touched : Places) (o : Open) (context : ℕ) (key : KeyValue) (v : Given) → o context key ≡ Some v → unshared touched o context key ≡ false
 unshared_off touched o context key v is = ap (λ x. unshared touched (λ c k. x) context key) is
-
--- where nothing is shared they are all that is touched
-pub unshared_all : (touched : Places) (o : Open) → SharesNothing o → unshared touched o ≡ touched
-unshared_all touched o none = λ i context key. unshared touched (λ c k. none context key i) context key
 
 -- ---- places that are settled
 
 pub still_none : (settled : Places) (o : Open) (context : ℕ) (key : KeyValue) → settled context key ≡ true → still_open settled o context key ≡ None
 still_none settled o context key on = ap (λ b. if b then None else o context key) on
 
-pub still_is : (settled : Places) (o : Open) (context : ℕ) (key : KeyValue) (v : ValueText) → settled context key ≡ false → o context key ≡ Some v → still_open settled o context key ≡ Some v
+pub still_is : (settled : Places) (o : Open) (context : ℕ) (key : KeyValue) (v : Given) → settled context key ≡ false → o context key ≡ Some v → still_open settled o context key ≡ Some v
 still_is settled o context key v off is = ap (λ b. if b then None else o context key) off ∙ is
 
-pub still_parts : (settled : Places) (o : Open) (context : ℕ) (key : KeyValue) (v : ValueText) → still_open settled o context key ≡ Some v → (settled context key ≡ false) × (o context key ≡ Some v)
+pub still_parts : (settled : Places) (o : Open) (context : ℕ) (key : KeyValue) (v : Given) → still_open settled o context key ≡ Some v → (settled context key ≡ false) × (o context key ≡ Some v)
 still_parts settled o context key v is = elim (bools (settled context key)) [
   | inl on ↦ not_both (still_open settled o context key) v (still_none settled o context key on) is
   | inr off ↦ (off, sym (ap (λ b. if b then None else o context key) off) ∙ is)
@@ -101,21 +94,20 @@ absent_is slots (context ∷ path) is = elim (none_at_all (slots context)) [
 
 -- ---- what stands
 
--- where the same stands in both, and the value in the one, it stands in the other
-pub stands_matched : (ours theirs : TextMeaning) (v : ValueText) (x y : Option Slot) → AreMatched ours theirs x y → Stands ours v x → Stands theirs v y
-stands_matched ours theirs v x y matched stands =
-    let is : standing_of ours x ≡ Some (value v) = ap (standing_of ours) stands.there ∙ ap value_stands stands.means in
-    let both : Some matched.standing ≡ Some (value v) = sym matched.here ∙ is in
-    let same : matched.standing ≡ value v = cc both in
-    let there : Holds theirs (value v) y = subst (λ s. Holds theirs s y) same (holds theirs y matched.standing matched.there) in
-    record { number = there.0; there = there.1; means = there.2 }
+-- what stands there stands for one that knows more
+pub stands_more : (less more : TextMeaning) (v : Given) (x : Option Slot) → KnowsMore less more → Stands less v x → Stands more v x
+stands_more less more (of_value v) x knows stands = record { number = stands.number; there = stands.there; means = knows.values stands.number v stands.means }
+stands_more less more (of_fault text) x knows stands = record { number = stands.number; there = stands.there; means = knows.faults stands.number text stands.means }
+stands_more less more (of_nothing text) x knows stands = absurd stands.means
 
 -- no claim is matched
 pub never_claimed : (ours theirs : TextMeaning) (x y : Option Slot) (lane : ℕ) → AreMatched ours theirs x y → x ≡ Some (slot.Claim lane) → ⊥
 never_claimed ours theirs x y lane matched is = absurd (cc (sym (ap (standing_of ours) is) ∙ matched.here))
 
-pub stands_or_not : (meaning : TextMeaning) (v : ValueText) (x : Option Slot) → Stands meaning v x → StandsOrNot meaning v x
-stands_or_not meaning v x stands = subst (λ y. StandsOrNot meaning v y) (sym stands.there) stands.means
+pub stands_or_not : (meaning : TextMeaning) (v : Given) (x : Option Slot) → Stands meaning v x → StandsOrNot meaning v x
+stands_or_not meaning (of_value v) x stands = subst (λ y. StandsOrNot meaning (of_value v) y) (sym stands.there) stands.means
+stands_or_not meaning (of_fault text) x stands = subst (λ y. StandsOrNot meaning (of_fault text) y) (sym stands.there) stands.means
+stands_or_not meaning (of_nothing text) x stands = absurd stands.means
 
-pub none_stands_or_not : (meaning : TextMeaning) (v : ValueText) (x : Option Slot) → x ≡ None → StandsOrNot meaning v x
+pub none_stands_or_not : (meaning : TextMeaning) (v : Given) (x : Option Slot) → x ≡ None → StandsOrNot meaning v x
 none_stands_or_not meaning v x none = subst (λ y. StandsOrNot meaning v y) (sym none) tt

@@ -1,4 +1,5 @@
 -- The results of nodes that ran, as a plain run tells them where nodes share values: of none, of some and then others, and of a node and those below it.
+use Rattle.ext_one_report.proofs.Open.{Open, values_of}
 use Rattle.std.proofs.Common.{◌≡◌, ℕ, ◌+◌, ◌<◌, inl, inr, Bool, List, [], ◌∷◌, ◌++◌, length, refl, ap, sym, subst, ◌∙◌, arith}
 use Rattle.std.specs.Prelude.{Option, Some, slice_get}
 use Rattle.std.proofs.lemmas.List.Elements.{Contains-append_cases}
@@ -13,7 +14,7 @@ use Rattle.ext_engine.specs.TreeRun.{Ran}
 use Rattle.ext_plain.specs.NodeCalls.{CallsEnd}
 use Rattle.ext_plain.specs.PlainRun.{outcome_of, with_result}
 use Rattle.ext_plain.proofs.Reached.{set-elsewhere}
-use Rattle.ext_one_report.specs.Shares.{Open, SharesNothing, AreToldNear}
+use Rattle.ext_one_report.specs.Shares.{SharesNothing, AreToldNear}
 use Rattle.ext_one_report.proofs.SharedNodesWords.{AllToldNear}
 use Rattle.ext_one_report.proofs.NodeTold.{ran_as, ran_first, ran_second, set-long, set-there}
 
@@ -32,7 +33,7 @@ near_then shares xs ys a b c apart one two = record {
 }
 
 -- those below a node, and then the node
-pub near_own : (shares : ℕ → Open) (own : Ran) (below : List Ran) (a b : List NodeOutcome) (outcome : NodeOutcome) → AreToldNear (shares own.result.node) (with_fault_told fault_text own.result) outcome → own.result.node < length a
+pub near_own : (shares : ℕ → Open) (own : Ran) (below : List Ran) (a b : List NodeOutcome) (outcome : NodeOutcome) → AreToldNear (values_of (shares own.result.node)) (with_fault_told fault_text own.result) outcome → own.result.node < length a
     → (HasRun below own.result.node → ⊥) → AllToldNear shares below a b → AllToldNear shares (own ∷ below) a (with_result outcome b)
 near_own shares own below a b outcome told within apart under =
     let at : own.result.node ≡ outcome.node = ap (λ (o : NodeOutcome). o.node) told.same in
@@ -42,7 +43,7 @@ near_own shares own below a b outcome told within apart under =
       count = set-long b outcome.node outcome ∙ under.count;
       each = λ r there. elim (contains_cons own below r there) [
         | inl same ↦
-            subst (λ (x : Ran). (one : NodeOutcome) × (slice_get (with_result outcome b) x.result.node ≡ Some one) × AreToldNear (shares x.result.node) (with_fault_told fault_text x.result) one) same (outcome, here, told)
+            subst (λ (x : Ran). (one : NodeOutcome) × (slice_get (with_result outcome b) x.result.node ≡ Some one) × AreToldNear (values_of (shares x.result.node)) (with_fault_told fault_text x.result) one) same (outcome, here, told)
         | inr later ↦
             let one = under.each r later in (
               one.0,
@@ -66,8 +67,8 @@ pub record AreCounted (outcomes : List Outcome) (end : CallsEnd) : Type 0 where
 pub told_as : (shared : Open) (node : ℕ) (is_test : Bool) (outcomes : List Outcome) (faults : List (Option Fault)) (end : CallsEnd) (closes : List (Option (List ℕ)))
     → with_fault_told fault_text (result_of node is_test (endings_of outcomes) (computed_in outcomes) (found_in outcomes) faults)
     ≡ outcome_of node is_test (record end { computed = computed_in outcomes; found = found_in outcomes }) closes
-    → computed_in outcomes + found_in outcomes ≡ end.computed + end.found → (SharesNothing shared → AreCounted outcomes end)
-    → AreToldNear shared (with_fault_told fault_text (result_of node is_test (endings_of outcomes) (computed_in outcomes) (found_in outcomes) faults)) (outcome_of node is_test end closes)
+    → computed_in outcomes + found_in outcomes ≡ end.computed + end.found → (SharesNothing (values_of shared) → AreCounted outcomes end)
+    → AreToldNear (values_of shared) (with_fault_told fault_text (result_of node is_test (endings_of outcomes) (computed_in outcomes) (found_in outcomes) faults)) (outcome_of node is_test end closes)
 told_as shared node is_test outcomes faults end closes told counts counted = record {
   same = ap (λ (o : NodeOutcome). record o { computed = 0; found = 0 }) told;
   counts = counts;

@@ -8,9 +8,8 @@ use Rattle.ext_history.proofs.Legal.{legal_begun}
 use Rattle.ext_history.proofs.Lists.{bools, contains_cons, contains_here, contains_later}
 use Rattle.ext_model.specs.Events.{place_of}
 use Rattle.ext_model.specs.History.{slots_in}
-use Rattle.ext_model.specs.Sizes.{most_numbers}
+use Rattle.ext_one_report.proofs.Numbers.{enough_numbers}
 use Rattle.ext_tree.specs.Keys.{KeyValue}
-use Rattle.ext_plan.specs.Values.{ValueText}
 use Rattle.ext_races.specs.MadeSteps.{plan_path}
 use Rattle.ext_engine.specs.Meeting.{HasSeenWithin, first_seen}
 use Rattle.ext_engine.specs.Order.{ChildRun}
@@ -35,8 +34,7 @@ use Rattle.ext_one_report.specs.Within.{is_within}
 use Rattle.ext_one_report.proofs.PlainFrames.{IsOpen, LeavesElse}
 use Rattle.ext_one_report.proofs.Fills.{Fills, IsFilledIn, computed_of, computed_told}
 use Rattle.ext_one_report.proofs.FillsCounts.{fills_wider}
-use Rattle.ext_one_report.proofs.Open.{AreNear, StandsOrNot, also, some_or_none, still_open}
-use Rattle.ext_one_report.specs.Shares.{Open}
+use Rattle.ext_one_report.proofs.Open.{AreNear, Given, Open, StandsOrNot, also, of_value, some_or_none, still_open}
 use Rattle.ext_one_report.proofs.Shared.{unshared}
 use Rattle.ext_one_report.proofs.OpenStep.{knows_more, open_value, or_not_more, value_is_open}
 use Rattle.ext_one_report.proofs.Levels.{AreLevel, outside}
@@ -61,10 +59,10 @@ use Rattle.ext_one_report.proofs.SharedNodesPlaces.{not_both, still_cases, still
 abbrev pub only_touched : Places → Open → Open
 only_touched touched o context key = if touched context key then o context key else None
 
-pub touched_open : (touched : Places) (o : Open) (context : ℕ) (key : KeyValue) (v : ValueText) → touched context key ≡ true → o context key ≡ Some v → only_touched touched o context key ≡ Some v
+pub touched_open : (touched : Places) (o : Open) (context : ℕ) (key : KeyValue) (v : Given) → touched context key ≡ true → o context key ≡ Some v → only_touched touched o context key ≡ Some v
 touched_open touched o context key v on is = ap (λ b. if b then o context key else None) on ∙ is
 
-pub touched_parts : (touched : Places) (o : Open) (context : ℕ) (key : KeyValue) (v : ValueText) → only_touched touched o context key ≡ Some v → (touched context key ≡ true) × (o context key ≡ Some v)
+pub touched_parts : (touched : Places) (o : Open) (context : ℕ) (key : KeyValue) (v : Given) → only_touched touched o context key ≡ Some v → (touched context key ≡ true) × (o context key ≡ Some v)
 touched_parts touched o context key v is = elim (bools (touched context key)) [
   | inl on ↦ (on, sym (ap (λ b. if b then o context key else None) on) ∙ is)
   | inr off ↦ not_both (only_touched touched o context key) v (ap (λ b. if b then o context key else None) off) is
@@ -84,7 +82,7 @@ none_touched touched o context key none = elim (bools (touched context key)) [
 -- The lanes and the plain run when a container begins, and the lanes when it ends
 pub record Whole (g : Ground) : Type 0 where
   pub o : Open
-  pub among : (context : ℕ) (key : KeyValue) (v : ValueText) → o context key ≡ Some v → g.shares g.node context key ≡ Some v
+  pub among : (context : ℕ) (key : KeyValue) (v : Given) → o context key ≡ Some v → g.shares g.node context key ≡ Some v
   pub first : List PlanLane
   pub last : List PlanLane
   pub s : ValueState
@@ -100,7 +98,7 @@ module _ (g : Ground) (w : Whole g) where
   last_in : IsPrefix (first_seen w.last) g.h
   last_in = first_within g.h w.last w.within
 
-  pub open_touched : (context : ℕ) (key : KeyValue) (v : ValueText) → w.o context key ≡ Some v → g.touched g.node context key ≡ true
+  pub open_touched : (context : ℕ) (key : KeyValue) (v : Given) → w.o context key ≡ Some v → g.touched g.node context key ≡ true
   open_touched context key v is = g.basis.shared.touched_there g.node context key v (w.among context key v is)
 
   -- what has passed since the container began
@@ -113,7 +111,7 @@ module _ (g : Ground) (w : Whole g) where
   own_then done later ys zs t pre acts post since =
       own_now g.plan g.run g.h (g.touched g.node) g.basis.legal w.o open_touched done later w.first ys zs w.last w.s t pre acts post last_in w.own w.computed since
 
-  pub computed_then : (later : Open) (ys zs : List PlanLane) → Acts g.h w.first ys → Acts g.h ys zs → Acts g.h zs w.last → ((context : ℕ) (key : KeyValue) (v : ValueText) → later context key ≡ Some v → w.o context key ≡ Some v)
+  pub computed_then : (later : Open) (ys zs : List PlanLane) → Acts g.h w.first ys → Acts g.h ys zs → Acts g.h zs w.last → ((context : ℕ) (key : KeyValue) (v : Given) → later context key ≡ Some v → w.o context key ≡ Some v)
       → AreComputed g.run g.h later ys zs
   computed_then later ys zs pre acts post fewer = computed_fewer g.run g.h w.o later ys zs fewer (computed_part g.h w.first ys zs w.last pre acts.goes post g.run w.o w.computed)
 
@@ -128,7 +126,7 @@ module _ (g : Ground) (w : Whole g) where
 
   -- what is filled in a part of its run, and then in the next
   pub fills_next : (done : List ℕ) (o mid final : Open) (xs ys zs : List PlanLane) (s t : ValueState) (lanes plain more others : ℕ) → Acts g.h w.first xs → Acts g.h xs ys → Acts g.h ys zs → Acts g.h zs w.last
-      → ((context : ℕ) (key : KeyValue) (v : ValueText) → o context key ≡ Some v → w.o context key ≡ Some v) → ((context : ℕ) (key : KeyValue) (v : ValueText) → final context key ≡ Some v → mid context key ≡ Some v)
+      → ((context : ℕ) (key : KeyValue) (v : Given) → o context key ≡ Some v → w.o context key ≡ Some v) → ((context : ℕ) (key : KeyValue) (v : Given) → final context key ≡ Some v → mid context key ≡ Some v)
       → Passes g.plan g.run g.h (g.touched g.node) done o xs s mid ys t
       → Fills (IsFilledIn g.run g.h xs ys) o mid s lanes plain → Fills (IsFilledIn g.run g.h ys zs) mid final t more others → Fills (IsFilledIn g.run g.h xs zs) o final s (lanes + more) (plain + others)
   fills_next done o mid final xs ys zs s t lanes plain more others pre first second post of fewer passes one two =
@@ -139,7 +137,7 @@ module _ (g : Ground) (w : Whole g) where
 
   module _ (each : ChildrenEnd g) (c : ℕ) (parent : IsChild g c) (before : List ℕ) (others : (x : ℕ) → Contains before x → IsChild g x × (x ≢ c)) (o : Open) (s : Lanes StoredValue) (ran : List Ran) (m : Lanes StoredValue) (r : RunState)
       (child : ChildRun (over g) g.depth c s ran m) (m_within : All (HasSeenWithin g.h) m.first) (m_known : All (IsLaneIn g.run) m.first) (pre : Acts g.h w.first s.first) (acts : Acts g.h s.first m.first)
-      (post : Acts g.h m.first w.last) (fine : IsFine g.plan r) (since : Since before o s.first r.state) (drawn : (step g r c).state.store.drawn < most_numbers g.plan.size) (closed : ClosedFor g o r)
+      (post : Acts g.h m.first w.last) (fine : IsFine g.plan r) (since : Since before o s.first r.state) (drawn : (step g r c).state.store.drawn < enough_numbers g.plan.size) (closed : ClosedFor g o r)
       (fresh : (context : ℕ) → context < length g.plan.nodes → is_within g.plan c context ≡ true → IsFresh context r.state) where
     abbrev oc : Open
     oc = only_touched (g.touched c) o
@@ -147,10 +145,10 @@ module _ (g : Ground) (w : Whole g) where
     up_c : (context : ℕ) (key : KeyValue) → g.touched c context key ≡ true → g.touched g.node context key ≡ true
     up_c context key is = up g.plan g.run g.locks g.h g.touched g.changes g.changed g.shares g.basis g.node c context key parent is
 
-    among_c : (context : ℕ) (key : KeyValue) (v : ValueText) → o context key ≡ Some v → g.shares g.node context key ≡ Some v
+    among_c : (context : ℕ) (key : KeyValue) (v : Given) → o context key ≡ Some v → g.shares g.node context key ≡ Some v
     among_c context key v is = w.among context key v (since.fewer context key v is)
 
-    touched_node : (context : ℕ) (key : KeyValue) (v : ValueText) → o context key ≡ Some v → g.touched g.node context key ≡ true
+    touched_node : (context : ℕ) (key : KeyValue) (v : Given) → o context key ≡ Some v → g.touched g.node context key ≡ true
     touched_node context key v is = open_touched context key v (since.fewer context key v is)
 
     own_c : AreOwn g.run g.h (unshared (g.touched g.node) o) s.first m.first
@@ -218,7 +216,7 @@ module _ (g : Ground) (w : Whole g) where
         fewer_closed g.plan (plan_path g.plan g.node) o later_c (step g r c).state (λ context key v is. (still_parts settled o context key v is).1) (child_stays g c o r parent closed)
 
     -- what it settles it touches, and was open
-    settled_was : (context : ℕ) (key : KeyValue) → settled context key ≡ true → (v : ValueText) × (g.touched c context key ≡ true) × (o context key ≡ Some v)
+    settled_was : (context : ℕ) (key : KeyValue) → settled context key ≡ true → (v : Given) × (g.touched c context key ≡ true) × (o context key ≡ Some v)
     settled_was context key on =
         let was = ends_c.ends.were_open context key on in
         let parts = touched_parts (g.touched c) o context key was.0 was.1 in
@@ -306,15 +304,15 @@ module _ (g : Ground) (w : Whole g) where
     -- ---- what is open still
 
     -- it is in no context of the child's
-    off_open : (context : ℕ) (key : KeyValue) (v : ValueText) → o context key ≡ Some v → is_within g.plan c context ≡ false
+    off_open : (context : ℕ) (key : KeyValue) (v : Given) → o context key ≡ Some v → is_within g.plan c context ≡ false
     off_open context key v is = never (is_within g.plan c context) (λ within.
         both_ways (within_any g.plan (c ∷ []) context) (or_first (is_within g.plan c context) (within_any g.plan [] context) within)
         (off_node g context key v (among_c context key v is) (c ∷ []) (λ x there. subst (IsChild g) (only c x there) parent)))
 
-    clear_open : (context : ℕ) (key : KeyValue) (v : ValueText) → o context key ≡ Some v → IsOpen context r.state
+    clear_open : (context : ℕ) (key : KeyValue) (v : Given) → o context key ≡ Some v → IsOpen context r.state
     clear_open context key v is = λ number past. since.near.numbered.beyond context key number (value_is_open o context key v is) past
 
-    plain_c : (context : ℕ) (key : KeyValue) (v : ValueText) → later_c context key ≡ Some v → plain_slot (step g r c).state context key ≡ plain_slot r.state context key
+    plain_c : (context : ℕ) (key : KeyValue) (v : Given) → later_c context key ≡ Some v → plain_slot (step g r c).state context key ≡ plain_slot r.state context key
     plain_c context key v is =
         let both = still_parts settled o context key v is in
         elim (bools (g.touched c context key)) [
@@ -372,11 +370,11 @@ module _ (g : Ground) (w : Whole g) where
         | inl on ↦ ends_c.ends.stand context key v on (touched_open (g.touched c) o context key v (settled_was context key on).1 is)
       ];
       unchanged = plain_c;
-      untouched = λ context number event_place key v event is has there on made.
+      untouched = λ context number event_place key v event is left has there on made.
           let both = still_parts settled o context key v is in
           let ch = made_changes g.plan g.run g.locks g.h g.touched g.changes g.changed g.shares g.basis g.depth c s ran m child m_within context number event_place key event
           (g.basis.covered.within g.node context key (touched_node context key v both.1)) has there on made in
-          ends_c.ends.untouched.none context number event_place key v event (touched_open (g.touched c) o context key v (g.basis.covered.touches c context key ch) both.1) both.0 has there on made;
+          ends_c.ends.untouched.none context number event_place key v event (touched_open (g.touched c) o context key v (g.basis.covered.touches c context key ch) both.1) both.0 left has there on made;
     }
 
     pub since_c : Since (c ∷ before) later_c m.first (step g r c).state
@@ -389,24 +387,24 @@ module _ (g : Ground) (w : Whole g) where
         fills_wider (IsFilledIn g.run g.h s.first m.first) oc o (still_open settled oc) later_c r.state (computed_of ran) (computed_told ran (step g r c).results)
         (λ spot is. record {
           value = is.value;
-          was_open = (touched_parts (g.touched c) o spot.0 spot.1 is.value is.was_open).1;
+          was_open = (touched_parts (g.touched c) o spot.0 spot.1 (of_value is.value) is.was_open).1;
           closed = elim (still_cases settled oc spot.0 spot.1 is.closed) [
             | inl on ↦ still_none settled o spot.0 spot.1 on
-            | inr none ↦ not_both (oc spot.0 spot.1) is.value none.1 is.was_open
+            | inr none ↦ not_both (oc spot.0 spot.1) (of_value is.value) none.1 is.was_open
           ];
         })
         (λ spot is. elim (still_cases settled o spot.0 spot.1 is.closed) [
           | inl on ↦ record {
             value = is.value;
-            was_open = touched_open (g.touched c) o spot.0 spot.1 is.value (settled_was spot.0 spot.1 on).1 is.was_open;
+            was_open = touched_open (g.touched c) o spot.0 spot.1 (of_value is.value) (settled_was spot.0 spot.1 on).1 is.was_open;
             closed = still_none settled oc spot.0 spot.1 on;
           }
-          | inr none ↦ not_both (o spot.0 spot.1) is.value none.1 is.was_open
+          | inr none ↦ not_both (o spot.0 spot.1) (of_value is.value) none.1 is.was_open
         ])
         (λ spot v is filled.
         let ch = made_changes g.plan g.run g.locks g.h g.touched g.changes g.changed g.shares g.basis g.depth c s ran m child m_within spot.0 filled.number filled.place spot.1 filled.event
-        (g.basis.covered.within g.node spot.0 spot.1 (touched_node spot.0 spot.1 v is)) filled.has filled.there (ap place_of filled.act) filled.made in
-        (v, touched_open (g.touched c) o spot.0 spot.1 v (g.basis.covered.touches c spot.0 spot.1 ch) is)) ends_c.ends.fills
+        (g.basis.covered.within g.node spot.0 spot.1 (touched_node spot.0 spot.1 (of_value v) is)) filled.has filled.there (ap place_of filled.act) filled.made in
+        (v, touched_open (g.touched c) o spot.0 spot.1 (of_value v) (g.basis.covered.touches c spot.0 spot.1 ch) is)) ends_c.ends.fills
 
     -- ---- numbers
 

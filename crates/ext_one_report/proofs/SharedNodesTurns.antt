@@ -8,9 +8,8 @@ use Rattle.std.proofs.lemmas.List.Elements.{Contains-append_left, Contains-appen
 use Rattle.ext_history.proofs.Legal.{legal_begun}
 use Rattle.ext_history.proofs.Lists.{contains_cons, contains_here, contains_later, contains_none}
 use Rattle.ext_history.proofs.Once.{Once}
-use Rattle.ext_model.specs.Sizes.{most_numbers}
+use Rattle.ext_one_report.proofs.Numbers.{enough_numbers}
 use Rattle.ext_tree.specs.Keys.{KeyValue}
-use Rattle.ext_plan.specs.Values.{ValueText}
 use Rattle.ext_races.specs.MadeSteps.{plan_path}
 use Rattle.ext_engine.specs.RunLaws.{HasRun}
 use Rattle.ext_engine.specs.Meeting.{HasSeenWithin, first_seen}
@@ -19,7 +18,7 @@ use Rattle.ext_engine.specs.TreeRun.{BodyRun, Lanes, Ran, with_lanes}
 use Rattle.ext_engine.proofs.Above.{Under}
 use Rattle.ext_engine.proofs.Acts.{Acts, heads_go}
 use Rattle.ext_one_report.proofs.Parts.{first_within}
-use Rattle.ext_one_report.proofs.Open.{some_or_none}
+use Rattle.ext_one_report.proofs.Open.{Given, Open, some_or_none}
 use Rattle.ext_engine.proofs.Going.{turn_goes}
 use Rattle.ext_engine.proofs.Grown.{Entry}
 use Rattle.ext_engine.proofs.Order.{came_from}
@@ -30,7 +29,6 @@ use Rattle.ext_parallel.specs.StoreCalls.{PlanLane}
 use Rattle.ext_plain.specs.PlainRun.{RunState, node_run}
 use Rattle.ext_one_report.proofs.MatchingWords.{Places}
 use Rattle.ext_one_report.proofs.StepsWords.{IsLaneIn}
-use Rattle.ext_one_report.specs.Shares.{Open}
 use Rattle.ext_one_report.proofs.Shared.{unshared}
 use Rattle.ext_one_report.proofs.SharedNodesWords.{AllToldNear}
 use Rattle.ext_one_report.proofs.ChildLists.{once-apart, once-right, only}
@@ -69,7 +67,7 @@ module _ (g : Ground) where
       pub done : List ℕ
       pub are : (x : ℕ) → Contains done x → IsChild g x
       pub open_still : Open
-      pub fewer : (context : ℕ) (key : KeyValue) (v : ValueText) → open_still context key ≡ Some v → o context key ≡ Some v
+      pub fewer : (context : ℕ) (key : KeyValue) (v : Given) → open_still context key ≡ Some v → o context key ≡ Some v
       pub since : Since g w done open_still ys b.state
       pub below : Below g children ran a b
       pub fills : Fills (IsFilledIn g.run g.h xs ys) o open_still a.state (computed_of ran) (computed_told ran b.results)
@@ -98,7 +96,7 @@ module _ (g : Ground) where
 
     filled_then : (cs ds : List ℕ) (first second : List Ran) (a b c : RunState) → ((x : ℕ) → Contains cs x → IsChild g x) → ((x : ℕ) → Contains ds x → IsChild g x) → ((x : ℕ) → Contains cs x → Contains ds x → ⊥)
         → Below g cs first a b → Below g ds second b c → (done : List ℕ) (o mid last : Open) (xs ys zs : List PlanLane) → Acts g.h w.first xs → Acts g.h xs ys → Acts g.h ys zs → Acts g.h zs w.last
-        → ((context : ℕ) (key : KeyValue) (v : ValueText) → o context key ≡ Some v → w.o context key ≡ Some v) → ((context : ℕ) (key : KeyValue) (v : ValueText) → last context key ≡ Some v → mid context key ≡ Some v)
+        → ((context : ℕ) (key : KeyValue) (v : Given) → o context key ≡ Some v → w.o context key ≡ Some v) → ((context : ℕ) (key : KeyValue) (v : Given) → last context key ≡ Some v → mid context key ≡ Some v)
         → Passes g.plan g.run g.h (g.touched g.node) done o xs a.state mid ys b.state → Fills (IsFilledIn g.run g.h xs ys) o mid a.state (computed_of first) (computed_told first b.results)
         → Fills (IsFilledIn g.run g.h ys zs) mid last b.state (computed_of second) (computed_told second c.results)
         → Fills (IsFilledIn g.run g.h xs zs) o last a.state (computed_of (first ++ second)) (computed_told (first ++ second) c.results)
@@ -115,7 +113,7 @@ module _ (g : Ground) where
     heads_of xs ys same = subst (λ (l : List PlanLane). IsPrefix (first_seen xs) (first_seen l)) same (prefix_refl (first_seen xs))
 
     -- a place that is not open is not open later
-    still_away : {o later : Open} → ((context : ℕ) (key : KeyValue) (v : ValueText) → later context key ≡ Some v → o context key ≡ Some v) → (context : ℕ) (key : KeyValue)
+    still_away : {o later : Open} → ((context : ℕ) (key : KeyValue) (v : Given) → later context key ≡ Some v → o context key ≡ Some v) → (context : ℕ) (key : KeyValue)
         → away g.plan (beside_ones g ++ turn_ones g) (unshared (g.touched g.node) o) context key ≡ true → away g.plan (beside_ones g ++ turn_ones g) (unshared (g.touched g.node) later) context key ≡ true
     still_away {o} {later} fewer context key is =
         let parts = unshared_parts (g.touched g.node) o context key (away_first g.plan (beside_ones g ++ turn_ones g) (unshared (g.touched g.node) o) context key is) in
@@ -129,7 +127,7 @@ module _ (g : Ground) where
     turns : (entries : List Entry) (before : List ℕ) (o : Open) (s u : Lanes StoredValue) (r : RunState) → FoldsTo (λ s d u. Run d.0 s d.1 u) s entries u
         → ((x : ℕ) → Contains (map (λ e. e.0) entries) x → Contains (turn_ones g) x) → Once (map (λ e. e.0) entries) → ((x : ℕ) → Contains before x → IsChild g x)
         → ((x : ℕ) → Contains before x → Contains (map (λ e. e.0) entries) x → ⊥) → All (IsLaneIn g.run) u.first → All (HasSeenWithin g.h) u.first → Acts g.h w.first s.first → Acts g.h u.first w.last → IsFine g.plan r
-        → Since g w before o s.first r.state → ClosedFor g o r → (after_all g r (map (λ e. e.0) entries)).state.store.drawn < most_numbers g.plan.size
+        → Since g w before o s.first r.state → ClosedFor g o r → (after_all g r (map (λ e. e.0) entries)).state.store.drawn < enough_numbers g.plan.size
         → ((x : ℕ) → Contains before x → Contains (beside_ones g ++ turn_ones g) x)
         → ((x context : ℕ) → Contains (map (λ e. e.0) entries) x → context < length g.plan.nodes → is_within g.plan x context ≡ true → IsFresh context r.state)
         → Turned (map (λ e. e.0) entries) (flat_map (λ e. e.1) entries) o s.first u.first r (after_all g r (map (λ e. e.0) entries))
@@ -161,7 +159,7 @@ module _ (g : Ground) where
         let rest_children : All (IsChild g) rest = λ k d less. turn_child g _ (in_turn _ (contains_later c rest _ (Contains-get_or rest k d less))) in
         let fine_m = child_fine g.plan g.touched g.changes g.basis.read g.basis.covered g.levels g.node g.path (path_in g) r c parent fine in
         let more_drawn = all_leave_drawn rest (step g r c) rest_children fine_m in
-        let few : (step g r c).state.store.drawn < most_numbers g.plan.size = omega (arith, more_drawn, drawn) in
+        let few : (step g r c).state.store.drawn < enough_numbers g.plan.size = omega (arith, more_drawn, drawn) in
         let fresh_c : (context : ℕ) → context < length g.plan.nodes → is_within g.plan c context ≡ true → IsFresh context r.state = λ context inside it. fresh c context (contains_here c rest) inside it in
         let end = ends_c g w each c parent before others o s e.1 m r runs.1 m_within m_known pre acts post_m fine since few closed fresh_c in
         let since_m = since_c g w each c parent before others o s e.1 m r runs.1 m_within m_known pre acts post_m fine since few closed fresh_c in
@@ -216,7 +214,7 @@ module _ (g : Ground) where
 
     module _ (opened : Lanes StoredValue) (below : List Ran) (after : Lanes StoredValue) (body : BodyRun (over g) (ChildRun (over g) g.depth) g.node opened below after) (known : All (IsLaneIn g.run) after.first)
         (within : All (HasSeenWithin g.h) after.first) (pre : Acts g.h w.first opened.first) (post : Acts g.h after.first w.last) (o : Open) (r : RunState) (fine : IsFine g.plan r) (since : Since g w [] o opened.first r.state)
-        (closed : ClosedFor g o r) (drawn : (after_all g (after_all g r (beside_ones g)) (turn_ones g)).state.store.drawn < most_numbers g.plan.size)
+        (closed : ClosedFor g o r) (drawn : (after_all g (after_all g r (beside_ones g)) (turn_ones g)).state.store.drawn < enough_numbers g.plan.size)
         (fresh : (child context : ℕ) → IsChild g child → context < length g.plan.nodes → is_within g.plan child context ≡ true → IsFresh context r.state) where
       joined_within : All (HasSeenWithin g.h) body.joined
       joined_within = turned_within (over g) going g.h (Tree (over g) going g.h g.depth) (go (over g) going g.h g.depth) (at (over g) going g.h g.depth) g.node opened below after body within
@@ -268,7 +266,7 @@ module _ (g : Ground) where
       mid_fine : IsFine g.plan mid
       mid_fine = children_fine g.plan g.touched g.changes g.basis.read g.basis.covered g.levels g.node g.path (path_in g) (beside_ones g) r beside_children fine
 
-      few : mid.state.store.drawn < most_numbers g.plan.size
+      few : mid.state.store.drawn < enough_numbers g.plan.size
       few = let more = all_leave_drawn (turn_ones g) mid turn_children mid_fine in omega (arith, more, drawn)
 
       since_mid : Since g w (beside_ones g) (later g its each few) body.joined mid.state
@@ -304,7 +302,7 @@ module _ (g : Ground) where
           let are = body.in_turn.each in
           let second = turns entries (beside_ones g) (later g its each few) (with_lanes body.joined body.between) after mid body.in_turn.runs (λ x there. subst (λ l. Contains l x) are there)
           (subst Once (sym are) (once-right (beside_ones g) (turn_ones g) (all_once g))) (beside_child g) (λ x there also. once-apart (beside_ones g) (turn_ones g) x (all_once g) there (subst (λ l. Contains l x) are also))
-          known within (acts_then g.h w.first opened.first body.joined pre beside_acts) post mid_fine since_mid closed_mid (subst (λ (l : List ℕ). (after_all g mid l).state.store.drawn < most_numbers g.plan.size) (sym are) drawn)
+          known within (acts_then g.h w.first opened.first body.joined pre beside_acts) post mid_fine since_mid closed_mid (subst (λ (l : List ℕ). (after_all g mid l).state.store.drawn < enough_numbers g.plan.size) (sym are) drawn)
           (λ x there. Contains-append_left (beside_ones g) (turn_ones g) x there)
           (λ x context there inside it.
           let turn_x : Contains (turn_ones g) x = subst (λ l. Contains l x) are there in

@@ -1,12 +1,12 @@
 -- Runs of nodes that compute the same values as nodes beside them: on several lanes and in the plain run the same is told of each node but for who computed such a value and who found it.
 -- JUnit 5 User Guide, "Parallel Execution"; Javadoc `ExtensionContext.Store`, `getOrComputeIfAbsent`.
-use Rattle.ext_one_report.specs.Shares.{AreToldNear, Open}
+use Rattle.ext_one_report.specs.Shares.{AreToldNear}
 use Rattle.std.specs.Prelude.{◌≡◌, ℕ, ◌+◌, ◌<◌, true, false, List, length, All, Contains, Some, drop, is_some, slice_get}
 use mathlib.Core.List.{IsPrefix}
 use Rattle.ext_model.specs.declared.event.Event.{Event}
 use Rattle.ext_model.specs.Events.{place_of}
 use Rattle.ext_model.specs.History.{History, IsLegal}
-use Rattle.ext_model.specs.Sizes.{most_numbers}
+use Rattle.ext_one_report.proofs.Numbers.{enough_numbers}
 use Rattle.ext_tree.specs.Keys.{KeyValue}
 use Rattle.ext_tree.specs.Trees.{IsPathOf}
 use Rattle.ext_lifecycle.specs.FaultTexts.{NodeOutcome, fault_text}
@@ -15,7 +15,6 @@ use Rattle.ext_locks.specs.Opening.{LocksView}
 use Rattle.ext_plan.specs.Plans.{PlanText}
 use Rattle.ext_plan.specs.PlanCalls.{test_of}
 use Rattle.ext_plan.specs.ReadPlans.{IsReadPlan, ids_of_nodes}
-use Rattle.ext_plan.specs.Values.{ValueText}
 use Rattle.ext_races.specs.MadeSteps.{plan_path}
 use Rattle.ext_one_report.specs.Alone.{IsSeenMeanwhile}
 use Rattle.ext_one_report.specs.Changing.{IsBelow, NodesChangeOnly}
@@ -33,7 +32,7 @@ use Rattle.ext_one_report.proofs.Covers.{AreCovered}
 use Rattle.ext_races.specs.OneReports.{ClosesAgreeBeside}
 use Rattle.ext_one_report.proofs.Fills.{Fills, IsFilledIn, computed_of, computed_told}
 use Rattle.ext_one_report.proofs.LanesApart.{AreApart}
-use Rattle.ext_one_report.proofs.Open.{AreNear, Computes, also, still_open}
+use Rattle.ext_one_report.proofs.Open.{AreNear, Computes, Given, Open, also, is_left, still_open, values_of}
 use Rattle.ext_one_report.proofs.OpenSteps.{StandsInBoth}
 use Rattle.ext_one_report.proofs.Orders.{Orders}
 use Rattle.ext_one_report.proofs.SharedFresh.{IsFresh}
@@ -51,12 +50,12 @@ pub record AreOwn (run : RunView) (h : History) (places : Places) (before after 
 
 -- each event at the open places that is seen meanwhile, by whomever, computes the value of the place
 pub record AreComputed (run : RunView) (h : History) (open_at : Open) (before after : List PlanLane) : Type 0 where
-  pub computed : (context number place : ℕ) (key : KeyValue) (v : ValueText) (event : Event ℕ) → open_at context key ≡ Some v → HasNumberIn run key number → IsSeenMeanwhile place before after
+  pub computed : (context number place : ℕ) (key : KeyValue) (v : Given) (event : Event ℕ) → open_at context key ≡ Some v → HasNumberIn run key number → IsSeenMeanwhile place before after
       → slice_get h place ≡ Some event → place_of event.act ≡ Some (cell_of run number context) → Computes run v event.act
 
--- none of these lanes made an event between the two states at an open place, but where it is settled
+-- none of these lanes made an event between the two states at an open place, but where it is settled, or where nothing is kept
 pub record AreUntouched (run : RunView) (h : History) (open_at : Open) (settled : Places) (before after : List PlanLane) : Type 0 where
-  pub none : (context number place : ℕ) (key : KeyValue) (v : ValueText) (event : Event ℕ) → open_at context key ≡ Some v → settled context key ≡ false → HasNumberIn run key number
+  pub none : (context number place : ℕ) (key : KeyValue) (v : Given) (event : Event ℕ) → open_at context key ≡ Some v → settled context key ≡ false → is_left v ≡ true → HasNumberIn run key number
       → slice_get h place ≡ Some event → place_of event.act ≡ Some (cell_of run number context) → IsMadeIn h place before after → ⊥
 
 -- ---- what a run is compared by
@@ -76,12 +75,13 @@ pub record IsSharedBasis (plan : PlanText) (run : RunView) (locks : LocksView) (
       → changes node context key ≡ true
   pub once : (g : History) → IsPrefix g h → HoldsOnce run g
   pub legal : IsLegal run.store.id.cells.limits h
+  pub keeps : run.store.id.cells.limits.keep_faults ≡ plan.keep_faults
 
 -- ---- what is told
 
 pub record AllToldNear (shares : ℕ → Open) (ran : List Ran) (before after : List NodeOutcome) : Type 0 where
   pub count : length after ≡ length before
-  pub each : (one : Ran) → Contains ran one → (told : NodeOutcome) × (slice_get after one.result.node ≡ Some told) × AreToldNear (shares one.result.node) (with_fault_told fault_text one.result) told
+  pub each : (one : Ran) → Contains ran one → (told : NodeOutcome) × (slice_get after one.result.node ≡ Some told) × AreToldNear (values_of (shares one.result.node)) (with_fault_told fault_text one.result) told
   pub others : (node : ℕ) → ¬ HasRun ran node → slice_get after node ≡ slice_get before node
 
 -- ---- laws
@@ -91,11 +91,11 @@ module _ (plan : PlanText) (run : RunView) (locks : LocksView) (h : History) (to
   -- those that are open still neither run of the node did anything; at all others that it touches outside the same stands; and near the same is told
   pub record EndsNear (node : ℕ) (open_at : Open) (before : Lanes StoredValue) (ran : List Ran) (after : Lanes StoredValue) (r s : RunState) : Type 0 where
     pub settled : Places
-    pub were_open : (context : ℕ) (key : KeyValue) → settled context key ≡ true → (v : ValueText) × (open_at context key ≡ Some v)
+    pub were_open : (context : ℕ) (key : KeyValue) → settled context key ≡ true → (v : Given) × (open_at context key ≡ Some v)
     pub level : AreLevel plan run (outside plan node (also settled (unshared (touched node) open_at))) (first_seen after.first) s.state
     pub near : AreNear run (still_open settled open_at) (first_seen after.first) s.state
-    pub stand : (context : ℕ) (key : KeyValue) (v : ValueText) → settled context key ≡ true → open_at context key ≡ Some v → StandsInBoth run v context key (first_seen after.first) s.state
-    pub unchanged : (context : ℕ) (key : KeyValue) (v : ValueText) → settled context key ≡ false → open_at context key ≡ Some v → plain_slot s.state context key ≡ plain_slot r.state context key
+    pub stand : (context : ℕ) (key : KeyValue) (v : Given) → settled context key ≡ true → open_at context key ≡ Some v → StandsInBoth run v context key (first_seen after.first) s.state
+    pub unchanged : (context : ℕ) (key : KeyValue) (v : Given) → settled context key ≡ false → open_at context key ≡ Some v → plain_slot s.state context key ≡ plain_slot r.state context key
     pub untouched : AreUntouched run h open_at settled before.first after.first
     pub told : AllToldNear shares ran r.results s.results
     -- but for what each run filled itself at open places, both computed as many values
@@ -108,7 +108,7 @@ module _ (plan : PlanText) (run : RunView) (locks : LocksView) (h : History) (to
     pub within : All (HasSeenWithin h) after.first
     pub lanes : All (IsLaneIn run) after.first
     pub apart : AreApart after.first
-    pub open_is : (context : ℕ) (key : KeyValue) (v : ValueText) → open_at context key ≡ Some v → shares node context key ≡ Some v
+    pub open_is : (context : ℕ) (key : KeyValue) (v : Given) → open_at context key ≡ Some v → shares node context key ≡ Some v
     pub own : AreOwn run h (unshared (touched node) open_at) before.first after.first
     pub computed : AreComputed run h open_at before.first after.first
     pub level : AreLevel plan run (unshared (touched node) open_at) (first_seen before.first) r.state
@@ -124,7 +124,7 @@ module _ (plan : PlanText) (run : RunView) (locks : LocksView) (h : History) (to
   TestsEndNear =
       (node : ℕ) (path : List ℕ) (open_at : Open) (before : Lanes StoredValue) (ran : List Ran) (after : Lanes StoredValue) (r : RunState)
       → IsSharedBasis plan run locks h touched changes changed shares → IsPathOf run.store.tree node path → is_some (test_of plan node) ≡ true
-      → TestRun (setting_in plan run locks) node path before ran after → BeginsNear node open_at before after r → (test_node_run plan node path r).state.store.drawn < most_numbers plan.size
+      → TestRun (setting_in plan run locks) node path before ran after → BeginsNear node open_at before after r → (test_node_run plan node path r).state.store.drawn < enough_numbers plan.size
       → EndsNear node open_at before ran after r (test_node_run plan node path r)
 
   -- and so does each node with all nodes below it
@@ -132,5 +132,5 @@ module _ (plan : PlanText) (run : RunView) (locks : LocksView) (h : History) (to
   NodesEndNear =
       (depth levels node : ℕ) (path : List ℕ) (open_at : Open) (before : Lanes StoredValue) (ran : List Ran) (after : Lanes StoredValue) (r : RunState)
       → IsSharedBasis plan run locks h touched changes changed shares → IsPathOf run.store.tree node path → length plan.nodes < levels + length path
-      → ChildRun (setting_in plan run locks) depth node before ran after → BeginsNear node open_at before after r → (node_run plan levels path r).state.store.drawn < most_numbers plan.size
+      → ChildRun (setting_in plan run locks) depth node before ran after → BeginsNear node open_at before after r → (node_run plan levels path r).state.store.drawn < enough_numbers plan.size
       → EndsNear node open_at before ran after r (node_run plan levels path r)

@@ -1,5 +1,5 @@
--- A test ends near: where some of its steps compute values at open places, which nodes beside it may compute too, all else is as in the plain run.
-use Rattle.std.proofs.Common.{◌≡◌, ◌≢◌, ℕ, ◌+◌, ◌<◌, inl, inr, true, false, not, drop, List, [], ◌∷◌, length, Contains, Some, refl, ap, sym, subst, ◌∙◌, arith}
+-- A test ends near: where some of its steps compute at open places, which nodes beside it may compute too, all else is as in the plain run.
+use Rattle.std.proofs.Common.{◌≡◌, ◌≢◌, ℕ, ◌+◌, ◌<◌, inl, inr, true, false, not, drop, List, [], ◌∷◌, length, Some, refl, ap, sym, subst, ◌∙◌, arith}
 use Rattle.std.specs.Prelude.{All, is_some, slice_get}
 use mathlib.Core.List.{IsPrefix}
 use Rattle.std.proofs.lemmas.List.Elements.{All-head}
@@ -9,7 +9,7 @@ use Rattle.ext_history.proofs.Lists.{contains_none}
 use Rattle.ext_model.specs.declared.event.Event.{Event}
 use Rattle.ext_model.specs.Events.{place_of}
 use Rattle.ext_model.specs.History.{History}
-use Rattle.ext_model.specs.Sizes.{most_numbers}
+use Rattle.ext_one_report.proofs.Numbers.{enough_numbers}
 use Rattle.ext_tree.specs.Keys.{KeyValue}
 use Rattle.ext_tree.specs.Trees.{IsPathOf}
 use Rattle.ext_lifecycle.specs.declared.call.Call.{Call}
@@ -21,8 +21,6 @@ use Rattle.ext_locks.specs.Opening.{LocksView}
 use Rattle.ext_plan.specs.Plans.{PlanText}
 use Rattle.ext_plan.specs.PlanCalls.{test_of}
 use Rattle.ext_plan.specs.ReadPlans.{ids_of_nodes}
-use Rattle.ext_plan.specs.Values.{ValueText}
-use Rattle.ext_races.specs.MadeSteps.{calls_of}
 use Rattle.ext_engine.specs.Meeting.{HasSeenWithin, first_seen}
 use Rattle.ext_engine.specs.Order.{IsMadeIn, LaneGoesOn}
 use Rattle.ext_engine.specs.TreeRun.{ClosesNode, Lanes, Ran, TestRun, TreeSetting}
@@ -38,12 +36,11 @@ use Rattle.ext_plain.specs.ContextEnds.{faults_of_closes, seal_keys}
 use Rattle.ext_plain.specs.NodeCalls.{CallsEnd}
 use Rattle.ext_plain.specs.PlainRun.{RunState, outcome_of, test_node_run, with_result}
 use Rattle.ext_plain.proofs.Nodes.{start_is}
-use Rattle.ext_one_report.proofs.CallListsWords.{CallFits, CallsAlike}
+use Rattle.ext_one_report.proofs.CallListsWords.{CallsAlike}
 use Rattle.ext_one_report.proofs.ComputedAbove.{NoneOpenAbove}
 use Rattle.ext_one_report.proofs.MatchingWords.{HasNumberIn, Matches, Places, RunView, cell_of}
 use Rattle.ext_one_report.proofs.StepsWords.{IsLaneIn}
 use Rattle.ext_one_report.proofs.TestCallsWords.{TestHasRoom, afters_round, befores_round, plain_test}
-use Rattle.ext_one_report.proofs.TestCalls.{test_alike}
 use Rattle.ext_one_report.proofs.FrameNodes.{within_nodes}
 use Rattle.ext_one_report.proofs.FrameSteps.{seals_leave}
 use Rattle.ext_one_report.proofs.Orders.{AreInOrder, Orders}
@@ -55,8 +52,8 @@ use Rattle.ext_one_report.proofs.FillsCounts.{computed_is, of_first, told_first}
 use Rattle.ext_one_report.proofs.FillsLanes.{filled_by, filled_first, filled_in, filled_then}
 use Rattle.ext_one_report.proofs.FillsLaws.{fills_as}
 use Rattle.ext_one_report.proofs.NodeTold.{set-there}
-use Rattle.ext_one_report.proofs.Open.{AreNear, also, some_or_none, still_open}
-use Rattle.ext_one_report.specs.Shares.{Open, SharesNothing, AreToldNear}
+use Rattle.ext_one_report.proofs.Open.{AreNear, Given, Open, also, is_left, of_value, some_or_none, still_open, values_of}
+use Rattle.ext_one_report.specs.Shares.{AreToldNear}
 use Rattle.ext_one_report.proofs.OpenCalls.{BeforesFit, CallFitsOpen, CallsNear, FitsBehind, LeavesNear}
 use Rattle.ext_one_report.proofs.OpenSteps.{AreBesideOpen}
 use Rattle.ext_one_report.proofs.Shared.{unshared}
@@ -69,14 +66,13 @@ use Rattle.ext_one_report.proofs.Beside.{first_of_calls, test_made}
 use Rattle.ext_one_report.proofs.CloseEnds.{close_orders, sealed_slot, closes_end_level}
 use Rattle.ext_one_report.proofs.ClosePlain.{plain_seals_places}
 use Rattle.ext_one_report.proofs.LanesAlone.{computed_part, first_is_alone, first_is_shown, is_more, is_on_place, lanes_in, own_part, view_moves}
-use Rattle.ext_one_report.proofs.NodeCalls.{each_of}
 use Rattle.ext_one_report.proofs.NodePlaces.{and_both, and_of, beyond_own, level_fewer, or_either, or_first}
 use Rattle.ext_one_report.proofs.NodeTrees.{its_path, within_itself}
 use Rattle.ext_one_report.proofs.SharedClosesOpen.{computed_fewer, near_after, none_elsewhere, own_standing, stand_after}
 use Rattle.ext_one_report.proofs.SharedNodesBasis.{in_plan, run_tree}
 use Rattle.ext_one_report.proofs.SharedNodesPlaces.{still_parts, unshared_is}
 use Rattle.ext_one_report.proofs.SharedNodesTold.{near_none, near_own, told_as}
-use Rattle.ext_one_report.proofs.SharedTestsOpen.{after_fits, befores_fit, beside_at_others, body_fits, calls_fit_others, open_elsewhere, open_not_below, shared_beside}
+use Rattle.ext_one_report.proofs.SharedTestsOpen.{after_fits, befores_fit, body_fits, open_elsewhere, open_not_below, same_filled, shared_beside}
 use Rattle.ext_one_report.proofs.TestRooms as rooms
 use Rattle.ext_one_report.proofs.OpenTests.{test_ends_near}
 
@@ -87,7 +83,7 @@ module _ (plan : PlanText) (run : RunView) (locks : LocksView) (h : History) (to
   module _ (node : ℕ) (path : List ℕ) (open_at : Open) (before : Lanes StoredValue) (ran : List Ran) (after : Lanes StoredValue) (r : RunState)
       (basis : IsSharedBasis plan run locks h touched changes changed shares) (path_is : IsPathOf run.store.tree node path) (is_test : is_some (test_of plan node) ≡ true)
       (its_run : TestRun setting node path before ran after) (begins : BeginsNear plan run locks h touched changes changed shares node open_at before after r)
-      (drawn : (test_node_run plan node path r).state.store.drawn < most_numbers plan.size) where
+      (drawn : (test_node_run plan node path r).state.store.drawn < enough_numbers plan.size) where
     abbrev end : CallsEnd
     end = plain_test plan node path r.state
 
@@ -175,9 +171,6 @@ module _ (plan : PlanText) (run : RunView) (locks : LocksView) (h : History) (to
           near = subst (λ (l : List PlanLane). AreNear run open_at (first_seen l) r.state) on.first_was begins.near;
         }
 
-    abbrev Own : Call → Type 0
-    Own = Contains (calls_of plan node)
-
     holds : rooms.Holds plan run basis.read node path its is_test r.state
     holds = record { memory = begins.level.memory; keeps = begins.level.keeps; gave = begins.level.gave; of_plan = begins.level.of_plan }
 
@@ -207,7 +200,7 @@ module _ (plan : PlanText) (run : RunView) (locks : LocksView) (h : History) (to
     abbrev around : Places
     around = also settled places
 
-    elsewhere : (context : ℕ) (key : KeyValue) (v : ValueText) → open_at context key ≡ Some v → context ≢ node
+    elsewhere : (context : ℕ) (key : KeyValue) (v : Given) → open_at context key ≡ Some v → context ≢ node
     elsewhere = open_elsewhere plan run locks h touched changes changed shares basis node path its open_at begins.open_is
 
     own_around : AreOwn run h around (its_run.calls.left ∷ its_run.calls.rest) after.first
@@ -289,24 +282,12 @@ module _ (plan : PlanText) (run : RunView) (locks : LocksView) (h : History) (to
     abbrev outcome : NodeOutcome
     outcome = outcome_of node true end (faults_of_closes end.state.places node sealed)
 
-    -- where the test shares nothing, it computed and found as many values in both runs
-    alike_others : SharesNothing (shares node) → CallsAlike run places its_run.outcomes its_run.calls.left end
-    alike_others nothing =
-        let on = its_run.calls in
-        let makes = test_made plan run locks node (Some its_run.held) path on.lane its_run.outcomes on.left on.change in
-        let Fits : Call → Type 0 = CallFits plan path places in
-        let each = calls_fit_others plan run locks h touched changes changed shares basis node path its open_at begins.open_is nothing in
-        test_alike run plan node path places on.lane its_run.outcomes on.left r.state path_is (beside_at_others run path places open_at on.lane on.left r.state beside)
-        (record {
-          befores = each_of Own Fits (befores_round plan node path) each (rooms.own_befores plan run basis.read node path its is_test);
-          body = each (test_call node) (rooms.own_body plan run basis.read node path its is_test);
-          afters = each_of Own Fits (afters_round plan node path) each (rooms.own_afters plan run basis.read node path its is_test);
-        }) room makes.0 makes.1
-
-    told : AreToldNear (shares node) (with_fault_told fault_text own.result) outcome
+    told : AreToldNear (values_of (shares node)) (with_fault_told fault_text own.result) outcome
     told =
         told_as (shares node) node true its_run.outcomes its_run.faults end (faults_of_closes end.state.places node sealed) closed.told near.0.counts
-        (λ nothing. let are = alike_others nothing in record { computed = are.computed; found = are.found })
+        (λ nothing.
+        let same = same_filled (shares node) open_at (still_open settled open_at) (IsFilledBy run its_run.calls.lane its_run.calls.left) r.state (computed_in its_run.outcomes) end.computed begins.open_is nothing near.2 in
+        record { computed = same; found = omega (arith, same, near.0.counts) })
 
     all_told : AllToldNear shares ran r.results (test_node_run plan node path r).results
     all_told =
@@ -318,7 +299,7 @@ module _ (plan : PlanText) (run : RunView) (locks : LocksView) (h : History) (to
 
     near_still : AreNear run (still_open settled open_at) (first_seen after.first) sealed
     near_still =
-        let still : (context : ℕ) (key : KeyValue) (v : ValueText) → still_open settled open_at context key ≡ Some v → open_at context key ≡ Some v =
+        let still : (context : ℕ) (key : KeyValue) (v : Given) → still_open settled open_at context key ≡ Some v → open_at context key ≡ Some v =
         λ context key v is. (still_parts settled open_at context key v is).1 in
         near_after plan run locks h basis.view basis.legal node its_run.calls.left its_run.calls.rest after.first its_run.faults closes begins.within (still_open settled open_at)
         (computed_fewer run h open_at (still_open settled open_at) (its_run.calls.left ∷ its_run.calls.rest) after.first still computed_close) end.state
@@ -330,17 +311,17 @@ module _ (plan : PlanText) (run : RunView) (locks : LocksView) (h : History) (to
     -- neither its calls nor its close make an event where a place is open still
     untouched : AreUntouched run h open_at settled before.first after.first
     untouched = record {
-      none = λ context number place key v event is off has there at made. elim (all_made_then h before.first its_run.called after.first place called_acts.goes made) [
-        | inl early ↦ by_calls context number place key v event is off has there at early
+      none = λ context number place key v event is off leaves has there at made. elim (all_made_then h before.first its_run.called after.first place called_acts.goes made) [
+        | inl early ↦ by_calls context number place key v event is off leaves has there at early
         | inr late ↦
             none_elsewhere plan run locks h basis.view basis.legal node its_run.calls.left its_run.calls.rest after.first its_run.faults closes begins.within
             context number place key event (elsewhere context key v is) has there at (subst (λ (l : List PlanLane). IsMadeIn h place l after.first) its_run.calls.first_is late)
       ];
     }
       where
-        by_calls : (context number place : ℕ) (key : KeyValue) (v : ValueText) (event : Event ℕ) → open_at context key ≡ Some v → settled context key ≡ false → HasNumberIn run key number
+        by_calls : (context number place : ℕ) (key : KeyValue) (v : Given) (event : Event ℕ) → open_at context key ≡ Some v → settled context key ≡ false → is_left v ≡ true → HasNumberIn run key number
             → slice_get h place ≡ Some event → place_of event.act ≡ Some (cell_of run number context) → IsMadeIn h place before.first its_run.called → ⊥
-        by_calls context number place key v event is off has there at early =
+        by_calls context number place key v event is off leaves has there at early =
             let on = its_run.calls in
             let made : IsMadeIn h place (on.lane ∷ on.rest) (on.left ∷ on.rest) =
             subst (λ (l : List PlanLane). IsMadeIn h place (on.lane ∷ on.rest) l) on.first_is (subst (λ (l : List PlanLane). IsMadeIn h place l its_run.called) on.first_was early) in
@@ -350,7 +331,7 @@ module _ (plan : PlanText) (run : RunView) (locks : LocksView) (h : History) (to
                   let goes : LaneGoesOn on.lane on.left = calls_go setting (view_moves plan run) node (Some its_run.held) _ _ _ on.lane its_run.outcomes on.left on.change in
                   let both : Some one.event ≡ Some event = sym one.there ∙ there in
                   let same : one.event ≡ event = cc both in
-                  near.1.untouched context key number v off is has goes.seen.0 (sym goes.seen.1) event
+                  near.1.untouched context key number v off is leaves has goes.seen.0 (sym goes.seen.1) event
                   (is_more h (seen_by on.lane.cells.view) (seen_by on.left.cells.view) goes.seen seen_left place event there one.since one.until)
                   (is_on_place (cell_of run number context) event.act at) (sym (ap (λ (x : Event ℕ). x.lane) same) ∙ one.own_event)
             ]
@@ -371,7 +352,7 @@ module _ (plan : PlanText) (run : RunView) (locks : LocksView) (h : History) (to
         subst (λ (l : List PlanLane). IsFilledIn run h l its_run.called spot) (sym on.first_was)
         (subst (λ (l : List PlanLane). IsFilledIn run h (on.lane ∷ on.rest) l spot) (sym on.first_is) (filled_in run h on.lane on.left on.rest seen_left spot filled))
 
-    closed_fill : (spot : Spot) (v : ValueText) → open_at spot.0 spot.1 ≡ Some v → IsFilledIn run h its_run.called after.first spot → ⊥
+    closed_fill : (spot : Spot) (v : Given) → open_at spot.0 spot.1 ≡ Some v → IsFilledIn run h its_run.called after.first spot → ⊥
     closed_fill spot v is filled =
         none_elsewhere plan run locks h basis.view basis.legal node its_run.calls.left its_run.calls.rest after.first its_run.faults closes begins.within
         spot.0 filled.number filled.place spot.1 filled.event (elsewhere spot.0 spot.1 v is) filled.has filled.there (ap place_of filled.act)
@@ -400,7 +381,7 @@ module _ (plan : PlanText) (run : RunView) (locks : LocksView) (h : History) (to
         (λ spot v is filled. filled_first run h before.first its_run.called after.first closed_acts.goes spot (fill_called spot filled))
         (λ spot v is filled. elim (filled_then run h before.first its_run.called after.first called_acts.goes spot filled) [
           | inl early ↦ called_fill spot early
-          | inr late ↦ absurd (closed_fill spot v is late)
+          | inr late ↦ absurd (closed_fill spot (of_value v) is late)
         ]) lanes_computed plain_computed near.2
 
     test_near : EndsNear plan run locks h touched changes changed shares node open_at before ran after r (test_node_run plan node path r)

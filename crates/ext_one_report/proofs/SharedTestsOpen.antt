@@ -1,5 +1,5 @@
--- The open places of a node, of those that it shares: which contexts they are in, what is beside them, and that the node's calls fit them; and the calls of a node that shares nothing.
-use Rattle.std.proofs.Common.{◌≡◌, ◌≢◌, ℕ, inl, inr, Bool, true, false, ◌||◌, List, [], ◌∷◌, ◌++◌, Contains, Option, None, Some, drop, refl, ap, sym, subst, ◌∙◌, append_assoc}
+-- The open places of a node, of those that it shares: which contexts they are in, what is beside them, and that the node's calls fit them; and what a node computes that shares no value.
+use Rattle.std.proofs.Common.{◌≡◌, ◌≢◌, ◌⊎◌, ℕ, inl, inr, Bool, true, false, true≢false, ◌||◌, List, [], ◌∷◌, ◌++◌, Contains, Option, None, Some, drop, refl, ap, sym, subst, ◌∙◌, append_assoc}
 use Rattle.std.specs.Prelude.{All, if◌then◌else◌}
 use Rattle.std.proofs.lemmas.List.Elements.{Contains-append_left, Contains-get_or, Contains-push_cases}
 use Rattle.std.specs.List.{flat_map}
@@ -18,33 +18,30 @@ use Rattle.ext_plan.specs.ReadPlans.{ids_of_nodes}
 use Rattle.ext_plan.specs.StepCalls.{start_of}
 use Rattle.ext_plan.specs.StepWords.{changes as changes_of, gives_value}
 use Rattle.ext_plan.specs.StoreKeys.{key_of_step}
-use Rattle.ext_plan.specs.Values.{ValueText}
 use Rattle.ext_plain.specs.ValueStates.{ValueState}
 use Rattle.ext_races.specs.Acts.{ActText}
-use Rattle.ext_races.specs.MadeSteps.{calls_after, calls_before, calls_of, plan_path, steps_before}
+use Rattle.ext_races.specs.MadeSteps.{calls_after, calls_before, plan_path, steps_before}
 use Rattle.ext_races.proofs.Lists.{contains-flat_map, contains-flat_map_back}
-use Rattle.ext_parallel.specs.StoreCalls.{PlanLane}
-use Rattle.ext_one_report.proofs.CallListsWords.{CallFits}
-use Rattle.ext_one_report.proofs.CallsWords.{AreBeside}
 use Rattle.ext_one_report.proofs.MatchingWords.{Places, RunView}
 use Rattle.ext_one_report.proofs.PlanCells.{changed_by}
 use Rattle.ext_one_report.proofs.ChildLists.{only}
 use Rattle.ext_one_report.proofs.ComputedAbove.{ComputesAt, IsComputedIn, NoneOpenAbove}
 use Rattle.ext_one_report.specs.Within.{is_within}
-use Rattle.ext_one_report.proofs.Open.{AreOpenBeside, ComputesOpen, also, some_or_none, still_open}
-use Rattle.ext_one_report.specs.Shares.{Open, SharesNothing}
+use Rattle.ext_one_report.proofs.Open.{AreOpenBeside, ComputesOpen, FailsOpen, Given, IsKeptBy, Open, also, some_or_none, still_open, values_of}
+use Rattle.ext_one_report.specs.Shares.{SharesNothing}
 use Rattle.ext_one_report.proofs.OpenCalls.{AreSettled, BeforesFit, CallFitsOpen, FitsBehind, NoneOpen}
-use Rattle.ext_one_report.proofs.OpenSteps.{AreBesideOpen}
 use Rattle.ext_one_report.proofs.Shared.{unshared}
 use Rattle.ext_one_report.proofs.SharedNodesWords.{IsSharedBasis}
 use Rattle.ext_one_report.proofs.NodePlaces.{both_ways, or_second}
 use Rattle.ext_one_report.proofs.NodeTrees.{its_path, on_its_path, under_within, within_itself}
-use Rattle.ext_one_report.proofs.SharedNodesPlaces.{not_both, still_parts, unshared_all, unshared_is, unshared_off}
+use Rattle.ext_one_report.proofs.SharedNodesPlaces.{not_both, still_parts, unshared_is, unshared_off}
 use Rattle.ext_one_report.proofs.OpenLists.{computes_before}
+use Rattle.ext_one_report.proofs.Fills.{Fills, Spot}
+use Rattle.ext_one_report.proofs.FillsCounts.{none_filled_apart}
 
 -- ---- fewer open places
 
-also_by : (context : ℕ) (key : KeyValue) (touched : Places) (on : Bool) (o : Option ValueText) → (on ≡ true → (v : ValueText) × (o ≡ Some v)) → ((v : ValueText) → o ≡ Some v → touched context key ≡ true)
+also_by : (context : ℕ) (key : KeyValue) (touched : Places) (on : Bool) (o : Option Given) → (on ≡ true → (v : Given) × (o ≡ Some v)) → ((v : Given) → o ≡ Some v → touched context key ≡ true)
     → (unshared touched (λ c k. o) context key || on) ≡ unshared touched (λ c k. if on then None else o) context key
 also_by context key touched true o were there = let was = were refl in or_second (unshared touched (λ c k. o) context key) true refl ∙ sym (there was.0 was.1)
 also_by context key touched false o were there = or_none (unshared touched (λ c k. o) context key)
@@ -54,12 +51,12 @@ also_by context key touched false o were there = or_none (unshared touched (λ c
     or_none false = refl
 
 -- where some open places are settled, these and the others that are touched are all that is touched and not open
-also_same : (touched : Places) (open_at : Open) (settled : Places) → ((context : ℕ) (key : KeyValue) → settled context key ≡ true → (v : ValueText) × (open_at context key ≡ Some v))
-    → ((context : ℕ) (key : KeyValue) (v : ValueText) → open_at context key ≡ Some v → touched context key ≡ true) → also settled (unshared touched open_at) ≡ unshared touched (still_open settled open_at)
+also_same : (touched : Places) (open_at : Open) (settled : Places) → ((context : ℕ) (key : KeyValue) → settled context key ≡ true → (v : Given) × (open_at context key ≡ Some v))
+    → ((context : ℕ) (key : KeyValue) (v : Given) → open_at context key ≡ Some v → touched context key ≡ true) → also settled (unshared touched open_at) ≡ unshared touched (still_open settled open_at)
 also_same touched open_at settled were there = λ i context key. also_by context key touched (settled context key) (open_at context key) (were context key) (there context key) i
 
 -- where fewer places are open, none of those is that was computed above
-pub none_fewer : (plan : PlanText) (nodes : List ℕ) (o later : Open) → ((context : ℕ) (key : KeyValue) (v : ValueText) → later context key ≡ Some v → o context key ≡ Some v)
+pub none_fewer : (plan : PlanText) (nodes : List ℕ) (o later : Open) → ((context : ℕ) (key : KeyValue) (v : Given) → later context key ≡ Some v → o context key ≡ Some v)
     → NoneOpenAbove plan nodes o → NoneOpenAbove plan nodes later
 none_fewer plan nodes o later fewer none context key computed = elim (some_or_none (later context key)) [
   | inl closed ↦ closed
@@ -79,8 +76,9 @@ gives_changes words.ComputeCloseable gives = refl
 gives_changes words.ComputeFail gives = absurd (cc gives)
 
 -- At a place that is shared it computes the value that is shared, and so that of a place that is open
-computes_open : (plan : PlanText) (path : List ℕ) (shared later : Open) (step : StepText) (context : ℕ) (key : KeyValue) (v : ValueText) → ComputesAt plan path step context key
-    → ((key : StepKeyText) (up : ℕ) (w : ValueText) → changed_by step ≡ Some (key, up) → shared (start_of (drop up path)) (key_of_step plan.keys key) ≡ Some w → ComputesOpen plan.keys path shared step)
+computes_open : (plan : PlanText) (path : List ℕ) (shared later : Open) (step : StepText) (context : ℕ) (key : KeyValue) (v : Given) → ComputesAt plan path step context key
+    → ((key : StepKeyText) (up : ℕ) (w : Given) → changed_by step ≡ Some (key, up) → shared (start_of (drop up path)) (key_of_step plan.keys key) ≡ Some w
+    → ComputesOpen plan.keys path shared step ⊎ FailsOpen plan.keys path shared step)
     → shared context key ≡ Some v → later context key ≡ Some v → ComputesOpen plan.keys path later step
 computes_open plan path shared later (fail text) context key v computes each was is = let none = computes.is in absurd (cc none)
 computes_open plan path shared later (abort text) context key v computes each was is = let none = computes.is in absurd (cc none)
@@ -95,30 +93,29 @@ computes_open plan path shared later (keyed word step_key text up) context key v
     let P : Open → ℕ → KeyValue → Type 0 = λ o c k. o c k ≡ Some v in
     let was_there = subst (λ c. P shared c (key_of_step plan.keys step_key)) at (subst (λ k. P shared context k) of was) in
     let is_there = subst (λ c. P later c (key_of_step plan.keys step_key)) at (subst (λ k. P later context k) of is) in
-    let whole = each step_key up v changed was_there in
-    (gives, is_there ∙ sym was_there ∙ whole.1)
+    elim (each step_key up v changed was_there) [
+      | inl whole ↦ (whole.0, is_there ∙ sym was_there ∙ whole.1)
+      | inr fails ↦ absurd (true≢false (sym gives ∙ ap gives_value fails.0))
+    ]
 
 -- ---- the open places of a node
 
--- a lane that stands beside a plain run at open places and others does so at the others
-pub beside_at_others : (run : RunView) (path : List ℕ) (places : Places) (open_at : Open) (a b : PlanLane) (s : ValueState) → AreBesideOpen run path places open_at a b s → AreBeside run path places a b s
-beside_at_others run path places open_at a b s is = record {
-  view = is.view;
-  of = is.of;
-  lane = is.lane;
-  tree = is.tree;
-  path_is = is.path_is;
-  alone = is.alone;
-  memory = is.memory;
-  keeps = is.keeps;
-  matches = is.matches;
-  numbered = is.numbered;
-}
+-- where no value is shared, none is open
+no_values : (shared open_at : Open) → ((context : ℕ) (key : KeyValue) (v : Given) → open_at context key ≡ Some v → shared context key ≡ Some v) → SharesNothing (values_of shared) → SharesNothing (values_of open_at)
+no_values shared open_at open_is nothing context key = elim (some_or_none (open_at context key)) [
+  | inl none ↦ ap (λ o. values_of (λ c k. o) context key) none
+  | inr some ↦ ap (λ o. values_of (λ c k. o) context key) (some.1 ∙ sym (open_is context key some.0 some.1)) ∙ nothing context key
+]
+
+-- and then both have computed as many
+pub same_filled : (shared open_at later : Open) (Filled : Spot → Type 0) (s : ValueState) (lanes plain : ℕ) → ((context : ℕ) (key : KeyValue) (v : Given) → open_at context key ≡ Some v → shared context key ≡ Some v)
+    → SharesNothing (values_of shared) → Fills Filled open_at later s lanes plain → lanes ≡ plain
+same_filled shared open_at later Filled s lanes plain open_is nothing fills = none_filled_apart Filled open_at later s lanes plain (no_values shared open_at open_is nothing) fills
 
 module _ (plan : PlanText) (run : RunView) (locks : LocksView) (h : History) (touched changes : ℕ → Places) (changed : ℕ → List ℕ) (shares : ℕ → Open)
     (basis : IsSharedBasis plan run locks h touched changes changed shares) (node : ℕ) where
   -- those that it shares are beside the others that it touches
-  pub shared_beside : (open_at : Open) → ((context : ℕ) (key : KeyValue) (v : ValueText) → open_at context key ≡ Some v → shares node context key ≡ Some v)
+  pub shared_beside : (open_at : Open) → ((context : ℕ) (key : KeyValue) (v : Given) → open_at context key ≡ Some v → shares node context key ≡ Some v)
       → AreOpenBeside run (unshared (touched node) open_at) open_at
   shared_beside open_at open_is = record {
     apart = λ context key v is. unshared_off (touched node) open_at context key v is;
@@ -126,9 +123,10 @@ module _ (plan : PlanText) (run : RunView) (locks : LocksView) (h : History) (to
         let its = subst (λ ids. IsPathOf ids context (context ∷ path)) basis.tree path_is in
         let all = basis.shared.above node context key v path (open_is context key v is) its in
         λ k d within. unshared_is (touched node) open_at _ key (all k d within).0 (not_open open_at open_is _ key (all k d within).1);
+    kept = λ context key v is. subst (λ keep. IsKeptBy keep v) (sym basis.keeps) (basis.shared.kept node context key v (open_is context key v is));
   }
     where
-      not_open : (open_at : Open) → ((context : ℕ) (key : KeyValue) (v : ValueText) → open_at context key ≡ Some v → shares node context key ≡ Some v)
+      not_open : (open_at : Open) → ((context : ℕ) (key : KeyValue) (v : Given) → open_at context key ≡ Some v → shares node context key ≡ Some v)
           → (context : ℕ) (key : KeyValue) → shares node context key ≡ None → open_at context key ≡ None
       not_open open_at open_is context key none = elim (some_or_none (open_at context key)) [
         | inl is ↦ is
@@ -139,7 +137,7 @@ module _ (plan : PlanText) (run : RunView) (locks : LocksView) (h : History) (to
 
   module _ (path : List ℕ) (its : IsPathOf (ids_of_nodes plan.nodes) node path) where
     abbrev AreOf : Open → Type 0
-    AreOf open_at = (context : ℕ) (key : KeyValue) (v : ValueText) → open_at context key ≡ Some v → shares node context key ≡ Some v
+    AreOf open_at = (context : ℕ) (key : KeyValue) (v : Given) → open_at context key ≡ Some v → shares node context key ≡ Some v
 
     abbrev Apart : Open → Type 0
     Apart open_at = NoneOpenAbove plan (drop 1 path) open_at
@@ -187,15 +185,15 @@ module _ (plan : PlanText) (run : RunView) (locks : LocksView) (h : History) (to
         (basis.shared.befores node path (calls_before plan node) (test_call node) [] later its refl (later_of open_at settled open_is) (later_apart open_at settled apart) are.none_left)
 
   module _ (path : List ℕ) (its : IsPathOf (ids_of_nodes plan.nodes) node path) (open_at : Open)
-      (open_is : (context : ℕ) (key : KeyValue) (v : ValueText) → open_at context key ≡ Some v → shares node context key ≡ Some v) where
+      (open_is : (context : ℕ) (key : KeyValue) (v : Given) → open_at context key ≡ Some v → shares node context key ≡ Some v) where
     -- they are not in its own context,
-    pub open_elsewhere : (context : ℕ) (key : KeyValue) (v : ValueText) → open_at context key ≡ Some v → context ≢ node
+    pub open_elsewhere : (context : ℕ) (key : KeyValue) (v : Given) → open_at context key ≡ Some v → context ≢ node
     open_elsewhere context key v is same =
         both_ways (is_within plan node context) (subst (λ c. is_within plan node c ≡ true) (sym same) (within_itself plan basis.read.runnable.tree node path its))
         (basis.shared.outside node context key v (open_is context key v is))
 
     -- nor below it
-    pub open_not_below : (context : ℕ) (key : KeyValue) (v : ValueText) (above : List ℕ) → open_at context key ≡ Some v → IsPathOf run.store.tree context (context ∷ above) → All (λ c. c ≢ node) above
+    pub open_not_below : (context : ℕ) (key : KeyValue) (v : Given) (above : List ℕ) → open_at context key ≡ Some v → IsPathOf run.store.tree context (context ∷ above) → All (λ c. c ≢ node) above
     open_not_below context key v above is path_is = λ k d within same.
         let its_path = subst (λ ids. IsPathOf ids context (context ∷ above)) basis.tree path_is in
         let there : Contains (context ∷ above) node = subst (λ c. Contains (context ∷ above) c) same (contains_later context above _ (Contains-get_or above k d within)) in
@@ -221,12 +219,3 @@ module _ (plan : PlanText) (run : RunView) (locks : LocksView) (h : History) (to
           (computes_open plan path (shares node) open_at computed.step context key some.0 (subst (λ l. ComputesAt plan l computed.step context key) along computed.computes)
           (λ step_key up w changed shared. basis.shared.computes node path of.0 computed.step step_key up w its own of.2 changed shared) (open_is context key some.0 some.1) some.1))
     ]
-
-    -- where it shares nothing, none is open, and all that its calls touch is among the others
-    pub calls_fit_others : SharesNothing (shares node) → (call : Call) → Contains (calls_of plan node) call → CallFits plan path (unshared (touched node) open_at) call
-    calls_fit_others nothing call own =
-        let none : SharesNothing open_at = λ context key. elim (some_or_none (open_at context key)) [
-          | inl is ↦ is
-          | inr some ↦ not_both (shares node context key) some.0 (nothing context key) (open_is context key some.0 some.1)
-        ] in
-        subst (λ (places : Places). CallFits plan path places call) (sym (unshared_all (touched node) open_at none)) (basis.covered.calls node path call its own)

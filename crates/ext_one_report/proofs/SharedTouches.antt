@@ -1,4 +1,4 @@
--- The touches of a plan's steps with what they are: what gives a value at a place looks at all places of its key above, and a step of a call touches what its act does, after the steps before it.
+-- The touches of a plan's steps with what they are: what computes at a place looks at all places of its key above, and a step of a call touches what its act does, after the steps before it.
 use Rattle.std.proofs.Common.{◌≡◌, ◌≢◌, ◌<◌, ℕ, zero, suc, Bool, true, false, List, [], ◌∷◌, ◌++◌, length, Contains, drop, take, Option, Some, None, refl, ap, sym, subst, ◌∙◌, arith, inl, inr, append_assoc, append-nil, ne_eqb}
 use Rattle.std.specs.Prelude.{◌||◌, if◌then◌else◌}
 use Rattle.std.specs.List.{flat_map, list_any, range_with_len}
@@ -15,7 +15,7 @@ use Rattle.ext_plan.specs.Plans.{KeyText, PlanText, StepText}
 use Rattle.ext_plan.specs.PlanCalls.{steps_of_call}
 use Rattle.ext_plan.specs.ReadPlans.{IsReadPlan, ids_of_nodes}
 use Rattle.ext_plan.specs.StoreKeys.{key_of_step, place_of_key}
-use Rattle.ext_plan.specs.StepWords.{changes, gives_value, looks_along}
+use Rattle.ext_plan.specs.StepWords.{changes, computes, looks_along}
 use Rattle.ext_plan.specs.declared.word.Word.TheVariants as words
 use Rattle.ext_races.specs.Acts.{ActText, act_of}
 use Rattle.ext_races.specs.MadeSteps.{MadeText, calls_after, calls_before, calls_of, made_after, made_by, made_in_turn, made_of_node, plan_path, steps_made}
@@ -27,7 +27,7 @@ use Rattle.ext_one_report.proofs.CoveredPaths.{path_there}
 pub use Rattle.ext_one_report.proofs.CoveredTouches.{look_at_is}
 use Rattle.ext_one_report.proofs.CoveredTouches.{above_all, first_looks, in_range, is_made, step_of, turn_is}
 use Rattle.ext_one_report.proofs.FoundAbove.{Comes, FindsHere, IsFirst, IsLook, along_cases, comes, found_by, found_parts, look_cases, number_of, reached_by}
-use Rattle.ext_one_report.proofs.WordCases.{computes_all, still_looks}
+use Rattle.ext_one_report.proofs.WordCases.{factories_all, still_looks}
 
 -- ---- what a touch looks at above its own context
 
@@ -116,7 +116,7 @@ along_goes : (ids : List Id) (n k : ℕ) (path along : List ℕ) (context : ℕ)
 along_goes ids n k path [] context is e there = contains_nothing context there
 along_goes ids n k path (first ∷ above) context is e there = goes_on ids first above context (dropped_path ids n k first path above is e) there
 
--- ---- what computes a value, or finds it, looks at all places above
+-- ---- what computes, or finds what is computed, looks at all places above
 
 -- at a place where it does not find what was computed, a look-up counts as one
 look_other : (node key : ℕ) (act : ActText) (found : ComputeText) (context : ℕ) → context ≢ found.context → (look_at node key act (Some found) context).acts ≡ words.Want
@@ -126,7 +126,7 @@ look_other node key act found context differ =
 look_none : (node key : ℕ) (act : ActText) (found : Option ComputeText) (context : ℕ) → found ≡ None → (look_at node key act found context).acts ≡ words.Want
 look_none node key act found context none = ap (λ f. (look_at node key act f context).acts) none
 
-module _ (plan : PlanText) (read : IsReadPlan plan) (t : TouchText) (gives : gives_value t.acts ≡ true) (walk : List ℕ) (walks : IsWalk (ids_of_nodes plan.nodes) t.context walk) (c : ℕ) (there : Contains walk c) where
+module _ (plan : PlanText) (read : IsReadPlan plan) (t : TouchText) (factory : computes t.acts ≡ true) (walk : List ℕ) (walks : IsWalk (ids_of_nodes plan.nodes) t.context walk) (c : ℕ) (there : Contains walk c) where
   abbrev ids : List Id
   ids = ids_of_nodes plan.nodes
 
@@ -167,7 +167,7 @@ module _ (plan : PlanText) (read : IsReadPlan plan) (t : TouchText) (gives : giv
     -- where it changes its place
     of_first : IsFirst node number act (reached_by plan from.made act) t → IsLooked plan t.node c t.key
     of_first first =
-        let all = computes_all act.word (ap (λ u. gives_value u.acts) first.touch_is ∙ gives) in
+        let all = factories_all act.word (ap (λ u. computes u.acts) first.touch_is ∙ factory) in
         let along : drop act.up (plan_path plan node) ≡ first.context ∷ first.above =
         ap (drop act.up) (sym (reach_all plan.keys from.made.before (plan_path plan node) act first.changing)) ∙ first.path_is in
         let above = dropped_path ids act.up node first.context (plan_path plan node) first.above path_is along in
@@ -198,7 +198,7 @@ module _ (plan : PlanText) (read : IsReadPlan plan) (t : TouchText) (gives : giv
     looks_of_all = elim (along_cases node number act found (reached_by plan from.made act) t from.there) [
       | inl first ↦ of_first first
       | inr look ↦ elim (look_cases node number act found look.context) [
-        | inl want ↦ absurd (true≢false (sym gives ∙ ap gives_value (sym (ap (λ u. u.acts) look.touch_is) ∙ want)))
+        | inl want ↦ absurd (true≢false (sym factory ∙ ap computes (sym (ap (λ u. u.acts) look.touch_is) ∙ want)))
         | inr finds ↦ of_look look finds
       ]
     ]

@@ -1,4 +1,4 @@
--- A step of a plan changes the cell of its key and its context, and no other: so where these cells are such, it makes events on such cells alone.
+-- A step of a plan changes the cell of its key and its context, and no other: so where these cells are such, it makes events on such cells alone. Each claim that it makes ends.
 use Rattle.std.proofs.Common.{◌≡◌, inl, inr, ℕ, List, [], ◌∷◌, Contains, Some, drop, length, refl, ap, sym, subst, ◌∙◌}
 use Rattle.std.specs.Prelude.{codes, slice_get}
 use mathlib.Core.List.{IsPrefix}
@@ -22,8 +22,9 @@ use Rattle.ext_store.specs.Stores.{StoreView, cell_in}
 use Rattle.ext_tree.specs.Keys.{IsKeyNumber, KeepsKeys, KnownPlace}
 use Rattle.ext_tree.proofs.KeyPlacing.{keeps_both, number_stays}
 use Rattle.ext_engine.specs.Order.{IsMadeBy, LaneGoesOn}
+use Rattle.ext_one_report.proofs.EndedClaims.{EndsClaims, ends_then}
 use Rattle.ext_one_report.proofs.Events.{in_part}
-use Rattle.ext_one_report.proofs.StoreCalls.{Only, gets_only, keep_fails, keeps_only, only_makes, only_same, puts_only, removes_only, waits_only}
+use Rattle.ext_one_report.proofs.StoreCalls.{Only, gets_only, keep_fails, keeps_only, only_ends, only_makes, only_same, puts_only, removes_only, waits_only}
 use Rattle.ext_parallel.specs.StoreCalls.{PlanLane}
 use Rattle.ext_parallel.specs.StoreSteps.{PutsKept, StepComputes, StepFails, StepLooks, StepPuts, StepRemoves, StepRun, StepsRun}
 use Rattle.ext_one_report.proofs.PlanCells.{IsCellOf, changed_by}
@@ -31,14 +32,15 @@ use Rattle.ext_one_report.proofs.Going.{steps_go}
 use Rattle.ext_one_report.proofs.WordCases.{finds_none}
 
 module _ (store : StoreView) (keys : List KeyText) (numbering : List KnownPlace) (Such : ℕ → Type 0) where
-  -- between these two states the lane made events on such cells alone
+  -- between these two states the lane made events on such cells alone, and ended its claims
   pub record On (a b : PlanLane) : Type 0 where
     pub number : b.cells.view.number ≡ a.cells.view.number
     pub begins : IsPrefix (seen_by a.cells.view) (seen_by b.cells.view)
     pub each : (place cell : ℕ) → (made : IsMadeBy (seen_by b.cells.view) place a b) → place_of made.event.act ≡ Some cell → Such cell
+    pub ends : EndsClaims a.cells.view b.cells.view
 
   on_only : (cells : List ℕ) (a b : PlanLane) → ((cell : ℕ) → Contains cells cell → Such cell) → Only cells a.cells.view b.cells.view → On a b
-  on_only cells a b such only = record { number = only.number; begins = only.begins; each = λ place cell made is. such cell ((only_makes cells a b only).each place cell made is) }
+  on_only cells a b such only = record { number = only.number; begins = only.begins; each = λ place cell made is. such cell ((only_makes cells a b only).each place cell made is); ends = only_ends cells a.cells.view b.cells.view only }
 
   on_none : (a b : PlanLane) → Only [] a.cells.view b.cells.view → On a b
   on_none a b only = on_only [] a b (λ cell there. absurd (contains_none cell there)) only
@@ -57,6 +59,7 @@ module _ (store : StoreView) (keys : List KeyText) (numbering : List KnownPlace)
           one.each place cell (record { event = made.event; there = in_part s two.begins.0 place made.event below stands; own_event = made.own_event; since = made.since; until = below }) is
       | inr past ↦ two.each place cell (record { event = made.event; there = made.there; own_event = made.own_event ∙ sym one.number; since = past; until = made.until }) is
     ];
+    ends = ends_then a.cells.view b.cells.view c.cells.view one.ends two.ends;
   }
 
   still : (a b : PlanLane) → b.cells ≡ a.cells → On a b

@@ -1,4 +1,4 @@
--- The acts of each call of a store are on the cell of its context and key, or on none.
+-- The acts of each call of a store are on the cell of its context and key, or on none, and each claim among them ends.
 use Rattle.std.proofs.Common.{◌≡◌, ◌⊎◌, inl, inr, ℕ, zero, suc, List, [], ◌∷◌, ◌++◌, Contains, Option, Some, None, refl, ap, sym, subst, ◌∙◌, arith, append_assoc, append-nil}
 use Rattle.std.specs.Prelude.{All, IfSome, Result, Ok, Err}
 use mathlib.Core.List.{IsPrefix, append_cancel_left}
@@ -34,6 +34,7 @@ use Rattle.ext_store.specs.Computing.{Computes, ComputesFrom, IsRefused, IsUnkep
 use Rattle.ext_store.specs.Waiting.{ComputesAfterWaits}
 use Rattle.ext_one_report.specs.Changing.{MakesOnly}
 use Rattle.ext_one_report.proofs.Changing.{on_cells}
+use Rattle.ext_one_report.proofs.EndedClaims.{AreEnded, EndsClaims, ended_at_once, ended_both, ended_kept, ends_acts}
 use Rattle.ext_one_report.proofs.Events.{among_more, one_of_acts}
 
 -- ---- the events of a lane, whatever its calls were
@@ -41,19 +42,20 @@ use Rattle.ext_one_report.proofs.Events.{among_more, one_of_acts}
 abbrev IsOn : List ℕ → Act ℕ → Type 0
 IsOn cells act = IfSome (place_of act) (λ cell. Contains cells cell)
 
--- the lane made some events, on these cells or on none, and no others
+-- the lane made some events, on these cells or on none, and no others; and it ended its claims
 pub record Only (cells : List ℕ) (a b : LaneView) : Type 0 where
   pub acts : List (Act ℕ)
   pub number : b.number ≡ a.number
   pub begins : IsPrefix (seen_by a) (seen_by b)
   pub own_is : own a.number (seen_by b) ≡ own a.number (seen_by a) ++ events_by a.number acts
   pub on : All (IsOn cells) acts
+  pub ended : AreEnded acts
 
-pub only_calls : (cells : List ℕ) (a b : LaneView) (acts : List (Act ℕ)) → histories.Calls lane_of a b (events_by a.number acts) → All (IsOn cells) acts → Only cells a b
-only_calls cells a b acts calls on = record { acts = acts; number = same_number calls; begins = seen_goes_on calls; own_is = calls.own_events; on = on }
+pub only_calls : (cells : List ℕ) (a b : LaneView) (acts : List (Act ℕ)) → histories.Calls lane_of a b (events_by a.number acts) → All (IsOn cells) acts → AreEnded acts → Only cells a b
+only_calls cells a b acts calls on ended = record { acts = acts; number = same_number calls; begins = seen_goes_on calls; own_is = calls.own_events; on = on; ended = ended }
 
 pub only_same : (cells : List ℕ) (a : LaneView) → Only cells a a
-only_same cells a = record { acts = []; number = refl; begins = prefix_refl (seen_by a); own_is = sym (append-nil (own a.number (seen_by a))); on = All-nil (IsOn cells) }
+only_same cells a = record { acts = []; number = refl; begins = prefix_refl (seen_by a); own_is = sym (append-nil (own a.number (seen_by a))); on = All-nil (IsOn cells); ended = tt }
 
 pub only_then : (cells : List ℕ) (a b c : LaneView) → Only cells a b → Only cells b c → Only cells a c
 only_then cells a b c one two =
@@ -65,7 +67,12 @@ only_then cells a b c one two =
       begins = prefix_trans (seen_by a) (seen_by b) (seen_by c) one.begins two.begins;
       own_is = later ∙ (ap (λ l. l ++ events_by n two.acts) one.own_is ∙ (append_assoc (own n (seen_by a)) (events_by n one.acts) (events_by n two.acts) ∙ ap (λ l. own n (seen_by a) ++ l) (sym (map-append (by n) one.acts two.acts))));
       on = All-append (IsOn cells) one.acts two.acts one.on two.on;
+      ended = ended_both one.acts two.acts one.ended two.ended;
     }
+
+-- so each claim that it made has ended
+pub only_ends : (cells : List ℕ) (a b : LaneView) → Only cells a b → EndsClaims a b
+only_ends cells a b only = ends_acts a b only.acts only.number only.begins only.own_is only.ended
 
 pub only_makes : {V : Type 0} (cells : List ℕ) (a b : StoreLane V) → Only cells a.cells.view b.cells.view → MakesOnly cells a b
 only_makes cells a b only = record {
@@ -82,42 +89,42 @@ only_makes cells a b only = record {
 -- ---- keeps and look-ups
 
 pub keeps_only : {V : Type 0} (value : V) (a b : StoreLane V) (number : ℕ) → KeepsAs value a b number → Only [] a.cells.view b.cells.view
-keeps_only value a b number keeps = only_calls [] a.cells.view b.cells.view (Keep number ∷ []) keeps.drawn.calls (All-cons (IsOn []) (Keep number) [] tt (All-nil (IsOn [])))
+keeps_only value a b number keeps = only_calls [] a.cells.view b.cells.view (Keep number ∷ []) keeps.drawn.calls (All-cons (IsOn []) (Keep number) [] tt (All-nil (IsOn []))) (tt, tt)
 
 pub keep_fails : (store : StoreView) (a b : Lane) (why : KeepFault) → KeepFails store a b why → Only [] a.view b.view
 unfolding KeepFails
 keep_fails store a b keep_fault.Memory fails = subst (λ (l : Lane). Only [] a.view l.view) (sym fails) (only_same [] a.view)
-keep_fails store a b keep_fault.NumbersFull fails = only_calls [] a.view b.view [] fails.calls (All-nil (IsOn []))
-keep_fails store a b keep_fault.Contended fails = only_calls [] a.view b.view [] fails.calls (All-nil (IsOn []))
-keep_fails store a b keep_fault.Unplaced fails = only_calls [] a.view b.view (Keep fails.0 ∷ []) fails.1.calls (All-cons (IsOn []) (Keep fails.0) [] tt (All-nil (IsOn [])))
+keep_fails store a b keep_fault.NumbersFull fails = only_calls [] a.view b.view [] fails.calls (All-nil (IsOn [])) tt
+keep_fails store a b keep_fault.Contended fails = only_calls [] a.view b.view [] fails.calls (All-nil (IsOn [])) tt
+keep_fails store a b keep_fault.Unplaced fails = only_calls [] a.view b.view (Keep fails.0 ∷ []) fails.1.calls (All-cons (IsOn []) (Keep fails.0) [] tt (All-nil (IsOn []))) (tt, tt)
 
 pub gets_only : (store : StoreView) (context key : ℕ) (a b : Lane) (result : Result Look Refusal) → Gets store context key a b result → Only [] a.view b.view
 unfolding shared.Gets
-gets_only store context key a b (Ok answer) gets = only_calls [] a.view b.view [] (gets.2.looked.replied (λ is. absurd (cc is))).calls (All-nil (IsOn []))
-gets_only store context key a b (Err (refusal.Busy at)) gets = only_calls [] a.view b.view [] (gets.2.looked.replied (λ is. absurd (cc is))).calls (All-nil (IsOn []))
-gets_only store context key a b (Err (refusal.Closed at)) gets = only_calls [] a.view b.view [] (gets.2.looked.replied (λ is. absurd (cc is))).calls (All-nil (IsOn []))
-gets_only store context key a b (Err refusal.Contended) gets = only_calls [] a.view b.view [] (gets.2.looked.overtaken refl).calls (All-nil (IsOn []))
-gets_only store context key a b (Err refusal.Exhausted) gets = only_calls [] a.view b.view [] (gets.2.looked.replied (λ is. absurd (cc is))).calls (All-nil (IsOn []))
-gets_only store context key a b (Err refusal.DirectoryFull) gets = only_calls [] a.view b.view [] (gets.2.looked.replied (λ is. absurd (cc is))).calls (All-nil (IsOn []))
-gets_only store context key a b (Err refusal.Unplaced) gets = only_calls [] a.view b.view [] (gets.2.looked.replied (λ is. absurd (cc is))).calls (All-nil (IsOn []))
-gets_only store context key a b (Err refusal.Memory) gets = only_calls [] a.view b.view [] (gets.2.looked.replied (λ is. absurd (cc is))).calls (All-nil (IsOn []))
+gets_only store context key a b (Ok answer) gets = only_calls [] a.view b.view [] (gets.2.looked.replied (λ is. absurd (cc is))).calls (All-nil (IsOn [])) tt
+gets_only store context key a b (Err (refusal.Busy at)) gets = only_calls [] a.view b.view [] (gets.2.looked.replied (λ is. absurd (cc is))).calls (All-nil (IsOn [])) tt
+gets_only store context key a b (Err (refusal.Closed at)) gets = only_calls [] a.view b.view [] (gets.2.looked.replied (λ is. absurd (cc is))).calls (All-nil (IsOn [])) tt
+gets_only store context key a b (Err refusal.Contended) gets = only_calls [] a.view b.view [] (gets.2.looked.overtaken refl).calls (All-nil (IsOn [])) tt
+gets_only store context key a b (Err refusal.Exhausted) gets = only_calls [] a.view b.view [] (gets.2.looked.replied (λ is. absurd (cc is))).calls (All-nil (IsOn [])) tt
+gets_only store context key a b (Err refusal.DirectoryFull) gets = only_calls [] a.view b.view [] (gets.2.looked.replied (λ is. absurd (cc is))).calls (All-nil (IsOn [])) tt
+gets_only store context key a b (Err refusal.Unplaced) gets = only_calls [] a.view b.view [] (gets.2.looked.replied (λ is. absurd (cc is))).calls (All-nil (IsOn [])) tt
+gets_only store context key a b (Err refusal.Memory) gets = only_calls [] a.view b.view [] (gets.2.looked.replied (λ is. absurd (cc is))).calls (All-nil (IsOn [])) tt
 
 -- ---- changes
 
 pub removes_only : (store : StoreView) (context key : ℕ) (a b : Lane) (result : Result (Option ℕ) Refusal) → Removes store context key a b result → Only (cell_in store key context ∷ []) a.view b.view
 unfolding shared.Removes
-removes_only store context key a b (Ok None) r = only_calls _ a.view b.view [] (r.replied (λ is. absurd (cc is))).calls (All-nil (IsOn (cell_in store key context ∷ [])))
+removes_only store context key a b (Ok None) r = only_calls _ a.view b.view [] (r.replied (λ is. absurd (cc is))).calls (All-nil (IsOn (cell_in store key context ∷ []))) tt
 removes_only store context key a b (Ok (Some number)) r =
     let cell = cell_in store key context in
     let P = IsOn (cell ∷ []) in
-    only_calls (cell ∷ []) a.view b.view (Remove cell ∷ []) (r.replied (λ is. absurd (cc is))).calls (All-cons P (Remove cell) [] (contains_here cell []) (All-nil P))
-removes_only store context key a b (Err (refusal.Busy at)) r = only_calls _ a.view b.view [] (r.replied (λ is. absurd (cc is))).calls (All-nil (IsOn (cell_in store key context ∷ [])))
-removes_only store context key a b (Err (refusal.Closed at)) r = only_calls _ a.view b.view [] (r.replied (λ is. absurd (cc is))).calls (All-nil (IsOn (cell_in store key context ∷ [])))
-removes_only store context key a b (Err refusal.Contended) r = only_calls _ a.view b.view [] (r.overtaken refl).calls (All-nil (IsOn (cell_in store key context ∷ [])))
-removes_only store context key a b (Err refusal.Exhausted) r = only_calls _ a.view b.view [] (r.replied (λ is. absurd (cc is))).calls (All-nil (IsOn (cell_in store key context ∷ [])))
-removes_only store context key a b (Err refusal.DirectoryFull) r = only_calls _ a.view b.view [] (r.replied (λ is. absurd (cc is))).calls (All-nil (IsOn (cell_in store key context ∷ [])))
-removes_only store context key a b (Err refusal.Unplaced) r = only_calls _ a.view b.view [] (r.replied (λ is. absurd (cc is))).calls (All-nil (IsOn (cell_in store key context ∷ [])))
-removes_only store context key a b (Err refusal.Memory) r = only_calls _ a.view b.view [] (r.replied (λ is. absurd (cc is))).calls (All-nil (IsOn (cell_in store key context ∷ [])))
+    only_calls (cell ∷ []) a.view b.view (Remove cell ∷ []) (r.replied (λ is. absurd (cc is))).calls (All-cons P (Remove cell) [] (contains_here cell []) (All-nil P)) (tt, tt)
+removes_only store context key a b (Err (refusal.Busy at)) r = only_calls _ a.view b.view [] (r.replied (λ is. absurd (cc is))).calls (All-nil (IsOn (cell_in store key context ∷ []))) tt
+removes_only store context key a b (Err (refusal.Closed at)) r = only_calls _ a.view b.view [] (r.replied (λ is. absurd (cc is))).calls (All-nil (IsOn (cell_in store key context ∷ []))) tt
+removes_only store context key a b (Err refusal.Contended) r = only_calls _ a.view b.view [] (r.overtaken refl).calls (All-nil (IsOn (cell_in store key context ∷ []))) tt
+removes_only store context key a b (Err refusal.Exhausted) r = only_calls _ a.view b.view [] (r.replied (λ is. absurd (cc is))).calls (All-nil (IsOn (cell_in store key context ∷ []))) tt
+removes_only store context key a b (Err refusal.DirectoryFull) r = only_calls _ a.view b.view [] (r.replied (λ is. absurd (cc is))).calls (All-nil (IsOn (cell_in store key context ∷ []))) tt
+removes_only store context key a b (Err refusal.Unplaced) r = only_calls _ a.view b.view [] (r.replied (λ is. absurd (cc is))).calls (All-nil (IsOn (cell_in store key context ∷ []))) tt
+removes_only store context key a b (Err refusal.Memory) r = only_calls _ a.view b.view [] (r.replied (λ is. absurd (cc is))).calls (All-nil (IsOn (cell_in store key context ∷ []))) tt
 
 abbrev IsOrNot : Type 0 → Type 0
 IsOrNot X = X ⊎ (X → ⊥)
@@ -150,10 +157,10 @@ unfolding shared.Puts
 puts_only store context key number a b (Ok stood) p =
     let cell = cell_in store key context in
     let P = IsOn (cell ∷ []) in
-    only_calls (cell ∷ []) a.view b.view (Put cell number ∷ []) (p.replied (λ is. absurd (cc is))).calls (All-cons P (Put cell number) [] (contains_here cell []) (All-nil P))
+    only_calls (cell ∷ []) a.view b.view (Put cell number ∷ []) (p.replied (λ is. absurd (cc is))).calls (All-cons P (Put cell number) [] (contains_here cell []) (All-nil P)) (tt, tt)
 puts_only store context key number a b (Err refused) p = elim (same_pair number refused.0 refused.1) [
-  | inl same ↦ only_calls _ a.view b.view [] (p.overtaken same).calls (All-nil (IsOn (cell_in store key context ∷ [])))
-  | inr other ↦ only_calls _ a.view b.view [] (p.replied other).calls (All-nil (IsOn (cell_in store key context ∷ [])))
+  | inl same ↦ only_calls _ a.view b.view [] (p.overtaken same).calls (All-nil (IsOn (cell_in store key context ∷ []))) tt
+  | inr other ↦ only_calls _ a.view b.view [] (p.replied other).calls (All-nil (IsOn (cell_in store key context ∷ []))) tt
 ]
 
 -- ---- computes
@@ -177,41 +184,41 @@ module _ (limits : Limits) (store : StoreView) (context : ℕ) (ancestors : List
   three : (number : ℕ) (third : Act ℕ) → Here third → All Here (Claim the_cell ∷ Keep number ∷ third ∷ [])
   three number third on = All-cons Here (Claim the_cell) (Keep number ∷ third ∷ []) here (All-cons Here (Keep number) (third ∷ []) tt (All-cons Here third [] on (All-nil Here)))
 
-  by_acts : (a b : LaneView) (acts : List (Act ℕ)) → Calls limits a b acts → All Here acts → OnlyHere a b
-  by_acts a b acts calls on = only_calls (the_cell ∷ []) a b acts calls on
+  by_acts : (a b : LaneView) (acts : List (Act ℕ)) → Calls limits a b acts → All Here acts → AreEnded acts → OnlyHere a b
+  by_acts a b acts calls on ended = only_calls (the_cell ∷ []) a b acts calls on ended
 
   given_up : (a b : LaneView) → Calls limits a b (given_up_events store context key) → OnlyHere a b
-  given_up a b calls = by_acts a b (Claim the_cell ∷ Abandon the_cell ∷ []) calls (two (Abandon the_cell) here)
+  given_up a b calls = by_acts a b (Claim the_cell ∷ Abandon the_cell ∷ []) calls (two (Abandon the_cell) here) (ended_at_once the_cell (Abandon the_cell) refl tt)
 
   meets_only : (a b : LaneView) (met : Look) → Meets limits store context ancestors key a b met → OnlyHere a b
   unfolding claiming.Meets
-  meets_only a b met (inl at) = by_acts a b [] at.calls (All-nil Here)
+  meets_only a b met (inl at) = by_acts a b [] at.calls (All-nil Here) tt
   meets_only a b met (inr up) = given_up a b up.0
 
   refused_only : (a b : LaneView) (why : Refusal) → IsRefused limits store context ancestors key a b why → OnlyHere a b
   unfolding claiming.IsRefused
   refused_only a b (refusal.Busy at) r = meets_only a b (look.Busy at) r
   refused_only a b (refusal.Closed at) r = meets_only a b (look.Closed at) r
-  refused_only a b refusal.Contended (inl overtaken) = by_acts a b [] overtaken.calls (All-nil Here)
+  refused_only a b refusal.Contended (inl overtaken) = by_acts a b [] overtaken.calls (All-nil Here) tt
   refused_only a b refusal.Contended (inr up) = given_up a b up.0
   refused_only a b refusal.DirectoryFull r = absurd r
   refused_only a b refusal.Unplaced r = absurd r
   refused_only a b refusal.Memory r = absurd r
-  refused_only a b refusal.Exhausted r = by_acts a b [] r.0.calls (All-nil Here)
+  refused_only a b refusal.Exhausted r = by_acts a b [] r.0.calls (All-nil Here) tt
 
   unkept_only : (a b : LaneView) (why : KeepFault) → IsUnkept limits store.tries (Claim the_cell ∷ []) the_cell a b why → OnlyHere a b
   unfolding IsUnkept
   unkept_only a b keep_fault.Memory r = given_up a b r
   unkept_only a b keep_fault.NumbersFull r = given_up a b r.0
   unkept_only a b keep_fault.Contended r = given_up a b r.0
-  unkept_only a b keep_fault.Unplaced r = by_acts a b (Claim the_cell ∷ Keep r.0 ∷ Abandon the_cell ∷ []) r.1 (three r.0 (Abandon the_cell) here)
+  unkept_only a b keep_fault.Unplaced r = by_acts a b (Claim the_cell ∷ Keep r.0 ∷ Abandon the_cell ∷ []) r.1 (three r.0 (Abandon the_cell) here) (ended_kept the_cell r.0 (Abandon the_cell) refl tt)
 
   computes_from : {V : Type 0} (a b : LaneView) (result : Compute V (Unit {0})) → ComputesFrom limits store context ancestors key a b result → OnlyHere a b
   unfolding ComputesFrom
-  computes_from a b (computes.Computed number) r = by_acts a b (Claim the_cell ∷ Keep number ∷ Fill the_cell number ∷ []) r.1.calls (three number (Fill the_cell number) here)
+  computes_from a b (computes.Computed number) r = by_acts a b (Claim the_cell ∷ Keep number ∷ Fill the_cell number ∷ []) r.1.calls (three number (Fill the_cell number) here) (ended_kept the_cell number (Fill the_cell number) refl tt)
   computes_from a b (computes.Found at number unused) r = meets_only a b (look.Found at number) r
   computes_from a b (computes.Failed why) r = given_up a b r.2
-  computes_from a b (computes.FaultKept number) r = by_acts a b (Claim the_cell ∷ Keep number ∷ Fail the_cell number ∷ []) r.2.calls (three number (Fail the_cell number) here)
+  computes_from a b (computes.FaultKept number) r = by_acts a b (Claim the_cell ∷ Keep number ∷ Fail the_cell number ∷ []) r.2.calls (three number (Fail the_cell number) here) (ended_kept the_cell number (Fail the_cell number) refl tt)
   computes_from a b (computes.FaultUnkept why cause) r = unkept_only a b cause r.2
   computes_from a b (computes.FaultStands at number unused) r = meets_only a b (look.Fault at number) r
   computes_from a b (computes.Unkept value cause) r = unkept_only a b cause r.1

@@ -1,6 +1,6 @@
 -- All calls of a test, on a lane that is alone on the places that they touch, beside those of a plain run.
 -- JUnit 5 User Guide, "Relative Execution Order of User Code and Extensions": the before-callbacks round the test, the test, and the after-callbacks round it.
-use Rattle.std.specs.Prelude.{ℕ, ◌≡◌, true, List, [], ◌∷◌, All}
+use Rattle.std.specs.Prelude.{ℕ, ◌≡◌, true, List, [], ◌∷◌}
 use Rattle.ext_lifecycle.specs.declared.call.Call.{Call}
 use Rattle.ext_lifecycle.specs.declared.outcome.Outcome.{Outcome}
 use Rattle.ext_lifecycle.specs.Callbacks.{afters_of, befores_of, test_call}
@@ -12,9 +12,8 @@ use Rattle.ext_store.specs.Stores.{StoreView}
 use Rattle.ext_plain.specs.ValueStates.{ValueState}
 use Rattle.ext_plain.specs.NodeCalls.{CallsEnd, afters_run, befores_run, test_run}
 use Rattle.ext_parallel.specs.StoreCalls.{PlanLane}
-use Rattle.ext_one_report.proofs.MatchingWords.{Places}
 use Rattle.ext_one_report.proofs.CallsWords.{StepsHaveRoom}
-use Rattle.ext_one_report.proofs.CallListsWords.{BeforesHaveRoom, CallFits, CallsFind, CallsHaveRoom, Makes}
+use Rattle.ext_one_report.proofs.CallListsWords.{BeforesHaveRoom, CallsFind, CallsHaveRoom, Makes}
 
 module _ (plan : PlanText) (node : ℕ) (path : List ℕ) where
   -- the callbacks round the test of this node, whose path this is
@@ -38,12 +37,6 @@ module _ (plan : PlanText) (node : ℕ) (path : List ℕ) where
     pub body : all_successful (befores_run plan true node path s).calls ≡ true
         → StepsHaveRoom plan.keys path (steps_of_call plan (test_call node)) (befores_run plan true node path s).state
     pub afters : CallsHaveRoom plan path afters_round (test_run plan node path (befores_run plan true node path s)).state
-
-  -- no step of these calls goes up beyond the root, and all that they touch is among the places
-  pub record TestFits (places : Places) : Type 0 where
-    pub befores : All (CallFits plan path places) befores_round
-    pub body : CallFits plan path places (test_call node)
-    pub afters : All (CallFits plan path places) afters_round
 
   -- no call that was made ended for want of anything
   pub record TestFinds (store : StoreView) (before : PlanLane) (outcomes : List Outcome) (after : PlanLane) (made : MakesTest store before outcomes after) : Type 0 where

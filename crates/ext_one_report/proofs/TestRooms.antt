@@ -2,7 +2,7 @@
 use Rattle.std.proofs.Common.{◌≡◌, ℕ, ◌<◌, true, List, [], ◌∷◌, ◌++◌, Contains, refl, ap, sym, subst, arith}
 use Rattle.std.specs.Prelude.{All, is_some}
 use Rattle.std.proofs.lemmas.List.Elements.{All-head, Contains-append_left, Contains-append_right}
-use Rattle.ext_model.specs.Sizes.{most_numbers}
+use Rattle.ext_one_report.proofs.Numbers.{enough_numbers}
 use Rattle.ext_tree.specs.Trees.{IsPathOf}
 use Rattle.ext_lifecycle.specs.declared.call.Call.{Call}
 use Rattle.ext_lifecycle.specs.Callbacks.{afters_of, befores_of, test_call}
@@ -95,10 +95,10 @@ module _ (plan : PlanText) (run : RunView) (read : IsReadPlan plan) (node : ℕ)
     last_holds = calls.all_hold plan run read node path its (afters_round plan node path) second own_afters second_holds
 
     -- where numbers are left at the end there were enough at each step
-    pub room : last.state.store.drawn < most_numbers plan.size → TestHasRoom plan node path s
+    pub room : last.state.store.drawn < enough_numbers plan.size → TestHasRoom plan node path s
     room drawn =
         let names = keys_named plan in
-        let numbers = most_numbers plan.size in
+        let numbers = enough_numbers plan.size in
         let one = befores_draw plan path (test_call node ∷ []) first first_holds.memory in
         let more = all_draw plan path (afters_round plan node path) second second_holds.memory in
         record {

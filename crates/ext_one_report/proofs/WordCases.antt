@@ -1,11 +1,11 @@
--- The words of steps by what they do. Each of them changes its place or looks along its path, and a compute that gives a
--- value does both.
+-- The words of steps by what they do. Each of them changes its place or looks along its path, and one with a factory does
+-- both.
 use Rattle.std.proofs.Common.{◌≡◌, ◌⊎◌, List, true, false, true≢false, refl, sym, ◌∙◌, inl, inr}
 use Rattle.ext_lifecycle.specs.declared.outcome.Outcome.{Outcome}
 use Rattle.ext_plan.specs.declared.word.Word.{Word}
 use Rattle.ext_plan.specs.declared.word.Word.TheVariants as words
 use Rattle.ext_plan.specs.Plans.{KeyText, StepKeyText}
-use Rattle.ext_plan.specs.StepWords.{changes, gives_value, looks_along}
+use Rattle.ext_plan.specs.StepWords.{changes, computes, gives_value, looks_along}
 use Rattle.ext_parallel.specs.StoreCalls.{PlanLane}
 use Rattle.ext_parallel.specs.StoreSteps.{FindsNoMemory, LacksMemory}
 
@@ -18,6 +18,16 @@ of_computes P one other word gives = absurd cc
 pub computes_all : (word : Word) → gives_value word ≡ true → (changes word ≡ true) × (looks_along word ≡ true)
 computes_all = of_computes (λ word. (changes word ≡ true) × (looks_along word ≡ true)) (refl, refl) (refl, refl)
 
+-- what is so of all words with a factory
+pub of_factories : (P : Word → Type 0) → P words.Compute → P words.ComputeCloseable → P words.ComputeFail → (word : Word) → computes word ≡ true → P word
+of_factories P one other fails words.Compute has = one
+of_factories P one other fails words.ComputeCloseable has = other
+of_factories P one other fails words.ComputeFail has = fails
+of_factories P one other fails word has = absurd cc
+
+pub factories_all : (word : Word) → computes word ≡ true → (changes word ≡ true) × (looks_along word ≡ true)
+factories_all = of_factories (λ word. (changes word ≡ true) × (looks_along word ≡ true)) (refl, refl) (refl, refl) (refl, refl)
+
 changes_or_looks : (word : Word) → (changes word ≡ true) ⊎ (looks_along word ≡ true)
 changes_or_looks words.Want = inr refl
 changes_or_looks words.None = inr refl
@@ -25,9 +35,6 @@ changes_or_looks word = inl refl
 
 pub still_looks : (word : Word) → changes word ≡ false → looks_along word ≡ true
 still_looks word still = elim (changes_or_looks word) [ inl changing ↦ absurd (true≢false (sym changing ∙ still)) | inr looks ↦ looks ]
-
-pub acts_changing : (word : Word) → looks_along word ≡ false → changes word ≡ true
-acts_changing word acts = elim (changes_or_looks word) [ inl changing ↦ changing | inr looks ↦ absurd (true≢false (sym looks ∙ acts)) ]
 
 -- where memory ran out before the call of a step, it did nothing
 pub finds_none : (keys : List KeyText) (word : Word) (key : StepKeyText) (a : PlanLane) (o : Outcome) (b : PlanLane) → LacksMemory keys word key a o b → FindsNoMemory a o b

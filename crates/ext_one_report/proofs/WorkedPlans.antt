@@ -4,7 +4,7 @@ use Rattle.std.specs.Prelude.{◌==◌, ◌&&◌, not}
 use Rattle.std.specs.List.{list_all}
 use Rattle.std.specs.Str.{bytes_eq}
 use Rattle.std.specs.Cmp.Lexicographic.{bytes_decides, pointwise}
-use Rattle.std.proofs.lemmas.Bool.{cases_Bool, true≢false}
+use Rattle.std.proofs.lemmas.Bool.{cases_Bool, not-true, true≢false}
 use Rattle.ext_lifecycle.specs.declared.call.Kind.{Kind}
 use Rattle.ext_lifecycle.specs.declared.call.Kind.TheVariants as kinds
 use Rattle.ext_lifecycle.specs.declared.mode.Mode.{Mode}
@@ -16,10 +16,11 @@ use Rattle.ext_plan.specs.declared.word.Word.TheVariants as words
 use Rattle.ext_plan.specs.Plans.{NodeText, PlanText, StepText, callbacks_of, keyed}
 use Rattle.ext_plan.specs.ReadPlans.{CallbacksAreFew, HasNoContainerCallbacks, IsRunnablePlan, NamesLabelBelow, OfAllSteps, StayOnPath, StaysOnOwnPath, StaysOnPathOf, StepsStayBelowRoot, TestsHaveNoChildren}
 use Rattle.ext_plan.specs.Steps.{callback_limit, height, step_limit}
+use Rattle.ext_plan.specs.StepWords.{gives_value}
 use Rattle.ext_plan.specs.StoreKeys.{HasParts}
 use Rattle.ext_plan.specs.PlanCalls.{concurrent_of}
 use Rattle.ext_races.specs.declared.race.Race.{Race}
-use Rattle.ext_races.specs.Clashes.{clashes, may_fail}
+use Rattle.ext_races.specs.Clashes.{agree, clashes, may_fail}
 use Rattle.ext_races.specs.Beside.{nodes_beside}
 use Rattle.ext_races.specs.MadeSteps.{path_from}
 use Rattle.ext_races.specs.Races.{IsRace}
@@ -29,7 +30,7 @@ use Rattle.ext_races.proofs.Lists.{contains_cases, contains_first, contains_late
 use Rattle.ext_races.proofs.Sides.{nodes_found, nodes_told}
 use Rattle.ext_races.proofs.TouchNodes.{touch_within}
 use Rattle.ext_races.specs.OneReports.{KeepsApart, ClosesAgreeBeside}
-use Rattle.ext_one_report.specs.WorkedPlans.{AreSteps, ComputesAreNoRace, ComputesDoNot, LookAndPutDoNot, LooksBelowKeepApart, LooksKeepApart, OneByOneKeepsApart, OneTextAgrees, OwnPutsKeepApart, PutsAboveDoNot, ReplacedAgrees, TestsAreBeside, TestsAreRead, OneByOneAgrees, TwoFaultsAgree, TwoKeysKeepApart, TwoTextsDoNot, WorkedHasKeys, WorkedHasNumbers, WorkedIsRead, WorkedKeepsApart, WorkedAgrees, a, b, class_id, computing, container, root_id, test_of_class, tests_of_mode, two_tests, worked_plan}
+use Rattle.ext_one_report.specs.WorkedPlans.{AreSteps, ComputesAreNoRace, ComputesDoNot, FailsAlikeKeepApart, FailsUnlikeDoNot, LookAndPutDoNot, LooksBelowKeepApart, LooksKeepApart, OneByOneKeepsApart, OneTextAgrees, OwnPutsKeepApart, PutsAboveDoNot, ReplacedAgrees, TestsAreBeside, TestsAreRead, OneByOneAgrees, TwoFaultsAgree, TwoKeysKeepApart, TwoTextsDoNot, WorkedHasKeys, WorkedHasNumbers, WorkedIsRead, WorkedKeepsApart, WorkedAgrees, a, b, class_id, computing, container, failing, root_id, test_of_class, tests_of_mode, two_tests, worked_plan}
 
 -- ---- tests of all pairs
 
@@ -69,21 +70,34 @@ none_such plan p none = all_pass (λ t. list_all (λ u. not (p t u)) (touches_ma
 abbrev pub meet : PlanText → TouchText → TouchText → Bool
 meet plan t u = nodes_beside plan t.node u.node && t.changes && (t.context == u.context) && (t.key == u.key)
 
-keeps_apart : (plan : PlanText) → no_pair plan (meet plan) ≡ true → KeepsApart plan
+-- both have a factory that fails with one text
+abbrev fail_alike : TouchText → TouchText → Bool
+fail_alike t u = not (gives_value t.word) && agree t u
+
+-- such touches do not keep apart, unless they fail alike
+abbrev cross : PlanText → TouchText → TouchText → Bool
+cross plan t u = meet plan t u && not (fail_alike t u)
+
+keeps_apart : (plan : PlanText) → no_pair plan (cross plan) ≡ true → KeepsApart plan
 keeps_apart plan none = record {
-  apart = λ t u one two beside changing at named. not_such plan (meet plan) t u none one two
-      (both_true _ _ (both_true _ _ (both_true _ _ (nodes_told plan t.node u.node (touch_within plan t one) (touch_within plan u two) beside) changing) (eq-eqb t.context u.context at)) (eq-eqb t.key u.key named));
+  apart = λ t u one two beside changing at named. elim (cases_Bool (fail_alike t u)) [
+    | inl alike ↦ let parts = both (not (gives_value t.word)) (agree t u) alike in (parts.1, not-true (gives_value t.word) parts.0)
+    | inr unlike ↦ absurd (not_such plan (cross plan) t u none one two (both_true (meet plan t u) (not (fail_alike t u))
+        (both_true _ _ (both_true _ _ (both_true _ _ (nodes_told plan t.node u.node (touch_within plan t one) (touch_within plan u two) beside) changing) (eq-eqb t.context u.context at)) (eq-eqb t.key u.key named)) (ap not unlike)))
+  ];
 }
 
-kept_apart : (plan : PlanText) → KeepsApart plan → no_pair plan (meet plan) ≡ true
-kept_apart plan keeps = none_such plan (meet plan) (λ t u one two such.
-    let key = both _ _ such in
+kept_apart : (plan : PlanText) → KeepsApart plan → no_pair plan (cross plan) ≡ true
+kept_apart plan keeps = none_such plan (cross plan) (λ t u one two such.
+    let parts = both (meet plan t u) (not (fail_alike t u)) such in
+    let key = both _ _ parts.0 in
     let context = both _ _ key.0 in
     let changing = both _ _ context.0 in
-    keeps.apart t u one two (nodes_found plan t.node u.node changing.0) changing.1 (equal t.context u.context context.1) (equal t.key u.key key.1))
+    let alike = keeps.apart t u one two (nodes_found plan t.node u.node changing.0) changing.1 (equal t.context u.context context.1) (equal t.key u.key key.1) in
+    true≢false (sym parts.1 ∙ ap not (both_true (not (gives_value t.word)) (agree t u) (ap not alike.1) alike.0)))
 
-meets : (plan : PlanText) → no_pair plan (meet plan) ≡ false → ¬ KeepsApart plan
-meets plan some keeps = true≢false (sym (kept_apart plan keeps) ∙ some)
+crosses : (plan : PlanText) → no_pair plan (cross plan) ≡ false → ¬ KeepsApart plan
+crosses plan some keeps = true≢false (sym (kept_apart plan keeps) ∙ some)
 
 pub own_puts_keep_apart : OwnPutsKeepApart
 unfolding path_from
@@ -103,15 +117,32 @@ two_keys_keep_apart text other = keeps_apart (two_tests [] (keyed words.Put a te
 
 pub puts_above_do_not : PutsAboveDoNot
 unfolding path_from
-puts_above_do_not text other = meets (two_tests [] (keyed words.Put a text 1 ∷ []) (keyed words.Put a other 1 ∷ [])) refl
+puts_above_do_not text other = crosses (two_tests [] (keyed words.Put a text 1 ∷ []) (keyed words.Put a other 1 ∷ [])) refl
 
 pub look_and_put_do_not : LookAndPutDoNot
 unfolding path_from
-look_and_put_do_not wanted text = meets (two_tests [] (keyed words.Want a wanted 0 ∷ []) (keyed words.Put a text 1 ∷ [])) refl
+look_and_put_do_not wanted text = crosses (two_tests [] (keyed words.Want a wanted 0 ∷ []) (keyed words.Put a text 1 ∷ [])) refl
 
 pub computes_do_not : ComputesDoNot
 unfolding path_from
-computes_do_not text = meets (computing text) refl
+computes_do_not text = crosses (computing text) refl
+
+pub same_text : (text : List ℕ) → bytes_eq text text ≡ true
+same_text text = (bytes_decides text text).1 refl
+
+pub fails_alike_keep_apart : FailsAlikeKeepApart
+unfolding path_from
+fails_alike_keep_apart keep text = keeps_apart (failing keep text text) (rw (same_text text) refl)
+
+two_texts : (text other : List ℕ) → text ≢ other → bytes_eq text other ≡ false
+two_texts text other differ = elim (cases_Bool (bytes_eq text other)) [
+  | inl same ↦ absurd (differ ((bytes_decides text other).0 same))
+  | inr unlike ↦ unlike
+]
+
+pub fails_unlike_do_not : FailsUnlikeDoNot
+unfolding path_from
+fails_unlike_do_not keep text other differ = crosses (failing keep text other) (rw (two_texts text other differ) refl)
 
 -- none of the nodes is concurrent
 not_concurrent : (before first second : List StepText) (node : ℕ) → concurrent_of (tests_of_mode modes.SameThread before first second) node ≡ false
@@ -123,7 +154,7 @@ not_concurrent before first second (suc (suc (suc (suc node)))) = refl
 
 pub one_by_one_keeps_apart : OneByOneKeepsApart
 one_by_one_keeps_apart before first second = record {
-  apart = λ t u one two beside changing at named. true≢false (sym beside.concurrent ∙ not_concurrent before first second beside.child);
+  apart = λ t u one two beside changing at named. absurd (true≢false (sym beside.concurrent ∙ not_concurrent before first second beside.child));
 }
 
 -- ---- races
@@ -134,9 +165,6 @@ clash plan t u = nodes_beside plan t.node u.node && clashes t u
 pub no_race : (plan : PlanText) (race : Race) → no_pair plan (clash plan) ≡ true → ¬ IsRace plan race
 no_race plan race none is = not_such plan (clash plan) is.first is.second none is.first_made is.second_made
     (both_true _ _ (nodes_told plan is.first.node is.second.node (touch_within plan is.first is.first_made) (touch_within plan is.second is.second_made) is.beside) is.clash)
-
-pub same_text : (text : List ℕ) → bytes_eq text text ≡ true
-same_text text = (bytes_decides text text).1 refl
 
 pub computes_are_no_race : ComputesAreNoRace
 unfolding path_from

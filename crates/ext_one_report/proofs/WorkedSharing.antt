@@ -12,26 +12,19 @@ use Rattle.ext_races.specs.Clashes.{agree}
 use Rattle.ext_races.specs.Races.{IsRace}
 use Rattle.ext_races.specs.MadeSteps.{path_from}
 use Rattle.ext_races.specs.Touches.{TouchText, text_if, touches_made}
-use Rattle.ext_plan.specs.StepWords.{computes, gives_value, word_eq}
+use Rattle.ext_plan.specs.StepWords.{computes, word_eq}
 use Rattle.ext_one_report.specs.WorkedPlans.{a, computing, computing_above, computing_each, ClassSharesNone, ComputesShareValues, FirstShares, LooksAfterDoNot, LooksBehindShareValues, LooksBelowShareValues, RemovedDoNot, SecondShares}
 use Rattle.ext_one_report.proofs.WorkedPlans.{computes_are_no_race, meet, no_pair, no_race, none_such, passes, same_text}
 use Rattle.ext_one_report.specs.Shares.{shares_in}
-use Rattle.ext_races.specs.OneReports.{NoFailedComputesAgree, SharesValues}
+use Rattle.ext_races.specs.OneReports.{SharesValues}
 use Rattle.ext_races.proofs.Free.{race_free_shares_values}
 use Rattle.ext_races.proofs.Equalities.{word_is}
 use Rattle.ext_races.proofs.Lists.{contains-map_back}
 use Rattle.ext_races.proofs.Sides.{nodes_found, nodes_told}
 use Rattle.ext_races.proofs.TouchNodes.{touch_within}
 
-all_give_values : (text : List ℕ) → list_all (λ t. gives_value t.word) (touches_made (computing text)) ≡ true
-unfolding path_from
-all_give_values text = refl
-
-none_failed : (text : List ℕ) → NoFailedComputesAgree (computing text)
-none_failed text = record { none = λ first second made there beside changing context key same. passes (λ t. gives_value t.word) (touches_made (computing text)) first (all_give_values text) made }
-
 pub computes_share_values : ComputesShareValues
-computes_share_values text = race_free_shares_values (computing text) (computes_are_no_race text) (none_failed text)
+computes_share_values text = race_free_shares_values (computing text) (computes_are_no_race text)
 
 -- ---- look-ups behind a compute of a callback before
 
@@ -42,18 +35,8 @@ behind_no_race : (text wanted : List ℕ) (race : Race) → ¬ IsRace (behind te
 unfolding path_from
 behind_no_race text wanted race = no_race (behind text wanted) race (rw (same_text text) refl)
 
--- each step there that changes a place gives a value
-abbrev gives_if_changes : TouchText → Bool
-gives_if_changes t = not t.changes || gives_value t.word
-
-all_give : (text wanted : List ℕ) → list_all gives_if_changes (touches_made (behind text wanted)) ≡ true
-unfolding path_from
-all_give text wanted = refl
-
 pub looks_behind_share_values : LooksBehindShareValues
-looks_behind_share_values text wanted = race_free_shares_values (behind text wanted) (behind_no_race text wanted) (record {
-  none = λ first second made there beside changing context key same. rw changing at (passes gives_if_changes (touches_made (behind text wanted)) first (all_give text wanted) made);
-})
+looks_behind_share_values text wanted = race_free_shares_values (behind text wanted) (behind_no_race text wanted)
 
 -- the touches are of one place that the first may change, by nodes that may run beside one another, and do not agree
 abbrev unlike : PlanText → TouchText → TouchText → Bool
@@ -66,7 +49,7 @@ all_like plan shares = none_such plan (unlike plan) (λ t u one two such.
     let context = and_parts (nodes_beside plan t.node u.node && t.changes) (t.context == u.context) key.0 in
     let changing = and_parts (nodes_beside plan t.node u.node) t.changes context.0 in
     let alike = shares.alike t u one two (nodes_found plan t.node u.node changing.0) changing.1 (eqb-true t.context u.context context.1) (eqb-true t.key u.key key.1) in
-    true≢false (sym parts.1 ∙ ap not alike.0))
+    true≢false (sym parts.1 ∙ ap not alike))
 
 after_unlike : (text wanted : List ℕ) → no_pair (computing_each text [] (keyed words.Want a wanted 0 ∷ [])) (unlike (computing_each text [] (keyed words.Want a wanted 0 ∷ []))) ≡ false
 unfolding path_from
@@ -81,9 +64,9 @@ looks_after_do_not text wanted shares = true≢false (sym (all_like (computing_e
 abbrev with_text : List ℕ → TouchText → TouchText
 with_text text t = record t { text = text_if (computes t.acts) text }
 
--- where the first may change the place that the second touches, beside it, both count as the same compute, and it gives a value
+-- where the first may change the place that the second touches, beside it, both count as the same compute
 abbrev fit : PlanText → TouchText → TouchText → Bool
-fit plan t u = not (meet plan t u) || (computes t.acts && word_eq t.acts u.acts && gives_value t.word)
+fit plan t u = not (meet plan t u) || (computes t.acts && word_eq t.acts u.acts)
 
 module _ (plan : PlanText) (text : List ℕ) (same : touches_made plan ≡ map (with_text text) (touches_made plan)) where
   text_is : (t : TouchText) → Contains (touches_made plan) t → computes t.acts ≡ true → t.text ≡ text
@@ -98,11 +81,10 @@ module _ (plan : PlanText) (text : List ℕ) (same : touches_made plan ≡ map (
         let near = nodes_told plan t.node u.node (touch_within plan t one) (touch_within plan u two) beside in
         let they_meet : meet plan t u ≡ true = and_from (nodes_beside plan t.node u.node && t.changes && (t.context == u.context)) (t.key == u.key)
         (and_from (nodes_beside plan t.node u.node && t.changes) (t.context == u.context) (and_from (nodes_beside plan t.node u.node) t.changes near changing) (eq-eqb t.context u.context at)) (eq-eqb t.key u.key named) in
-        let both : (computes t.acts && word_eq t.acts u.acts && gives_value t.word) ≡ true = ap (λ (b : Bool). not b || (computes t.acts && word_eq t.acts u.acts && gives_value t.word)) (sym they_meet) ∙ fits in
-        let parts = and_parts (computes t.acts && word_eq t.acts u.acts) (gives_value t.word) both in
-        let word = and_parts (computes t.acts) (word_eq t.acts u.acts) parts.0 in
+        let both : (computes t.acts && word_eq t.acts u.acts) ≡ true = ap (λ (b : Bool). not b || (computes t.acts && word_eq t.acts u.acts)) (sym they_meet) ∙ fits in
+        let word = and_parts (computes t.acts) (word_eq t.acts u.acts) both in
         let other = ap computes (sym (word_is t.acts u.acts word.1)) ∙ word.0 in
-        (and_from (computes t.acts && word_eq t.acts u.acts) (bytes_eq t.text u.text) parts.0 ((bytes_decides t.text u.text).1 (text_is t one word.0 ∙ sym (text_is u two other))), parts.1);
+        and_from (computes t.acts && word_eq t.acts u.acts) (bytes_eq t.text u.text) both ((bytes_decides t.text u.text).1 (text_is t one word.0 ∙ sym (text_is u two other)));
   }
 
 -- ---- look-ups below computes of callbacks before all children

@@ -3,7 +3,7 @@
 -- Guide, "Parallel Execution"). The table in docs/PLANS.md, 'Races', has such plans. Context 0 is the root `[e:x]`, 1 the
 -- class `[c:A]`, and 2 and 3 are its tests `[t:m]` and `[t:n]`. A step that ends with 1 acts one context up: a test's
 -- step on the class, and a class's on the root.
-use Rattle.std.specs.Prelude.{ℕ, ◌≤◌, ◌<◌, All, codes, false, List, [], ◌∷◌, ◌++◌, length, Some, None, ◌≡◌}
+use Rattle.std.specs.Prelude.{ℕ, ◌≤◌, All, Bool, codes, false, List, [], ◌∷◌, ◌++◌, length, Some, None, ◌≡◌, ◌≢◌}
 use Rattle.ext_lifecycle.specs.declared.mode.Mode.{Mode}
 use Rattle.ext_lifecycle.specs.declared.mode.Mode.TheVariants as modes
 use Rattle.ext_model.specs.Sizes.{most_numbers}
@@ -130,6 +130,19 @@ ComputesAreNoRace = (text : List ℕ) (race : Race) → ¬ IsRace (computing tex
 abbrev pub ComputesDoNot : Type 0
 ComputesDoNot = (text : List ℕ) → ¬ KeepsApart (computing text)
 
+-- Two tests whose factories fail in the class's context with these texts, in a store that keeps faults or does not.
+abbrev pub failing : Bool → List ℕ → List ℕ → PlanText
+failing keep first second = record (two_tests [] (keyed words.ComputeFail a first 1 ∷ [])
+    (keyed words.ComputeFail a second 1 ∷ [])) { keep_faults = keep }
+
+-- They keep apart if both fail with one text: no report shows whose factory ran first, or whose fault was kept.
+abbrev pub FailsAlikeKeepApart : Type 0
+FailsAlikeKeepApart = (keep : Bool) (text : List ℕ) → KeepsApart (failing keep text text)
+
+-- With two texts they do not.
+abbrev pub FailsUnlikeDoNot : Type 0
+FailsUnlikeDoNot = (keep : Bool) (text other : List ℕ) → text ≢ other → ¬ KeepsApart (failing keep text other)
+
 -- Closeable values that one node leaves in one context agree, though their closes fail with two texts: the fault of the
 -- one kept last is reported first in each run.
 abbrev pub TwoFaultsAgree : Type 0
@@ -176,9 +189,9 @@ WorkedAgrees = ClosesAgreeBeside worked_plan
 abbrev pub WorkedHasKeys : Type 0
 WorkedHasKeys = length (keys_named worked_plan) ≤ worked_plan.key_places
 
--- There are more numbers than they may draw.
+-- There are as many numbers as they may draw.
 abbrev pub WorkedHasNumbers : Type 0
-WorkedHasNumbers = numbers_drawn worked_plan < most_numbers worked_plan.size
+WorkedHasNumbers = numbers_drawn worked_plan ≤ most_numbers worked_plan.size
 
 -- It is a plan like one that was read.
 abbrev pub WorkedIsRead : Type 0

@@ -1,7 +1,7 @@
 -- What is found of a plan, put together.
 use Rattle.std.proofs.Common.{◌≡◌, ℕ, ◌<◌, ◌≤◌, Bool, true, false, List, [], length, sym, ap, subst, ◌∙◌, arith, All, inl, inr}
-use Rattle.std.specs.Prelude.{◌==◌, ◌&&◌, nat_le, nat_lt}
-use Rattle.std.proofs.lemmas.Bool.{and_cases, and_parts, both_ways, cases_eq, cases_lt, eq-eqb, eqb-true, le-leb, lt-leb, lt-ltb, ltb-true, ne_eqb}
+use Rattle.std.specs.Prelude.{◌==◌, ◌&&◌, nat_lt}
+use Rattle.std.proofs.lemmas.Bool.{and_cases, and_parts, both_ways, cases_eq, eq-eqb, eqb-true, lt-ltb, ltb-true}
 use Rattle.std.specs.Borrow.{Bor}
 use Rattle.std.specs.List.{count_by, flat_map}
 use Rattle.std.proofs.lemmas.List.{length-map}
@@ -52,13 +52,6 @@ module _ (plan : PlanText) (made : List MadeText) (steps : made ≡ steps_made p
       let same = ap (λ i. flat_map (touches_of i declared directory above) made) nodes ∙ ap (λ d. flat_map (touches_of (ids_of_nodes plan.nodes) d directory above) made) keys
       ∙ ap (λ k. flat_map (touches_of (ids_of_nodes plan.nodes) plan.keys k above) made) (named_is declared directory keys is) ∙ ap (flat_map (touches_of (ids_of_nodes plan.nodes) plan.keys (keys_named plan) above)) steps in
       subst (λ touches. IsGrouped (length directory) touches groups) same grouped
-
--- as many numbers are drawn as there are, or fewer
-pub all_or_fewer : (drawn most : ℕ) → drawn ≤ most → (drawn == most) ≡ nat_le most drawn
-all_or_fewer drawn most few = elim (cases_lt drawn most) [
-  | inl less ↦ ne_eqb drawn most (λ same. omega (arith, same, less)) ∙ sym (lt-leb most drawn less)
-  | inr all ↦ eq-eqb drawn most (omega (arith, few, all)) ∙ sym (le-leb most drawn all)
-]
 
 -- ---- the races, or none
 

@@ -1,4 +1,4 @@
--- The nodes of a plan without races keep apart, or share values, where touches that agree are as that asks.
+-- The nodes of a plan without races share values, and keep apart where they share none.
 use Rattle.std.proofs.Common.{◌≡◌, Bool, true, false, refl, ap, ◌∙◌, eq-eqb, inl, inr, ◌⊎◌}
 use Rattle.std.specs.Prelude.{◌==◌, ◌&&◌, codes, not, if◌then◌else◌}
 use Rattle.std.specs.Str.{bytes_eq}
@@ -20,23 +20,10 @@ clash t u changing at named none =
     ap (λ (b : Bool). if b then not (agree t u) else closes_differ t u) (eq-eqb t.key u.key named) ∙ ap not none in
     and_from (t.changes && (t.context == u.context)) (if t.key == u.key then not (agree t u) else closes_differ t u) place differ
 
-pub free_keeps_apart : FreeKeepsApart
-free_keeps_apart plan free none = record {
-  apart = λ first second one two beside changing at named. free (race_of first second) (record {
-    first = first;
-    second = second;
-    first_made = one;
-    second_made = two;
-    beside = beside;
-    clash = clash first second changing at named (none.none first second one two beside changing at named);
-    is = refl;
-  });
-}
-
 pub race_free_shares_values : RaceFreeSharesValues
-race_free_shares_values plan free none = record {
+race_free_shares_values plan free = record {
   alike = λ first second one two beside changing at named. elim (cases_Bool (agree first second)) [
-    | inl alike ↦ (alike, none.none first second one two beside changing at named alike)
+    | inl alike ↦ alike
     | inr other ↦ absurd (free (race_of first second) (record {
       first = first;
       second = second;
@@ -47,6 +34,13 @@ race_free_shares_values plan free none = record {
       is = refl;
     }))
   ];
+}
+
+pub free_keeps_apart : FreeKeepsApart
+free_keeps_apart plan free none = record {
+  apart = λ first second one two beside changing at named.
+      let agrees = (race_free_shares_values plan free).alike first second one two beside changing at named in
+      (agrees, none.none first second one two beside changing at named agrees);
 }
 
 -- closes that may fail with two texts clash under two keys, and touches under one key that agree have one text

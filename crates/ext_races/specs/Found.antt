@@ -40,4 +40,4 @@ IsFound plan most found.TooManyKeys = plan.key_places < length (keys_named plan)
 IsFound plan most found.TooManyNumbers = (length (keys_named plan) ≤ plan.key_places)
     × (most_numbers plan.size < numbers_drawn plan)
 IsFound plan most (found.Races races names) = IsWithin plan names.items × HasRaces plan most races.items
-IsFound plan most (found.NoRaces proved names) = IsWithin plan names.items × IsFree plan proved
+IsFound plan most (found.NoRaces proved) = IsFree plan proved

@@ -1,21 +1,18 @@
 -- What is written of a plan's races for machines: one object of JSON, and a line feed behind it,
 --
---     {"races":[RACE,RACE],"more":false,"proved":null,"gaps":null,"limit":null}
+--     {"races":[RACE,RACE],"more":false,"proved":null,"limit":null}
 --
 -- with no space between tokens, and all members in this order. A race is
 --
 --     {"first":{"node":ID,"word":WORD,"key":KEY},"second":{"node":ID,"word":WORD,"key":KEY},"context":ID}
 --
 -- with what its line has (`RaceLines`): the first 20 are there, and `more` is true if there are more. If there is none,
--- `proved` says what is proved of the plan's report: `one report`, or `one report but for computed and found`. If it
--- is `nothing`, `gaps` has a member for each kind of reason, null if there is none of its kind:
---
---     {"fails":RACE,"numbers":65535}
+-- `proved` says what is proved of the plan's report: `one report`, or `one report but for computed and found`.
 --
 -- If the plan exceeds a limit, `limit` names it and tells how many there are, as `{"of":"keys","most":64}`, and the
 -- other members are null. `print` of the kit's JSON says how a text is written, and a text reads back as it was. The
 -- format is not from JUnit.
-use Rattle.std.specs.Prelude.{ℕ, Bool, false, codes, List, [], ◌∷◌, ◌++◌, length, nat_lt, take, Option, Some, None, if◌then◌else◌}
+use Rattle.std.specs.Prelude.{ℕ, false, codes, List, [], ◌∷◌, ◌++◌, length, nat_lt, take}
 use Rattle.std.specs.Borrow.{Bor}
 use Rattle.std.specs.Fmt.{decimal}
 use Rattle.std.specs.List.{flat_map, slice_get}
@@ -27,7 +24,6 @@ use Rattle.ext_plan.specs.StepWords.{word_text}
 use Rattle.ext_plan.specs.declared.plan.StepKey.{StepKey}
 use Rattle.ext_races.specs.declared.found.Found.{Found}
 use Rattle.ext_races.specs.declared.found.Found.TheVariants as found
-use Rattle.ext_races.specs.declared.proved.Gaps.{Gaps}
 use Rattle.ext_races.specs.declared.proved.Proved.{Proved}
 use Rattle.ext_races.specs.declared.proved.Proved.TheVariants as proved
 use Rattle.ext_races.specs.declared.race.Race.{Race}
@@ -46,7 +42,6 @@ limit_object counted most =
 abbrev pub proved_word : Proved → List ℕ
 proved_word proved.OneReport = codes "one report"
 proved_word proved.NearReport = codes "one report but for computed and found"
-proved_word (proved.Neither gaps) = codes "nothing"
 
 -- ---- the members `more` and `proved`
 
@@ -54,24 +49,18 @@ abbrev pub more_value : Found → Token
 more_value found.TooManyKeys = null
 more_value found.TooManyNumbers = null
 more_value (found.Races races names) = boolean (nat_lt line_limit (length races.items))
-more_value (found.NoRaces proved names) = boolean false
+more_value (found.NoRaces proved) = boolean false
 
 abbrev pub proved_value : Found → Token
 proved_value found.TooManyKeys = null
 proved_value found.TooManyNumbers = null
 proved_value (found.Races races names) = null
-proved_value (found.NoRaces proved names) = string (proved_word proved)
+proved_value (found.NoRaces proved) = string (proved_word proved)
 
 module _ (plan : PlanText) where
   -- A member whose value is the id of the plan's node at this place.
   abbrev pub id_member : List ℕ → ℕ → List Token
   id_member name node = text_member name (id_of_node plan node)
-
-  -- ---- the reasons for which neither report is proved
-
-  -- The value of a reason, null if there is none of its kind.
-  abbrev pub numbers_value : Bool → Token
-  numbers_value drawn = if drawn then number (decimal (most_numbers plan.size)) else null
 
   -- ---- objects
 
@@ -90,40 +79,19 @@ module _ (plan : PlanText) where
     abbrev pub races_array : List Race → List Token
     races_array races = begin_array ∷ (flat_map race_object (take line_limit races) ++ end_array ∷ [])
 
-    abbrev pub fails_value : Option Race → List Token
-    fails_value None = null ∷ []
-    fails_value (Some race) = race_object race
-
-    unfoldable pub gaps_object : Gaps → List Token
-    gaps_object gaps =
-        begin_object ∷ key (codes "fails") ∷ (fails_value gaps.fails ++ key (codes "numbers")
-        ∷ numbers_value gaps.numbers ∷ end_object ∷ [])
-
-    -- The reasons, if nothing is proved.
-    abbrev pub reasons_value : Proved → List Token
-    reasons_value proved.OneReport = null ∷ []
-    reasons_value proved.NearReport = null ∷ []
-    reasons_value (proved.Neither gaps) = gaps_object gaps
-
-  -- ---- the members `races`, `gaps` and `limit`
+  -- ---- the members `races` and `limit`
 
   abbrev pub races_value : Found → List Token
   races_value found.TooManyKeys = null ∷ []
   races_value found.TooManyNumbers = null ∷ []
   races_value (found.Races races names) = races_array names.items races.items
-  races_value (found.NoRaces proved names) = begin_array ∷ end_array ∷ []
-
-  abbrev pub gaps_value : Found → List Token
-  gaps_value found.TooManyKeys = null ∷ []
-  gaps_value found.TooManyNumbers = null ∷ []
-  gaps_value (found.Races races names) = null ∷ []
-  gaps_value (found.NoRaces proved names) = reasons_value names.items proved
+  races_value (found.NoRaces proved) = begin_array ∷ end_array ∷ []
 
   abbrev pub limit_value : Found → List Token
   limit_value found.TooManyKeys = limit_object (codes "keys") plan.key_places
   limit_value found.TooManyNumbers = limit_object (codes "numbers") (most_numbers plan.size)
   limit_value (found.Races races names) = null ∷ []
-  limit_value (found.NoRaces proved names) = null ∷ []
+  limit_value (found.NoRaces proved) = null ∷ []
 
   -- ---- the whole
 
@@ -131,13 +99,10 @@ module _ (plan : PlanText) where
   abbrev pub race_members : Found → List Token
   race_members told = key (codes "races") ∷ (races_value told ++ key (codes "more") ∷ more_value told ∷ [])
 
-  -- Those that tell what is proved.
-  abbrev pub proved_members : Found → List Token
-  proved_members told = key (codes "proved") ∷ proved_value told ∷ key (codes "gaps") ∷ gaps_value told
-
   unfoldable pub found_object : Found → List Token
   found_object told =
-      begin_object ∷ (race_members told ++ proved_members told ++ key (codes "limit") ∷ (limit_value told ++ end_object ∷ []))
+      begin_object ∷ (race_members told ++ key (codes "proved") ∷ proved_value told ∷ key (codes "limit")
+      ∷ (limit_value told ++ end_object ∷ []))
 
   abbrev pub found_json : Found → List ℕ
   found_json told = print (found_object told) ++ codes "\n"

@@ -4,15 +4,10 @@
 --
 -- with the step of the node that comes first in the plan, that of the other, and the context of the place. A step is
 -- shown by its first word, the word by which the plan's steps first name its key, and the id of its node. A line
--- `and more` follows if there are more. If there is no race, the first line says so, and what is proved of the plan's
--- report. If that is nothing, a line follows for each kind of reason:
---
---     the same beside one another: computefail KEY of ID and computefail KEY of ID in ID
---     as many numbers as there are: NUMBER
---
--- A limit that the plan exceeds has a line of its own, which tells it in decimal. Texts are bytes; the format is not
--- from JUnit.
-use Rattle.std.specs.Prelude.{ℕ, Bool, codes, List, [], ◌++◌, length, nat_lt, take, Option, Some, None, if◌then◌else◌}
+-- `and more` follows if there are more. If there is no race, the only line says so, and what is proved of the plan's
+-- report. A limit that the plan exceeds has a line of its own, which tells it in decimal. Texts are bytes; the format is
+-- not from JUnit.
+use Rattle.std.specs.Prelude.{ℕ, codes, List, [], ◌++◌, length, nat_lt, take, Option, Some, None, if◌then◌else◌}
 use Rattle.std.specs.Borrow.{Bor}
 use Rattle.std.specs.Fmt.{decimal}
 use Rattle.std.specs.List.{flat_map, slice_get}
@@ -33,6 +28,11 @@ use Rattle.ext_races.specs.declared.found.Found.TheVariants as found
 abbrev pub line_limit : ℕ
 line_limit = 20
 
+-- What is proved of a plan's report.
+abbrev pub proved_text : Proved → List ℕ
+proved_text proved.OneReport = codes "no races: one report\n"
+proved_text proved.NearReport = codes "no races: one report but for computed and found\n"
+
 -- The id of a node, if it is there.
 abbrev pub id_if : Option NodeText → List ℕ
 id_if None = []
@@ -47,13 +47,6 @@ module _ (plan : PlanText) where
   abbrev pub name_if : Option (Bor StepKey) → List ℕ
   name_if None = []
   name_if (Some name) = label_of plan.keys (step_key_view name.now)
-
-  -- ---- the reasons for which neither report is proved
-
-  -- The line of a reason, if there is one of its kind.
-  abbrev pub numbers_if : Bool → List ℕ
-  numbers_if drawn = if drawn
-      then codes "as many numbers as there are: " ++ decimal (most_numbers plan.size) ++ codes "\n" else []
 
   -- ---- lines
 
@@ -72,21 +65,10 @@ module _ (plan : PlanText) where
     race_lines races = flat_map race_line (take line_limit races)
         ++ (if nat_lt line_limit (length races) then codes "and more\n" else [])
 
-    abbrev pub fails_if : Option Race → List ℕ
-    fails_if None = []
-    fails_if (Some race) = codes "the same beside one another: " ++ race_line race
-
-    -- What is proved of its report.
-    abbrev pub proved_text : Proved → List ℕ
-    proved_text proved.OneReport = codes "no races: one report\n"
-    proved_text proved.NearReport = codes "no races: one report but for computed and found\n"
-    proved_text (proved.Neither gaps) =
-        codes "no races: one report is not proved\n" ++ fails_if gaps.fails ++ numbers_if gaps.numbers
-
   -- What is written, by what was found.
   abbrev pub found_text : Found → List ℕ
   found_text found.TooManyKeys = codes "the steps name more than " ++ decimal plan.key_places ++ codes " keys\n"
   found_text found.TooManyNumbers =
       codes "the steps may draw more than " ++ decimal (most_numbers plan.size) ++ codes " numbers\n"
   found_text (found.Races races names) = race_lines names.items races.items
-  found_text (found.NoRaces proved names) = proved_text names.items proved
+  found_text (found.NoRaces proved) = proved_text proved

@@ -1,11 +1,10 @@
 //! The races of a plan.
-ghost use Rattle.std.specs.Prelude.{◌≡◌, ◌*◌, ◌+◌, ◌==◌, ◌&&◌, IfOk, length, nat_le, nat_lt};
-ghost use Rattle.ext_model.specs.Sizes.{most_numbers};
+ghost use Rattle.std.specs.Prelude.{◌≡◌, ◌==◌, ◌&&◌, IfOk, length, nat_lt};
 ghost use Rattle.ext_plan.specs.Plans.{plan_view};
 ghost use Rattle.ext_plan.specs.ReadPlans.{IsRunnablePlan, ids_of_nodes};
 ghost use Rattle.ext_races.specs.Found.{IsFound, IsWithin};
 ghost use Rattle.ext_races.specs.InnerGroups.{IsGrouped, groups_view};
-ghost use Rattle.ext_races.specs.Touches.{numbers_drawn, touches_made};
+ghost use Rattle.ext_races.specs.Touches.{touches_made};
 
 use crate::groups::groups_of;
 use crate::made::steps_made;
@@ -50,29 +49,17 @@ pub fn races<'p>(alloc: Global, plan: &'p Plan, most: usize) -> Result<Found<'p>
         Err(_) => return Err(AllocError),
     };
     let numbers = plan.size.numbers() as usize;
-    let drawn = numbers_drawn(plan, made.as_slice());
-    if drawn > numbers {
+    if numbers_drawn(plan, made.as_slice()) > numbers {
         return Ok(Found::TooManyNumbers);
     }
     let standing = standing_of(alloc, &keys, &directory, plan, &tree, made.as_slice())?;
     let groups = groups_of(alloc, &keys, &directory, &tree, &standing, made.as_slice())?;
     let keys = directory.len();
-    let all_drawn = drawn == numbers;
-    found_in(
-        alloc,
-        plan,
-        &tree,
-        keys,
-        groups.as_slice(),
-        most,
-        all_drawn,
-        names,
-    )
+    found_in(alloc, plan, &tree, keys, groups.as_slice(), most, names)
 }
 
 /// At most `most` races of the touches in these groups, of which each context has one for each of
-/// `keys` keys and one more; or, if there are none, what is proved of the plan. `all_drawn` tells
-/// whether its steps may draw as many numbers as there are.
+/// `keys` keys and one more; or, if there are none, what is proved of the plan.
 fn found_in<'p>(
     alloc: Global,
     plan: &Plan,
@@ -80,22 +67,19 @@ fn found_in<'p>(
     keys: usize,
     groups: &[Vec<Touch<'p>>],
     most: usize,
-    all_drawn: bool,
     names: Vec<&'p StepKey>,
 ) -> Result<Found<'p>, AllocError>
     requires tree { tree.now ≡ ids_of_nodes (plan_view plan.now).nodes }
-    requires count { length groups.now ≡ length tree.now * (keys + 1) }
     requires groups { IsGrouped keys (touches_made (plan_view plan.now)) (groups_view groups.now) }
     requires within { IsWithin (plan_view plan.now) names.items }
-    requires numbers { all_drawn ≡ nat_le (most_numbers (plan_view plan.now).size) (numbers_drawn (plan_view plan.now)) }
     ensures { IfOk result (IsFound (plan_view plan.now) most) }
 {
     let races = races_told(alloc, plan, tree, groups, most)?;
     if !is_free(races.as_slice(), most) {
         return Ok(Found::Races { races, names });
     }
-    let proved = proved_of(alloc, plan, tree, keys, groups, all_drawn)?;
-    Ok(Found::NoRaces { proved, names })
+    let proved = proved_of(alloc, plan, tree, keys, groups)?;
+    Ok(Found::NoRaces(proved))
 }
 
 /// Tests whether races were looked for, and there are none.

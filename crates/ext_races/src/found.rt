@@ -10,11 +10,8 @@ pub enum Found<'p> {
         races: Vec<Race>,
         names: Vec<&'p StepKey>,
     },
-    /// There is no race: what is proved of the plan, and the same words.
-    NoRaces {
-        proved: Proved,
-        names: Vec<&'p StepKey>,
-    },
+    /// There is no race: what is proved of the plan.
+    NoRaces(Proved),
     /// The steps name more different keys than a run has places for (`Plan::key_places`): which of
     /// them get a place depends on the schedule.
     TooManyKeys,

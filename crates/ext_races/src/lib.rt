@@ -30,7 +30,7 @@ mod touch;
 pub use counting::count_keys;
 pub use finding::races;
 pub use found::Found;
-pub use proved::{Gaps, Proved};
+pub use proved::Proved;
 pub use race::{Race, Side};
 pub use race_json::races_json;
 pub use text::races_text;

@@ -6,20 +6,19 @@ ghost use Rattle.json.specs.Token.{begin_array, end_array, key, number, string};
 ghost use Rattle.json.specs.Print.{print};
 ghost use Rattle.ext_plan.specs.Plans.{plan_view};
 ghost use Rattle.ext_races.specs.RaceLines.{id_of_node, line_limit};
-ghost use Rattle.ext_races.specs.RaceJson.{fails_value, found_json, found_object, gaps_object, gaps_value, id_member, limit_object, limit_value, more_value, numbers_value, proved_members, proved_value, proved_word, race_members, race_object, races_array, races_value, reasons_value, side_object, text_member};
+ghost use Rattle.ext_races.specs.RaceJson.{found_json, found_object, id_member, limit_object, limit_value, more_value, proved_value, proved_word, race_members, race_object, races_array, races_value, side_object, text_member};
 
 use crate::text::{LINES, first_of, name_at, push_id};
-use crate::{Found, Gaps, Proved, Race, Side};
+use crate::{Found, Proved, Race, Side};
 use ext_model::ContextNo;
 use ext_plan::{Plan, StepKey};
 use json::Writer;
 use std::alloc::{AllocError, Global};
 
 /// Returns what `races` found as an object of JSON on a line, as UTF-8 bytes. Its members are
-/// `races`, `more`, `proved`, `gaps` and `limit`, in this order. They tell what `races_text` does:
-/// the first 20 races and whether there are more; if there are none, what is proved of the plan's
-/// report, and if that is nothing, the reasons; or the limit that the plan exceeds, and then the
-/// others are null.
+/// `races`, `more`, `proved` and `limit`, in this order. They tell what `races_text` does: the first
+/// 20 races and whether there are more; if there are none, what is proved of the plan's report; or
+/// the limit that the plan exceeds, and then the others are null.
 ///
 /// Takes memory for the text, and fails with `AllocError` only if that is refused.
 pub fn races_json(alloc: Global, plan: &Plan, found: &Found<'_>) -> Result<Vec<u8>, AllocError>
@@ -37,7 +36,8 @@ fn object_of(alloc: Global, plan: &Plan, found: &Found<'_>) -> Result<Vec<u8>, A
     let mut writer = Writer::new(Vec::new(alloc));
     writer.begin_object()?;
     write_race_members(&mut writer, alloc, plan, found)?;
-    write_proved_members(&mut writer, alloc, plan, found)?;
+    writer.key("proved")?;
+    write_proved(&mut writer, found)?;
     writer.key("limit")?;
     write_limit(&mut writer, plan, found)?;
     writer.end_object()?;
@@ -76,7 +76,7 @@ fn write_races(
         Found::Races { races, names } => {
             write_array(writer, alloc, plan, races.as_slice(), names.as_slice())
         }
-        Found::NoRaces { .. } => write_empty(writer),
+        Found::NoRaces(_) => write_empty(writer),
     }
 }
 
@@ -172,7 +172,7 @@ fn write_more(writer: &mut Writer, found: &Found<'_>) -> Result<(), AllocError>
     match found {
         Found::TooManyKeys | Found::TooManyNumbers => writer.null(),
         Found::Races { races, .. } => writer.boolean(has_more(races.as_slice())),
-        Found::NoRaces { .. } => writer.boolean(false),
+        Found::NoRaces(_) => writer.boolean(false),
     }
 }
 
@@ -183,29 +183,13 @@ fn has_more(races: &[Race]) -> bool
     races.len() > LINES
 }
 
-/// Writes the members that tell what is proved.
-fn write_proved_members(
-    writer: &mut Writer,
-    alloc: Global,
-    plan: &Plan,
-    found: &Found<'_>,
-) -> Result<(), AllocError>
-    ensures before { OnOk result (writer.new.before ≡ writer.old.before) }
-    ensures tokens { OnOk result
-        (writer.new.tokens ≡ writer.old.tokens ++ proved_members (plan_view plan.now) found.now) }
-{
-    writer.key("proved")?;
-    write_proved(writer, found)?;
-    writer.key("gaps")?;
-    write_gaps(writer, alloc, plan, found)
-}
-
+/// Writes what is proved.
 fn write_proved(writer: &mut Writer, found: &Found<'_>) -> Result<(), AllocError>
     ensures before { OnOk result (writer.new.before ≡ writer.old.before) }
     ensures tokens { OnOk result (writer.new.tokens ≡ writer.old.tokens ++ proved_value found.now ∷ []) }
 {
     match found {
-        Found::NoRaces { proved, .. } => writer.string(word_of(proved)),
+        Found::NoRaces(proved) => writer.string(word_of(proved)),
         Found::Races { .. } | Found::TooManyKeys | Found::TooManyNumbers => writer.null(),
     }
 }
@@ -217,95 +201,6 @@ fn word_of(proved: &Proved) -> &'static str
     match proved {
         Proved::OneReport => "one report",
         Proved::NearReport => "one report but for computed and found",
-        Proved::Neither(_) => "nothing",
-    }
-}
-
-/// Writes why nothing is proved of a plan without races, if that is so.
-fn write_gaps(
-    writer: &mut Writer,
-    alloc: Global,
-    plan: &Plan,
-    found: &Found<'_>,
-) -> Result<(), AllocError>
-    ensures before { OnOk result (writer.new.before ≡ writer.old.before) }
-    ensures tokens { OnOk result
-        (writer.new.tokens ≡ writer.old.tokens ++ gaps_value (plan_view plan.now) found.now) }
-{
-    match found {
-        Found::NoRaces { proved, names } => {
-            write_reasons(writer, alloc, plan, proved, names.as_slice())
-        }
-        Found::Races { .. } | Found::TooManyKeys | Found::TooManyNumbers => writer.null(),
-    }
-}
-
-fn write_reasons(
-    writer: &mut Writer,
-    alloc: Global,
-    plan: &Plan,
-    proved: &Proved,
-    names: &[&StepKey],
-) -> Result<(), AllocError>
-    ensures before { OnOk result (writer.new.before ≡ writer.old.before) }
-    ensures tokens { OnOk result
-        (writer.new.tokens ≡ writer.old.tokens ++ reasons_value (plan_view plan.now) names.now proved.now) }
-{
-    match proved {
-        Proved::OneReport | Proved::NearReport => writer.null(),
-        Proved::Neither(gaps) => write_each(writer, alloc, plan, gaps, names),
-    }
-}
-
-/// Writes the reasons, each with a member for its kind.
-#[tactic(auto, unfolding(crate::specs::RaceJson::gaps_object))]
-fn write_each(
-    writer: &mut Writer,
-    alloc: Global,
-    plan: &Plan,
-    gaps: &Gaps,
-    names: &[&StepKey],
-) -> Result<(), AllocError>
-    ensures before { OnOk result (writer.new.before ≡ writer.old.before) }
-    ensures tokens { OnOk result
-        (writer.new.tokens ≡ writer.old.tokens ++ gaps_object (plan_view plan.now) names.now gaps.now) }
-{
-    writer.begin_object()?;
-    writer.key("fails")?;
-    write_fails(writer, alloc, plan, &gaps.fails, names)?;
-    writer.key("numbers")?;
-    write_numbers(writer, plan, gaps.numbers)?;
-    writer.end_object()
-}
-
-/// Writes the computes that fail alike, or null if there are none.
-fn write_fails(
-    writer: &mut Writer,
-    alloc: Global,
-    plan: &Plan,
-    fails: &Option<Race>,
-    names: &[&StepKey],
-) -> Result<(), AllocError>
-    ensures before { OnOk result (writer.new.before ≡ writer.old.before) }
-    ensures tokens { OnOk result
-        (writer.new.tokens ≡ writer.old.tokens ++ fails_value (plan_view plan.now) names.now fails.now) }
-{
-    match fails {
-        None => writer.null(),
-        Some(fails) => write_race(writer, alloc, plan, fails, names),
-    }
-}
-
-/// Writes how many numbers there are, or null if the steps do not draw as many.
-fn write_numbers(writer: &mut Writer, plan: &Plan, drawn: bool) -> Result<(), AllocError>
-    ensures before { OnOk result (writer.new.before ≡ writer.old.before) }
-    ensures tokens { OnOk result
-        (writer.new.tokens ≡ writer.old.tokens ++ numbers_value (plan_view plan.now) drawn ∷ []) }
-{
-    if drawn {
-        writer.u64(u64::from(plan.size.numbers()))
-    } else {
-        writer.null()
     }
 }
 
@@ -318,7 +213,7 @@ fn write_limit(writer: &mut Writer, plan: &Plan, found: &Found<'_>) -> Result<()
     match found {
         Found::TooManyKeys => write_most(writer, "keys", plan.key_places as u64),
         Found::TooManyNumbers => write_most(writer, "numbers", u64::from(plan.size.numbers())),
-        Found::Races { .. } | Found::NoRaces { .. } => writer.null(),
+        Found::Races { .. } | Found::NoRaces(_) => writer.null(),
     }
 }
 

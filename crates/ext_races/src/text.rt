@@ -5,9 +5,9 @@ ghost use Rattle.std.specs.List.{flat_map, slice_get};
 ghost use Rattle.ext_model.specs.Sizes.{most_numbers};
 ghost use Rattle.ext_plan.specs.Plans.{plan_view, step_key_view};
 ghost use Rattle.ext_plan.specs.StepCalls.{label_of};
-ghost use Rattle.ext_races.specs.RaceLines.{fails_if, found_text, id_of_node, line_limit, name_if, numbers_if, proved_text, race_line, race_lines, side_text};
+ghost use Rattle.ext_races.specs.RaceLines.{found_text, id_of_node, line_limit, name_if, proved_text, race_line, race_lines, side_text};
 
-use crate::{Found, Gaps, Proved, Race, Side};
+use crate::{Found, Proved, Race, Side};
 use ext_model::{ContextNo, KeyNo};
 use ext_plan::{Plan, StepKey};
 use std::alloc::{AllocError, Global};
@@ -17,9 +17,8 @@ pub(crate) const LINES: usize = 20;
 
 /// Returns the text of what `races` found, in which each of the first 20 races has a line. Such a
 /// line is `put a of [engine:x]/[test:m] and want a of [engine:x]/[test:n] in [engine:x]`. The line
-/// `and more` follows if there are more. If there are none, the first line is `no races: one
-/// report`, `no races: one report but for computed and found`, or `no races: one report is not
-/// proved`, after which each kind of reason has a line. If the plan exceeds a limit, the only line
+/// `and more` follows if there are more. If there are none, the only line is `no races: one report`
+/// or `no races: one report but for computed and found`. If the plan exceeds a limit, the only line
 /// names it.
 ///
 /// Takes memory for the text, and fails with `AllocError` only if that is refused.
@@ -33,9 +32,7 @@ pub fn races_text(alloc: Global, plan: &Plan, found: &Found<'_>) -> Result<Strin
         Found::Races { races, names } => {
             push_races(&mut text, plan, races.as_slice(), names.as_slice())?;
         }
-        Found::NoRaces { proved, names } => {
-            push_proved(&mut text, plan, proved, names.as_slice())?;
-        }
+        Found::NoRaces(proved) => push_proved(&mut text, proved)?,
     }
     Ok(text)
 }
@@ -116,65 +113,13 @@ fn push_race(
 }
 
 /// Adds what is proved of a plan without races.
-fn push_proved(
-    text: &mut String,
-    plan: &Plan,
-    proved: &Proved,
-    names: &[&StepKey],
-) -> Result<(), AllocError>
-    ensures { OnOk result (string_bytes text.new ≡ string_bytes text.old ++ proved_text (plan_view plan.now) names.now proved.now) }
+fn push_proved(text: &mut String, proved: &Proved) -> Result<(), AllocError>
+    ensures { OnOk result (string_bytes text.new ≡ string_bytes text.old ++ proved_text proved.now) }
 {
     match proved {
         Proved::OneReport => text.push_str("no races: one report\n"),
         Proved::NearReport => text.push_str("no races: one report but for computed and found\n"),
-        Proved::Neither(gaps) => push_gaps(text, plan, gaps, names),
     }
-}
-
-/// Adds why no report is proved.
-fn push_gaps(
-    text: &mut String,
-    plan: &Plan,
-    gaps: &Gaps,
-    names: &[&StepKey],
-) -> Result<(), AllocError>
-    ensures { OnOk result (string_bytes text.new ≡ string_bytes text.old ++ codes "no races: one report is not proved\n" ++ fails_if (plan_view plan.now) names.now gaps.now.fails ++ numbers_if (plan_view plan.now) gaps.now.numbers) }
-{
-    text.push_str("no races: one report is not proved\n")?;
-    push_fails(text, plan, &gaps.fails, names)?;
-    push_drawn(text, plan, gaps.numbers)
-}
-
-/// Adds the computes that fail alike, if there are any.
-fn push_fails(
-    text: &mut String,
-    plan: &Plan,
-    fails: &Option<Race>,
-    names: &[&StepKey],
-) -> Result<(), AllocError>
-    ensures { OnOk result (string_bytes text.new ≡ string_bytes text.old ++ fails_if (plan_view plan.now) names.now fails.now) }
-{
-    match fails {
-        None => Ok(()),
-        Some(fails) => {
-            text.push_str("the same beside one another: ")?;
-            push_race(text, plan, fails, names)
-        }
-    }
-}
-
-/// Adds how many numbers there are, if the steps may draw as many.
-fn push_drawn(text: &mut String, plan: &Plan, drawn: bool) -> Result<(), AllocError>
-    ensures { OnOk result (string_bytes text.new ≡ string_bytes text.old ++ numbers_if (plan_view plan.now) drawn) }
-{
-    if !drawn {
-        return Ok(());
-    }
-    write!(
-        text,
-        "as many numbers as there are: {}\n",
-        plan.size.numbers()
-    )
 }
 
 /// Adds a step's word, its key's name and its node's id.

@@ -103,7 +103,7 @@ pub(crate) fn touch_first<'p>(
 impl Touch<'_> {
     ghost use Rattle.ext_races.specs.Clashes.{agree, clashes, closes_differ, may_fail};
     ghost use Rattle.ext_races.specs.InnerPassing.{alike};
-    ghost use Rattle.ext_races.specs.InnerProving.{compute_alike, computes_with};
+    ghost use Rattle.ext_races.specs.InnerProving.{computes_value, shares_value};
     ghost use Rattle.ext_races.specs.InnerTold.{touch_eq};
     ghost use Rattle.ext_races.specs.Races.{race_of, side_of};
 
@@ -142,19 +142,19 @@ impl Touch<'_> {
         self.acts.computes() && self.acts == other.acts && self.text == other.text
     }
 
-    /// Tests whether it computes its place with this word.
-    pub(crate) fn computes_with(&self, word: Word) -> bool
-        ensures { result ≡ computes_with word (touch_view self.now) }
+    /// Tests whether it computes a value of its place.
+    pub(crate) fn computes_value(&self) -> bool
+        ensures { result ≡ computes_value (touch_view self.now) }
     {
-        self.changes && self.word == word
+        self.changes && self.word.gives_value()
     }
 
-    /// Tests whether it computes one place with this word, and the other computes the same there or
+    /// Tests whether it computes a value of one place, and the other computes the same one there or
     /// finds it.
-    pub(crate) fn computes_alike(&self, other: &Touch<'_>, word: Word) -> bool
-        ensures { result ≡ compute_alike word (touch_view self.now) (touch_view other.now) }
+    pub(crate) fn shares_value(&self, other: &Touch<'_>) -> bool
+        ensures { result ≡ shares_value (touch_view self.now) (touch_view other.now) }
     {
-        self.computes_with(word)
+        self.computes_value()
             && self.context == other.context
             && self.key == other.key
             && self.agrees(other)

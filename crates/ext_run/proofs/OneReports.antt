@@ -7,7 +7,7 @@ use Rattle.ext_plan_reading.specs.Plans.{PlanText}
 use Rattle.ext_plan_reading.specs.ReadPlans.{IsReadPlan}
 use Rattle.ext_races.specs.OneReports.{HasNearReport, HasOneReport}
 use Rattle.ext_one_report.specs.OneReport.{AreNearReports}
-use Rattle.ext_one_report.specs.Shares.{AreToldNear, Open, shares_in}
+use Rattle.ext_one_report.specs.Shares.{AreToldNear, SharedValues, shares_in}
 use Rattle.ext_one_report.proofs.Near.{near_report, one_report}
 use Rattle.ext_one_report.proofs.ToldLacks.{tells_lacks}
 use Rattle.ext_plan_reading.specs.ReadPlans.{ids_of_nodes}
@@ -24,7 +24,7 @@ use Rattle.ext_run.specs.Reports.{IsReportOf, IsRunBy, RunReport, run_report_of}
 -- ---- results
 
 -- results are near to themselves
-near_itself : (shares : ℕ → Open) (results : List NodeOutcome) → AreNearReports shares results results
+near_itself : (shares : ℕ → SharedValues) (results : List NodeOutcome) → AreNearReports shares results results
 near_itself shares results = record {
   count = refl;
   computed = refl;
@@ -56,7 +56,7 @@ module _ (plan : PlanText) (lanes : ℕ) (results : List NodeOutcome) (lacked : 
 
 -- ---- forms that tell the sums alone
 
-module _ (shares : ℕ → Open) (here there : List NodeOutcome) (near : AreNearReports shares here there) where
+module _ (shares : ℕ → SharedValues) (here there : List NodeOutcome) (near : AreNearReports shares here there) where
   same_but_counts : map bare here ≡ map bare there
   same_but_counts = bare_lists here there near.count (λ node one other is also. (near.near node one other is also).same) (λ node one other is also. (near.near node one other is also).counts) near.computed
 

@@ -11,8 +11,8 @@ use Rattle.std.specs.Fmt.{decimal}
 use Rattle.std.specs.List.{count_by}
 use Rattle.ext_plan_reading.specs.Plans.{NodeText, PlanText}
 use Rattle.ext_run.specs.declared.fault.RunFault.{RunFault}
-use Rattle.ext_run.specs.declared.race_form.RaceForm.{RaceForm}
-use Rattle.ext_run.specs.declared.race_form.RaceForm.TheVariants as forms
+use Rattle.ext_run.specs.declared.list_form.ListForm.{ListForm}
+use Rattle.ext_run.specs.declared.list_form.ListForm.TheVariants as forms
 use Rattle.ext_run.specs.Reports.{RefusedBy}
 
 -- How many of the nodes are tests.
@@ -48,23 +48,23 @@ abbrev pub is_free : Found → Bool
 is_free found.TooManyKeys = false
 is_free found.TooManyNumbers = false
 is_free (found.Races races names) = false
-is_free (found.NoRaces proved names) = true
+is_free (found.NoRaces proved) = true
 
 -- What was found, in this form.
-abbrev pub races_as : RaceForm → PlanText → Found → List ℕ
-races_as forms.Text plan told = found_text plan told
+abbrev pub races_as : ListForm → PlanText → Found → List ℕ
+races_as forms.Lines plan told = found_text plan told
 races_as forms.Json plan told = found_json plan told
 
 -- What is written of a plan's races, or of what is proved of a plan without any; and whether there is one or a limit
 -- was passed.
-pub record TellsRaces (form : RaceForm) (plan : PlanText) (text : List ℕ) (failed : Bool) : Type 0 where
+pub record TellsRaces (form : ListForm) (plan : PlanText) (text : List ℕ) (failed : Bool) : Type 0 where
   pub told : Found
   pub races : IsFound plan race_limit told
   pub text_is : text ≡ races_as form plan told
   pub failed_is : failed ≡ not (is_free told)
 
 -- The same of what was read. A refused plan has no races.
-abbrev pub IsRacesOf : RaceForm → Result PlanText RunFault → List ℕ → Bool → Type 0
+abbrev pub IsRacesOf : ListForm → Result PlanText RunFault → List ℕ → Bool → Type 0
 IsRacesOf form (Ok plan) text failed = TellsRaces form plan text failed
 IsRacesOf form (Err fault) text failed = ⊥
 

@@ -12,7 +12,7 @@
 --     {"lost":true}
 --
 -- The format is not from JUnit.
-use Rattle.std.specs.Prelude.{ℕ, Bool, codes, List, [], ◌∷◌, ◌++◌, if◌then◌else◌, string_bytes}
+use Rattle.std.specs.Prelude.{ℕ, codes, List, [], ◌∷◌, ◌++◌, string_bytes}
 use Rattle.json.specs.Token.{Token, begin_object, end_object, key, null}
 use Rattle.json.specs.Print.{print}
 use Rattle.ext_ids.specs.Grammar.{Pair, id_text}
@@ -20,12 +20,9 @@ use Rattle.ext_lifecycle.specs.declared.call.Kind.{Kind}
 use Rattle.ext_lifecycle.specs.declared.call.Kind.TheVariants as kinds
 use Rattle.ext_lifecycle.specs.declared.fault_place.FaultPlace.{FaultPlace}
 use Rattle.ext_lifecycle.specs.declared.fault_place.FaultPlace.TheVariants as places
-use Rattle.ext_plan_reading.specs.Plans.{PlanText}
 use Rattle.ext_races.specs.RaceJson.{text_member}
 use Rattle.ext_report.specs.JsonLines.{count_member}
-use Rattle.ext_run.specs.Failures.{listed}
 use Rattle.ext_run.specs.declared.failures.NodeFault.{NodeFault}
-use Rattle.ext_run.specs.declared.failures.ToldFaults.{ToldFaults}
 use Rattle.ext_tree.specs.Trees.{Id, id_at}
 
 -- A member that does not apply.
@@ -63,10 +60,3 @@ module _ (ids : List Id) where
 
   abbrev pub failure_json : List Pair → NodeFault → List ℕ
   failure_json id fault = print (failure_object id fault) ++ codes "\n"
-
-abbrev pub lost_json : Bool → List ℕ
-lost_json are_lost = if are_lost then codes "{\"lost\":true}\n" else []
-
--- All faults as objects.
-abbrev pub json_in : ToldFaults → PlanText → List ℕ
-json_in = listed failure_json lost_json

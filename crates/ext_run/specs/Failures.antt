@@ -1,6 +1,6 @@
 -- What is listed once more of nodes that failed or were aborted: a line `ID: FAULT (PLACE)` for each fault that was
 -- reported for a node. Texts are lists of bytes. JUnit has no such list.
-use Rattle.std.specs.Prelude.{◌≡◌, ℕ, zero, suc, Bool, true, ◌==◌, codes, List, [], ◌∷◌, ◌++◌, length, if◌then◌else◌, string_bytes}
+use Rattle.std.specs.Prelude.{◌≡◌, ℕ, zero, suc, true, ◌==◌, codes, List, [], ◌∷◌, ◌++◌, length, if◌then◌else◌, string_bytes}
 use Rattle.std.specs.Fmt.{decimal}
 use Rattle.std.specs.List.{flat_map}
 use Rattle.ext_ids.specs.Grammar.{Pair, id_text}
@@ -9,8 +9,6 @@ use Rattle.ext_lifecycle.specs.declared.call.Kind.TheVariants as kinds
 use Rattle.ext_lifecycle.specs.declared.fault_place.FaultPlace.{FaultPlace}
 use Rattle.ext_lifecycle.specs.declared.fault_place.FaultPlace.TheVariants as places
 use Rattle.ext_tree.specs.Trees.{Id, id_at}
-use Rattle.ext_plan_reading.specs.Plans.{PlanText}
-use Rattle.ext_plan_reading.specs.ReadPlans.{ids_of_nodes}
 use Rattle.ext_run.specs.declared.failures.NodeFault.{NodeFault}
 use Rattle.ext_run.specs.declared.failures.ToldFaults.{ToldFaults}
 
@@ -74,15 +72,3 @@ module _ (line : Listing) where
     -- The faults of all nodes.
     abbrev pub failures_of : List NodeFault → List ℕ
     failures_of faults = failures_below faults (length ids)
-
--- What is listed of a plan's faults, in a form that has a line of each, and one behind them if faults were lost.
-abbrev pub listed : (List Id → Listing) → (Bool → List ℕ) → ToldFaults → PlanText → List ℕ
-listed line behind told plan =
-    failures_of (line (ids_of_nodes plan.nodes)) (ids_of_nodes plan.nodes) told.faults.items ++ behind told.lost
-
-abbrev pub lost_line : Bool → List ℕ
-lost_line are_lost = if are_lost then codes "further faults were lost: no memory\n" else []
-
--- All faults as lines.
-abbrev pub told_in : ToldFaults → PlanText → List ℕ
-told_in = listed failure_line lost_line

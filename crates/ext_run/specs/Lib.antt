@@ -1,6 +1,7 @@
 pub mod Reports
 pub mod Checks
 pub mod Drawings
+pub mod FailureForms
 pub mod FailureJson
 pub mod Failures
 pub mod IdText

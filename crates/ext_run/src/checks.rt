@@ -5,17 +5,17 @@ ghost use Rattle.ext_plan_reading.specs.Plans.{nodes_view, plan_view};
 ghost use Rattle.ext_run.specs.Reports.{input_limit, plan_of_bytes, plan_of_input};
 ghost use Rattle.ext_plan_reading.specs.ReadPlans.{IsRunnablePlan};
 ghost use Rattle.ext_races.specs.Touches.{keys_named};
-ghost use Rattle.ext_run.specs.Checks.{counts_line, IsCountsOf, IsRacesOf, RefusedUnrun, TellsRaces, is_free, keys_explained, line_of_keys, raise_line, test_count};
+ghost use Rattle.ext_run.specs.Checks.{counts_line, IsCountsOf, IsRacesOf, RefusedUnrun, TellsRaces, is_free, keys_explained, line_of_keys, races_as, raise_line, test_count};
 ghost use Rattle.ext_run.specs.InnerOutputs.{ChecksAs};
 
 use crate::fault::RunFault;
 use crate::input::read_input;
+use crate::list_form::ListForm;
 use crate::options::Summary;
-use crate::race_form::{RaceForm, races_as};
 use crate::runs::write_whole;
 use ext_model::Size;
 use ext_plan_reading::{Plan, PlanFault, PlanNode, read_plan_within};
-use ext_races::{Found, count_keys, races};
+use ext_races::{Found, count_keys, races, races_json, races_text};
 use std::alloc::{AllocError, Global};
 use std::io::{Read, Write};
 
@@ -54,11 +54,11 @@ pub fn check<I: Read, W: Write>(
 }
 
 /// Reads a plan of at most this size and writes its races, without running it. Each of the first 20
-/// races has a line, and `and more` follows if there are others. If there are none, the first line
-/// begins with `no races`, and says whether `run` promises one report of the plan; if it does not,
-/// lines with the reasons follow. One line names the limit if the steps name more keys than there
-/// are places, or may draw more numbers than there are (`ext_races::races_text`). As JSON one object
-/// tells the same. In the summary, `failed` tells whether there is a race or a limit is exceeded.
+/// races has a line, and `and more` follows if there are others. If there are none, the only line
+/// says what `run` promises of the plan's report. One line names the limit if the steps name more
+/// keys than there are places, or may draw more numbers than there are (`ext_races::races_text`). As
+/// JSON one object tells the same. In the summary, `failed` tells whether there is a race or a limit
+/// is exceeded.
 ///
 /// It reads like `run`, and is refused like `check`.
 ///
@@ -70,7 +70,7 @@ pub fn check_races<I: Read, W: Write>(
     reader: &mut I,
     writer: &mut W,
     size: Size,
-    form: RaceForm,
+    form: ListForm,
 ) -> Result<Summary, RunFault>
     ensures written { IfOk result (λ summary. IfSome (I.remaining reader.old) (λ input. (text : List ℕ)
         × IsRacesOf form (plan_of_input size input) text summary.failed
@@ -98,7 +98,7 @@ fn races_of(
     alloc: Global,
     input: &[u8],
     size: Size,
-    form: RaceForm,
+    form: ListForm,
 ) -> Result<(Vec<u8>, bool), RunFault>
     ensures told { IfOk result (λ told. IsRacesOf form (plan_of_bytes size input.now) told.0.items told.1) }
     ensures refused { IfErr result (λ fault. RefusedUnrun fault (plan_of_bytes size input.now)) }
@@ -115,7 +115,7 @@ fn races_of(
 }
 
 /// The text of a plan's races, and whether there is one or a limit is exceeded.
-fn races_in(alloc: Global, plan: &Plan, form: RaceForm) -> Result<(Vec<u8>, bool), AllocError>
+fn races_in(alloc: Global, plan: &Plan, form: ListForm) -> Result<(Vec<u8>, bool), AllocError>
     requires { IsRunnablePlan (plan_view plan.now) }
     ensures { IfOk result (λ told. TellsRaces form (plan_view plan.now) told.0.items told.1) }
 {
@@ -123,12 +123,27 @@ fn races_in(alloc: Global, plan: &Plan, form: RaceForm) -> Result<(Vec<u8>, bool
     Ok((races_as(alloc, form, plan, &found)?, !is_free(&found)))
 }
 
+/// What was found of a plan's races in this form, as UTF-8 bytes.
+fn races_as(
+    alloc: Global,
+    form: ListForm,
+    plan: &Plan,
+    found: &Found<'_>,
+) -> Result<Vec<u8>, AllocError>
+    ensures { IfOk result (λ bytes. bytes.items ≡ races_as form (plan_view plan.now) found.now) }
+{
+    match form {
+        ListForm::Lines => Ok(races_text(alloc, plan, found)?.into_bytes()),
+        ListForm::Json => races_json(alloc, plan, found),
+    }
+}
+
 /// Tests whether the plan has no race and exceeds no limit.
 fn is_free(found: &Found<'_>) -> bool
     ensures { result ≡ is_free found.now }
 {
     match found {
-        Found::NoRaces { .. } => true,
+        Found::NoRaces(_) => true,
         Found::Races { .. } | Found::TooManyKeys | Found::TooManyNumbers => false,
     }
 }

@@ -5,15 +5,16 @@ ghost use Rattle.ext_plan_reading.specs.Plans.{plan_view};
 ghost use Rattle.ext_plan_reading.specs.ReadPlans.{IsRunnablePlan};
 ghost use Rattle.ext_run.specs.Reports.{plan_of_bytes};
 ghost use Rattle.ext_report.specs.Groups.{shown};
-ghost use Rattle.ext_run.specs.FailureJson.{json_in};
-ghost use Rattle.ext_run.specs.Failures.{IsAdded, NotesFault, call_text, callback_of, failure_line, failures_of, place_text, told_in};
-ghost use Rattle.ext_run.specs.InnerFailures.{failures_in, line_in, lines_of, listed_in, lost_in, nodes_of};
+ghost use Rattle.ext_run.specs.FailureForms.{line_in, lost_as, lost_line, told_as};
+ghost use Rattle.ext_run.specs.Failures.{IsAdded, NotesFault, call_text, callback_of, failure_line, failures_of, place_text};
+ghost use Rattle.ext_run.specs.InnerFailures.{failures_in, lines_of, nodes_of};
 ghost use Rattle.ext_run.specs.Drawings.{TextAs};
 ghost use Rattle.ext_tree.specs.Trees.{id_at};
 ghost use Rattle.ext_ids.specs.Grammar.{id_text};
 
 use crate::failure_json::write_object;
 use crate::fault::RunFault;
+use crate::list_form::ListForm;
 use ext_ids::UniqueId;
 use ext_lifecycle::{Call, FaultPlace, Kind, RunListener};
 use ext_model::{ContextNo, Fault, Size};
@@ -137,20 +138,17 @@ impl<R: Wait, L: RunListener> RunListener for Failures<'_, R, L> {
     }
 }
 
-/// The form in which faults are told.
-#[derive(Clone, Copy, Debug, PartialEq, Eq)]
-pub(crate) enum FaultForm {
-    /// A line for each.
-    Lines,
-    /// An object of JSON for each, on a line.
-    Json,
-}
-
-/// Returns the faults that were reported of a plan's nodes, as lines `ID: FAULT (PLACE)`. The place
-/// is for instance `test, step 1` or `before_each 0 of [engine:x], step 1`, or `close` for a value
-/// that could not be closed. The nodes are in the order of the plan, and the faults of each node in
-/// the order in which they were reported. A last line says that faults were lost, if some were. The
-/// bytes are the plan's, which is of at most this size, as a run reads them.
+/// Returns the faults that were reported of a plan's nodes, each on a line. The nodes are in the
+/// order of the plan, and the faults of each node in the order in which they were reported. A last
+/// line says that faults were lost, if some were (`lost_line`). The bytes are the plan's, which is
+/// of at most this size, as a run reads them.
+///
+/// A line is `ID: FAULT (PLACE)`. The place is for instance `test, step 1` or `before_each 0 of
+/// [engine:x], step 1`, or `close` for a value that could not be closed. As JSON it is an object
+/// with the members `id`, `fault`, `call`, `index`, `of` and `step`, in this order. `call` is the
+/// field of a callback, `test` or `close`. `index` is the callback's number among those of its
+/// field, and `of` the id of the node that registered it: both are null if it is none. `step` is
+/// null for `close`.
 ///
 /// Refused as `Plan` if the plan is refused, and as `Memory` if memory for the plan's tree, for a
 /// list of each node's faults or for the text is. Takes memory for these and for the plan.
@@ -159,40 +157,9 @@ pub fn failures_text(
     input: &[u8],
     size: Size,
     told: &ToldFaults,
+    form: ListForm,
 ) -> Result<String, RunFault>
-    ensures { TextAs string_bytes (told_in told.now) result (plan_of_bytes size input.now) }
-{
-    text_in(alloc, input, size, told, FaultForm::Lines)
-}
-
-/// Returns the faults that were reported of a plan's nodes, as objects of JSON on a line each. They
-/// are those of `failures_text`, in the same order. An object has the members `id`, `fault`, `call`,
-/// `index`, `of` and `step`, in this order. `call` is the field of a callback, `test` or `close`.
-/// `index` is the callback's number among those of its field, and `of` the id of the node that
-/// registered it: both are null if it is none. `step` is null for `close`. If faults were lost, the
-/// last line is `{"lost":true}`.
-///
-/// Refused like `failures_text`, and takes memory for the same.
-pub fn failures_json(
-    alloc: Global,
-    input: &[u8],
-    size: Size,
-    told: &ToldFaults,
-) -> Result<String, RunFault>
-    ensures { TextAs string_bytes (json_in told.now) result (plan_of_bytes size input.now) }
-{
-    text_in(alloc, input, size, told, FaultForm::Json)
-}
-
-/// All faults in this form.
-fn text_in(
-    alloc: Global,
-    input: &[u8],
-    size: Size,
-    told: &ToldFaults,
-    form: FaultForm,
-) -> Result<String, RunFault>
-    ensures { TextAs string_bytes (listed_in form told.now) result (plan_of_bytes size input.now) }
+    ensures { TextAs string_bytes (told_as form told.now) result (plan_of_bytes size input.now) }
 {
     let mut text = failures_in(alloc, input, size, told.faults.as_slice(), form)?;
     write_lost(&mut text, told.lost, form)?;
@@ -200,15 +167,23 @@ fn text_in(
 }
 
 /// Writes the line that faults were lost at the end of a text, if some were.
-fn write_lost(text: &mut String, lost: bool, form: FaultForm) -> Result<(), AllocError>
-    ensures { OnOk result (string_bytes text.new ≡ string_bytes text.old ++ lost_in form lost) }
+fn write_lost(text: &mut String, lost: bool, form: ListForm) -> Result<(), AllocError>
+    ensures { OnOk result (string_bytes text.new ≡ string_bytes text.old ++ lost_as form lost) }
 {
     if !lost {
         return Ok(());
     }
+    text.push_str(lost_line(form))?;
+    text.push_str("\n")
+}
+
+/// Returns the line that faults were lost for want of memory, with no line feed.
+pub fn lost_line(form: ListForm) -> &'static str
+    ensures { result.now ≡ lost_line form }
+{
     match form {
-        FaultForm::Lines => text.push_str("further faults were lost: no memory\n"),
-        FaultForm::Json => text.push_str("{\"lost\":true}\n"),
+        ListForm::Lines => "further faults were lost: no memory",
+        ListForm::Json => "{\"lost\":true}",
     }
 }
 
@@ -219,7 +194,7 @@ fn failures_in(
     input: &[u8],
     size: Size,
     faults: &[NodeFault],
-    form: FaultForm,
+    form: ListForm,
 ) -> Result<String, RunFault>
     ensures { TextAs string_bytes (failures_in form faults.now) result (plan_of_bytes size input.now) }
 {
@@ -237,7 +212,7 @@ fn failures_of_plan(
     alloc: Global,
     plan: &Plan,
     faults: &[NodeFault],
-    form: FaultForm,
+    form: ListForm,
 ) -> Result<String, AllocError>
     requires { IsRunnablePlan (plan_view plan.now) }
     ensures { IfOk result (λ text. string_bytes text ≡ failures_in form faults.now (plan_view plan.now)) }
@@ -251,7 +226,7 @@ fn failures_of_tree(
     alloc: Global,
     tree: &Tree,
     faults: &[NodeFault],
-    form: FaultForm,
+    form: ListForm,
 ) -> Result<String, AllocError>
     ensures { IfOk result (λ text. string_bytes text ≡ failures_of (line_in form tree.now) tree.now faults.now) }
 {
@@ -289,7 +264,7 @@ fn write_failures(
     tree: &Tree,
     id: &UniqueId,
     faults: &[&NodeFault],
-    form: FaultForm,
+    form: ListForm,
 ) -> Result<(), AllocError>
     ensures { OnOk result (string_bytes text.new ≡ string_bytes text.old ++ lines_of (line_in form tree.now) id.now (shown faults.now)) }
 {
@@ -306,13 +281,13 @@ fn write_in_form(
     tree: &Tree,
     id: &UniqueId,
     fault: &NodeFault,
-    form: FaultForm,
+    form: ListForm,
 ) -> Result<(), AllocError>
     ensures { OnOk result (string_bytes text.new ≡ string_bytes text.old ++ line_in form tree.now id.now fault.now) }
 {
     match form {
-        FaultForm::Lines => write_failure(text, tree, id, fault),
-        FaultForm::Json => write_object(text, alloc, tree, id, fault),
+        ListForm::Lines => write_failure(text, tree, id, fault),
+        ListForm::Json => write_object(text, alloc, tree, id, fault),
     }
 }
 

@@ -6,8 +6,7 @@
 //! answers to its input.
 //!
 //! `check` reads a plan without running it, `check_lint` notes its mistakes, and `draw` draws it.
-//! `Failures` keeps the faults that a run reports, and `failures_text` and `failures_json` repeat
-//! them. `read_input`,
+//! `Failures` keeps the faults that a run reports, and `failures_text` repeats them. `read_input`,
 //! `faults_of_plan`, `explain` and `explain_keys` serve callers that say why a plan was refused, or
 //! a key had no place. `read_id` writes the lines of an id, `make_id` that of one made of parts, and
 //! `status_of` is the exit status of a program for any of these requests. This crate also exports
@@ -25,9 +24,9 @@ mod fault;
 mod id_lines;
 mod input;
 mod linting;
+mod list_form;
 mod options;
 mod plan_faults;
-mod race_form;
 mod request_fault;
 mod results;
 mod runs;
@@ -45,13 +44,13 @@ pub use ext_plan_reading::{
 };
 pub use ext_report::ReportForm;
 pub use ext_tree::Tree;
-pub use failures::{Failures, NodeFault, ToldFaults, failures_json, failures_text};
+pub use failures::{Failures, NodeFault, ToldFaults, failures_text, lost_line};
 pub use fault::RunFault;
 pub use id_lines::{id_text, make_id, read_id};
 pub use input::read_input;
 pub use linting::check_lint;
+pub use list_form::ListForm;
 pub use options::{Options, Summary};
 pub use plan_faults::faults_of_plan;
-pub use race_form::RaceForm;
 pub use request_fault::{RequestFault, status_of};
 pub use runs::{report_text, run, run_with_listener};

@@ -3,8 +3,8 @@
 use Rattle.std.specs.Prelude.{◌≡◌, ◌≢◌, ◌&&◌, ◌||◌, not, ℕ, Bool, true, false, codes, List, [], ◌∷◌, map, Option, Some, None, if◌then◌else◌, is_some, option_map, string_bytes, unwrap_or}
 use Rattle.clap.specs.Walk.{Row, Text, all_of, first_of, one_of}
 use Rattle.ext_model.specs.declared.size.Size.{Size}
-use Rattle.ext_run.specs.declared.race_form.RaceForm.{RaceForm}
-use Rattle.ext_run.specs.declared.race_form.RaceForm.TheVariants as forms
+use Rattle.ext_run.specs.declared.list_form.ListForm.{ListForm}
+use Rattle.ext_run.specs.declared.list_form.ListForm.TheVariants as forms
 use Rattle.extrun.specs.Flags.{IsFlag, IsSize}
 use Rattle.extrun.specs.RunWords.{AsksRun, wordless_run}
 use Rattle.extrun.specs.declared.command.Request.{Request}
@@ -18,7 +18,7 @@ checks_all other size = if other then None else Some (tasks.CheckAll size)
 
 -- What `check` does by three of its flags: list the races of a plan of this size in this form, draw it, or check it,
 -- with all faults or the first. Each flag excludes the others.
-abbrev pub check_as : Bool → Bool → Bool → RaceForm → Size → Option Task
+abbrev pub check_as : Bool → Bool → Bool → ListForm → Size → Option Task
 check_as races tree all form size =
     if races && tree then None
     else if all then checks_all (races || tree) size
@@ -27,22 +27,22 @@ check_as races tree all form size =
     else Some (tasks.Check size)
 
 -- The same by a fourth flag, which excludes the others: to note what is most likely a mistake.
-abbrev pub check_with : Bool → Bool → Bool → Bool → RaceForm → Size → Option Task
+abbrev pub check_with : Bool → Bool → Bool → Bool → ListForm → Size → Option Task
 check_with lint races tree all form size =
     if not lint then check_as races tree all form size
     else if races || tree || all then None
     else Some (tasks.Lint size)
 
 -- The same where a form may be asked for, which is only that of races. Without one they are lines.
-abbrev pub check_in : Option RaceForm → Bool → Bool → Bool → Bool → Size → Option Task
+abbrev pub check_in : Option ListForm → Bool → Bool → Bool → Bool → Size → Option Task
 check_in form lint races tree all size =
-    if is_some form && not races then None else check_with lint races tree all (unwrap_or form forms.Text) size
+    if is_some form && not races then None else check_with lint races tree all (unwrap_or form forms.Lines) size
 
 -- The form of races that the text after `--report` asks for, if there is one.
-pub record IsRaceForm (text : Option Text) (form : Option RaceForm) : Type 0 where
+pub record IsListForm (text : Option Text) (form : Option ListForm) : Type 0 where
   pub none : text ≡ None → form ≡ None
   pub object : text ≡ Some (codes "json") → form ≡ Some forms.Json
-  pub lines : (t : Text) → text ≡ Some t → t ≢ codes "json" → form ≡ Some forms.Text
+  pub lines : (t : Text) → text ≡ Some t → t ≢ codes "json" → form ≡ Some forms.Lines
 
 -- To do such a task with the plan of the named file, or of standard input. It is explained why it is not done if
 -- `--explain` is set, and only then if `--brief` is.
@@ -69,13 +69,13 @@ pub record AsksCheck (rows : List Row) (request : Request) : Type 0 where
   pub tree : Bool
   pub all : Bool
   pub lint : Bool
-  pub form : Option RaceForm
+  pub form : Option ListForm
   pub size : Size
   pub told : IsFlag (one_of (codes "races") rows) races
   pub drawn : IsFlag (one_of (codes "tree") rows) tree
   pub whole : IsFlag (one_of (codes "all") rows) all
   pub noted : IsFlag (one_of (codes "lint") rows) lint
-  pub written : IsRaceForm (first_of (codes "report") rows) form
+  pub written : IsListForm (first_of (codes "report") rows) form
   pub asked : IsSize rows size
   pub asks : AsksTask rows (check_in form lint races tree all size) request
 

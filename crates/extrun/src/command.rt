@@ -8,7 +8,7 @@ ghost use Rattle.clap.specs.Simple.{subcommand_rows_of};
 ghost use Rattle.clap.specs.Walk.{rows_of};
 ghost use Rattle.extrun.specs.CommandLine as line;
 ghost use Rattle.extrun.specs.CommandLine.{AsksBy, AsksNothing, IsCheck, IsCommandLine, IsRun};
-ghost use Rattle.extrun.specs.CommandWords.{AsksCheck, AsksCommand, AsksFor, AsksId, AsksOfPlan, AsksOfTexts, IsMakingOf, IsRaceForm, check_as, check_in, check_with, checks_all};
+ghost use Rattle.extrun.specs.CommandWords.{AsksCheck, AsksCommand, AsksFor, AsksId, AsksOfPlan, AsksOfTexts, IsMakingOf, IsListForm, check_as, check_in, check_with, checks_all};
 ghost use Rattle.extrun.specs.Flags.{IsFlag, IsSize, size_of};
 ghost use Rattle.extrun.specs.RunWords.{AreOptions, AsksBeside, AsksForm, AsksRun, IsColor, IsForm, IsLaneCount, color_choice, form_of, wordless_run};
 
@@ -21,7 +21,7 @@ use crate::color::ColorChoice;
 use crate::help::{AFTER_HELP, VERSION};
 use clap::error::ErrorKind;
 use clap::{ArgMatches, Command, Error};
-use ext_run::{Options, RaceForm, ReportForm, Size};
+use ext_run::{ListForm, Options, ReportForm, Size};
 use std::alloc::{AllocError, Global};
 use std::io;
 use std::rt::Env;
@@ -79,7 +79,7 @@ pub(crate) enum Task {
     /// Writes its races in this form, if it is no larger than this.
     CheckRaces {
         size: Size,
-        form: RaceForm,
+        form: ListForm,
     },
     /// Writes its notes, if it is no larger than this.
     Lint(Size),
@@ -290,7 +290,7 @@ fn check_request<R: AllocGlobal + Eprint>(
     let tree = is_set(words, "tree");
     let all = is_set(words, "all");
     let lint = is_set(words, "lint");
-    let form = race_form_in(words);
+    let form = list_form_in(words);
     match check_in(form, lint, races, tree, all, size_in(words)) {
         Some(task) => plan_request(rt.alloc(), task, words),
         None => Ok(mistake(rt, clash_in(form, lint, races, tree))),
@@ -298,29 +298,29 @@ fn check_request<R: AllocGlobal + Eprint>(
 }
 
 /// The form of races by `--report`, if it is given.
-fn race_form_in(words: &ArgMatches<'_>) -> Option<RaceForm>
-    ensures { IsRaceForm (first_value (found_of words.now) (codes "report")) result }
+fn list_form_in(words: &ArgMatches<'_>) -> Option<ListForm>
+    ensures { IsListForm (first_value (found_of words.now) (codes "report")) result }
 {
     match words.get_str("report") {
         None => None,
-        Some(form) => Some(race_form_of(form)),
+        Some(form) => Some(list_form_of(form)),
     }
 }
 
-fn race_form_of(form: &str) -> RaceForm
-    ensures object { form.now ≡ codes "json" → result ≡ RaceForm.Json }
-    ensures lines { form.now ≢ codes "json" → result ≡ RaceForm.Text }
+fn list_form_of(form: &str) -> ListForm
+    ensures object { form.now ≡ codes "json" → result ≡ ListForm.Json }
+    ensures lines { form.now ≢ codes "json" → result ≡ ListForm.Lines }
 {
     if form == "json" {
-        RaceForm::Json
+        ListForm::Json
     } else {
-        RaceForm::Text
+        ListForm::Lines
     }
 }
 
 /// The task of `check` for a plan of this size by these flags. A form goes with `--races` alone.
 fn check_in(
-    form: Option<RaceForm>,
+    form: Option<ListForm>,
     lint: bool,
     races: bool,
     tree: bool,
@@ -332,12 +332,19 @@ fn check_in(
     if form.is_some() && !races {
         return None;
     }
-    check_with(lint, races, tree, all, form.unwrap_or(RaceForm::Text), size)
+    check_with(
+        lint,
+        races,
+        tree,
+        all,
+        form.unwrap_or(ListForm::Lines),
+        size,
+    )
 }
 
 /// Says which two words of `check` exclude each other, or that `--races` is missing for
 /// `--report`.
-fn clash_in(form: Option<RaceForm>, lint: bool, races: bool, tree: bool) -> &'static str {
+fn clash_in(form: Option<ListForm>, lint: bool, races: bool, tree: bool) -> &'static str {
     if form.is_some() && !races {
         "the argument '--report' cannot be used without '--races'"
     } else {
@@ -352,7 +359,7 @@ fn check_with(
     races: bool,
     tree: bool,
     all: bool,
-    form: RaceForm,
+    form: ListForm,
     size: Size,
 ) -> Option<Task>
     ensures { result ≡ check_with lint races tree all form size }
@@ -383,7 +390,7 @@ fn clash_with(lint: bool, races: bool, tree: bool) -> &'static str {
 /// The task of `check` for a plan of this size: with `--races` to write the plan's races in this
 /// form, with `--tree` to draw it, else to count, with `--all` to print all faults. Each flag
 /// excludes the others.
-fn check_as(races: bool, tree: bool, all: bool, form: RaceForm, size: Size) -> Option<Task>
+fn check_as(races: bool, tree: bool, all: bool, form: ListForm, size: Size) -> Option<Task>
     ensures { result ≡ check_as races tree all form size }
 {
     if races && tree {

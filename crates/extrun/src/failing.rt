@@ -2,17 +2,17 @@
 ghost use Rattle.std.specs.Prelude.{◌≡◌, ◌≢◌, ◌≤◌, false, string_bytes, IfErr, IfOk};
 ghost use Rattle.std.specs.Io.KnownBytes.{Appends};
 ghost use Rattle.ext_run.specs.Drawings.{TextAs};
-ghost use Rattle.ext_run.specs.FailureJson.{json_in};
-ghost use Rattle.ext_run.specs.Failures.{told_in};
+ghost use Rattle.ext_run.specs.FailureForms.{told_as};
 ghost use Rattle.ext_run.specs.Reports.{plan_of_bytes};
+ghost use Rattle.extrun.specs.Lines.{shown_text};
 ghost use Rattle.extrun.specs.Tasks.{IsOneReported, IsRefused, IsReported};
 
 use crate::command::Told;
 use crate::durations::run_timed;
 use crate::screen::shown_text;
 use ext_run::{
-    Failures, Options, ReportForm, RunFault, RunListener, Summary, ToldFaults, failures_json,
-    failures_text,
+    Failures, ListForm, Options, ReportForm, RunFault, RunListener, Size, Summary, ToldFaults,
+    failures_text, lost_line,
 };
 use std::alloc::Global;
 use std::io::Write;
@@ -77,17 +77,23 @@ fn tell_failures<R: AllocGlobal + Eprint>(
     faults: &ToldFaults,
     for_terminal: bool,
 ) {
-    let _ = match shown_failures(rt.alloc(), input, options, faults, for_terminal) {
+    let form = list_form_of(options.form);
+    let _ = match shown_failures(rt.alloc(), input, options.size, faults, form, for_terminal) {
         Ok(text) => eprint!(rt; "{}", text.as_str()),
-        Err(_) => eprintln!(rt; "{}", lost_of(options.form)),
+        Err(_) => eprintln!(rt; "{}", lost_line(form)),
     };
 }
 
-/// The line that faults were lost.
-fn lost_of(form: ReportForm) -> &'static str {
+/// The form of the faults beside a report: JSON if the report is.
+fn list_form_of(form: ReportForm) -> ListForm
+    ensures json { form ≡ ReportForm.Json → result ≡ ListForm.Json }
+    ensures lines { form ≢ ReportForm.Json → result ≡ ListForm.Lines }
+{
     match form {
-        ReportForm::Json => "{\"lost\":true}",
-        _ => "further faults were lost: no memory",
+        ReportForm::Json => ListForm::Json,
+        ReportForm::Text | ReportForm::Tree | ReportForm::Junit | ReportForm::Terminal { .. } => {
+            ListForm::Lines
+        }
     }
 }
 
@@ -95,28 +101,13 @@ fn lost_of(form: ReportForm) -> &'static str {
 fn shown_failures(
     alloc: Global,
     input: &[u8],
-    options: Options,
+    size: Size,
     faults: &ToldFaults,
+    form: ListForm,
     for_terminal: bool,
-) -> Result<String, RunFault> {
-    let text = faults_in(alloc, input, options, faults)?;
-    Ok(shown_text(alloc, text, for_terminal)?)
-}
-
-/// The faults of the plan's nodes: objects of JSON if the report is, and otherwise lines.
-fn faults_in(
-    alloc: Global,
-    input: &[u8],
-    options: Options,
-    faults: &ToldFaults,
 ) -> Result<String, RunFault>
-    ensures json { options.form ≡ ReportForm.Json → TextAs string_bytes (json_in faults.now) result (plan_of_bytes options.size input.now) }
-    ensures lines { options.form ≢ ReportForm.Json → TextAs string_bytes (told_in faults.now) result (plan_of_bytes options.size input.now) }
+    ensures { TextAs string_bytes (λ plan. shown_text for_terminal (told_as form faults.now plan)) result (plan_of_bytes size input.now) }
 {
-    match options.form {
-        ReportForm::Json => failures_json(alloc, input, options.size, faults),
-        ReportForm::Text | ReportForm::Tree | ReportForm::Junit | ReportForm::Terminal { .. } => {
-            failures_text(alloc, input, options.size, faults)
-        }
-    }
+    let text = failures_text(alloc, input, size, faults, form)?;
+    Ok(shown_text(alloc, text, for_terminal)?)
 }

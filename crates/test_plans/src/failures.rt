@@ -2,7 +2,7 @@
 use crate::same::same;
 use ext_model::{ContextNo, Fault};
 use ext_run::{
-    Call, Failures, FaultPlace, Kind, NoListener, RunListener, Size, ToldFaults, failures_json,
+    Call, Failures, FaultPlace, Kind, ListForm, NoListener, RunListener, Size, ToldFaults,
     failures_text,
 };
 use std::alloc::{AllocError, Global};
@@ -38,7 +38,7 @@ fn faults_are_told_once_more_by_node(rt: HostRuntime) -> Result<(), Fail> {
     failures.ended(2, 3);
     let told = failures.into_told();
     same(&rt, told.lost, false, "whether a fault was lost");
-    let text = failures_text(alloc, PLAN.as_bytes(), Size::Usual, &told)?;
+    let text = failures_text(alloc, PLAN.as_bytes(), Size::Usual, &told, ListForm::Lines)?;
     let wanted =
         "[e:x]/[m:1]: no memory (close)\n[e:x]/[m:2]: first (test, step 3)\n[e:x]/[m:2]: second (after_each 1 of [e:x], step 0)\n";
     same(&rt, text.as_str(), wanted, "the faults");
@@ -53,7 +53,7 @@ fn callbacks_are_told_by_their_field(rt: HostRuntime) -> Result<(), Fail> {
     told.note(alloc, 0, at(Kind::BeforeAll, 0, 2, 1), &Fault::Memory);
     told.note(alloc, 0, at(Kind::AfterAll, 0, 0, 4), &Fault::Memory);
     told.note(alloc, 1, at(Kind::BeforeEach, 1, 0, 0), &Fault::Memory);
-    let text = failures_text(alloc, PLAN.as_bytes(), Size::Usual, &told)?;
+    let text = failures_text(alloc, PLAN.as_bytes(), Size::Usual, &told, ListForm::Lines)?;
     let wanted =
         "[e:x]: no memory (before_all 2, step 1)\n[e:x]: no memory (after_all 0, step 4)\n[e:x]/[m:1]: no memory (before_each 0 of [e:x]/[m:1], step 0)\n";
     same(&rt, text.as_str(), wanted, "the faults");
@@ -68,7 +68,7 @@ const AS_JSON: &str =
 {"id":"[e:x]/[m:2]","fault":"second","call":"after_each","index":1,"of":"[e:x]","step":0}
 "#;
 
-/// Tests `failures_json`.
+/// Tests `failures_text`.
 #[test]
 fn faults_are_told_as_json(rt: HostRuntime) -> Result<(), Fail> {
     let alloc = rt.alloc();
@@ -83,19 +83,19 @@ fn faults_are_told_as_json(rt: HostRuntime) -> Result<(), Fail> {
     );
     told.note(alloc, 0, at(Kind::BeforeAll, 0, 2, 1), &Fault::Memory);
     told.note(alloc, 1, at(Kind::BeforeEach, 1, 0, 5), &Fault::Memory);
-    let text = failures_json(alloc, PLAN.as_bytes(), Size::Usual, &told)?;
+    let text = failures_text(alloc, PLAN.as_bytes(), Size::Usual, &told, ListForm::Json)?;
     same(&rt, text.as_str(), AS_JSON, "the faults");
     Ok(())
 }
 
-/// Tests `failures_json`.
+/// Tests `failures_text`.
 #[test]
 fn lost_faults_are_told_as_json(rt: HostRuntime) -> Result<(), Fail> {
     let alloc = rt.alloc();
     let mut told = ToldFaults::new(alloc);
     told.note(alloc, 0, at(Kind::AfterAll, 0, 0, 4), &Fault::Memory);
     told.lost = true;
-    let text = failures_json(alloc, PLAN.as_bytes(), Size::Usual, &told)?;
+    let text = failures_text(alloc, PLAN.as_bytes(), Size::Usual, &told, ListForm::Json)?;
     let wanted =
         "{\"id\":\"[e:x]\",\"fault\":\"no memory\",\"call\":\"after_all\",\"index\":0,\"of\":\"[e:x]\",\"step\":4}\n{\"lost\":true}\n";
     same(&rt, text.as_str(), wanted, "the faults");
@@ -149,7 +149,7 @@ fn lost_faults_are_told(rt: HostRuntime) -> Result<(), Fail> {
     let mut told = ToldFaults::new(alloc);
     told.note(alloc, 1, FaultPlace::Close, &Fault::Memory);
     told.lost = true;
-    let text = failures_text(alloc, PLAN.as_bytes(), Size::Usual, &told)?;
+    let text = failures_text(alloc, PLAN.as_bytes(), Size::Usual, &told, ListForm::Lines)?;
     let wanted = "[e:x]/[m:1]: no memory (close)\nfurther faults were lost: no memory\n";
     same(&rt, text.as_str(), wanted, "the faults");
     Ok(())

@@ -320,7 +320,7 @@ const PLANS: [([&str; 6], &str); 32] = [
             "",
             "test = []",
         ],
-        "no races: one report is not proved\nthe same beside one another: computefail a of [e:x]/[c:A]/[t:m] and computefail a of [e:x]/[c:A]/[t:n] in [e:x]/[c:A]\n",
+        ONE,
     ),
     // the values of A are computed
     (
@@ -332,7 +332,7 @@ const PLANS: [([&str; 6], &str); 32] = [
             "before_all = [['put! a bad2']]",
             "test = []",
         ],
-        "no races: one report is not proved\nthe same beside one another: computefail a of [e:x]/[c:A]/[t:m] and computefail a of [e:x]/[c:A]/[t:n] in [e:x]/[c:A]\n",
+        NEAR,
     ),
     // locks say that one goes first, and not which
     (
@@ -463,7 +463,7 @@ fn told_of_plan(alloc: Global, text: &str, size: Size) -> Result<Told, AllocErro
 }
 
 /// The fields of the six nodes, and the JSON that tells of the plan's races.
-const OBJECTS: [([&str; 6], &str); 4] = [
+const OBJECTS: [([&str; 6], &str); 3] = [
     // a key with a mark that has to be escaped
     (
         [
@@ -474,11 +474,11 @@ const OBJECTS: [([&str; 6], &str); 4] = [
             "",
             "test = []",
         ],
-        r#"{"races":[{"first":{"node":"[e:x]/[c:A]/[t:m]","word":"put","key":"a\"b"},"second":{"node":"[e:x]/[c:A]/[t:n]","word":"want","key":"a\"b"},"context":"[e:x]/[c:A]"}],"more":false,"proved":null,"gaps":null,"limit":null}"#,
+        r#"{"races":[{"first":{"node":"[e:x]/[c:A]/[t:m]","word":"put","key":"a\"b"},"second":{"node":"[e:x]/[c:A]/[t:n]","word":"want","key":"a\"b"},"context":"[e:x]/[c:A]"}],"more":false,"proved":null,"limit":null}"#,
     ),
     (
         ["", "", "test = ['put a x']", "test = []", "", "test = []"],
-        r#"{"races":[],"more":false,"proved":"one report","gaps":null,"limit":null}"#,
+        r#"{"races":[],"more":false,"proved":"one report","limit":null}"#,
     ),
     (
         [
@@ -489,18 +489,7 @@ const OBJECTS: [([&str; 6], &str); 4] = [
             "",
             "test = []",
         ],
-        r#"{"races":[],"more":false,"proved":"one report but for computed and found","gaps":null,"limit":null}"#,
-    ),
-    (
-        [
-            "",
-            "",
-            "test = ['computefail a x up 1']",
-            "test = ['computefail a x up 1']",
-            "before_all = [['put! a bad1', 'put! b bad2']]",
-            "test = []",
-        ],
-        r#"{"races":[],"more":false,"proved":"nothing","gaps":{"fails":{"first":{"node":"[e:x]/[c:A]/[t:m]","word":"computefail","key":"a"},"second":{"node":"[e:x]/[c:A]/[t:n]","word":"computefail","key":"a"},"context":"[e:x]/[c:A]"},"numbers":null},"limit":null}"#,
+        r#"{"races":[],"more":false,"proved":"one report but for computed and found","limit":null}"#,
     ),
 ];
 
@@ -529,24 +518,17 @@ fn plan_of_puts(alloc: Global, count: u32) -> Result<String, AllocError> {
 }
 
 /// The JSON of plans without races that have one report.
-const ONE_OBJECT: &str =
-    r#"{"races":[],"more":false,"proved":"one report","gaps":null,"limit":null}"#;
+const ONE_OBJECT: &str = r#"{"races":[],"more":false,"proved":"one report","limit":null}"#;
 
 /// How many steps put and how large their plan may be, with what is told of its races by lines and
 /// as JSON.
-const PUTS: [(u32, Size, &str, &str); 4] = [
-    (256, Size::Usual, ONE, ONE_OBJECT),
-    (
-        257,
-        Size::Usual,
-        "no races: one report is not proved\nas many numbers as there are: 65535\n",
-        r#"{"races":[],"more":false,"proved":"nothing","gaps":{"fails":null,"numbers":65535},"limit":null}"#,
-    ),
+const PUTS: [(u32, Size, &str, &str); 3] = [
+    (257, Size::Usual, ONE, ONE_OBJECT),
     (
         258,
         Size::Usual,
         "the steps may draw more than 65535 numbers\n",
-        r#"{"races":null,"more":null,"proved":null,"gaps":null,"limit":{"of":"numbers","most":65535}}"#,
+        r#"{"races":null,"more":null,"proved":null,"limit":{"of":"numbers","most":65535}}"#,
     ),
     (258, Size::Large, ONE, ONE_OBJECT),
 ];

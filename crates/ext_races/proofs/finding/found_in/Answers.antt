@@ -25,10 +25,8 @@ pub returns : goal.returns
 returns c =
     let told = c.in_ok-races.races.items in
     let known = c.is_free.ensures ∙ ap (λ races. nat_lt 0 c.args.most && (length races == 0)) c.as_slice.ensures.value in
-    let none = none_is c.args.most told c.is_free.result known c.if-not-is_free.false in (
-      c.requires.within,
-      record {
-        none = no_races (plan_view c.args.plan.now) c.args.most (groups_view c.args.groups.now) c.args.keys c.requires.groups told c.in_ok-races.ensures none.0 none.1;
-        proved = c.in_ok-proved.ensures;
-      },
-    )
+    let none = none_is c.args.most told c.is_free.result known c.if-not-is_free.false in
+    record {
+      none = no_races (plan_view c.args.plan.now) c.args.most (groups_view c.args.groups.now) c.args.keys c.requires.groups told c.in_ok-races.ensures none.0 none.1;
+      proved = c.in_ok-proved.ensures;
+    }

@@ -1,5 +1,4 @@
-use Rattle.std.proofs.Common.{◌≡◌, ◌+◌, ◌*◌, ◌∙◌, [], Err, map, length, ap, subst, sym, arith, All, ◌<◌, vec_len}
-use Rattle.std.specs.Prelude.{nat_le}
+use Rattle.std.proofs.Common.{◌∙◌, [], Err, map, length, ap, subst, sym, arith, All, ◌<◌}
 use Rattle.std.specs.List.{count_by}
 use Rattle.ext_plan.specs.Plans.{keys_view, plan_view}
 use Rattle.ext_plan.specs.StepCalls.{keys_in}
@@ -7,9 +6,9 @@ use Rattle.ext_races.specs.Acts.{draws}
 use Rattle.ext_races.specs.InnerGroups.{IsGrouped, groups_view}
 use Rattle.ext_races.specs.InnerNaming.{keys_told}
 use Rattle.ext_races.specs.InnerMade.{made_view, made_views}
-use Rattle.ext_races.specs.Touches.{numbers_drawn, standing, touches_made}
+use Rattle.ext_races.specs.Touches.{standing, touches_made}
 use Rattle.ext_races.proofs.After.{drawn_same, keys_same}
-use Rattle.ext_races.proofs.Finds.{all_or_fewer, drawn_is, named_is, nodes_in, touches_in, within_limits}
+use Rattle.ext_races.proofs.Finds.{drawn_is, named_is, nodes_in, touches_in, within_limits}
 use Rattle.ext_races.proofs.finding.races.Goals as goal
 
 pub standing_of-requires-clause-plan : goal.standing_of-requires-clause-plan
@@ -28,12 +27,6 @@ pub groups_of-requires-clause-nodes : goal.groups_of-requires-clause-nodes
 groups_of-requires-clause-nodes c =
     subst (All (λ m. m.node < length c.in_ok-tree.tree)) (sym c.as_slice-6.ensures.value) (nodes_in (plan_view c.args.plan.now) c.in_ok-made.made.items c.in_ok-tree.tree c.in_ok-made.ensures c.in_ok-tree.ensures)
 
-pub found_in-requires-clause-count : goal.found_in-requires-clause-count
-found_in-requires-clause-count c =
-    let ok = c.in_ok-groups.groups.ok in
-    let long : length c.in_ok-groups.groups.items ≡ vec_len c.in_ok-groups.groups = omega (arith, ok) in
-    ap length c.as_slice-7.ensures.value ∙ long ∙ c.in_ok-groups.ensures.count ∙ ap (λ keys. length c.in_ok-tree.tree * (keys + 1)) (sym c.len-keys.ensures.count)
-
 pub found_in-requires-clause-groups : goal.found_in-requires-clause-groups
 found_in-requires-clause-groups c =
     let plan = plan_view c.args.plan.now in
@@ -50,18 +43,10 @@ found_in-requires-clause-within c =
     let plan = plan_view c.args.plan.now in
     let made = c.in_ok-made.made.items in
     let keys = c.of-keys.ensures ∙ ap keys_view c.as_slice.ensures.value in
-    within_limits plan (made_views [] made) c.in_ok-made.ensures (keys_in c.of-keys.result) c.in-Ok.named.0 c.in-Ok.named.1.items c.numbers_drawn-drawn.result keys
+    within_limits plan (made_views [] made) c.in_ok-made.ensures (keys_in c.of-keys.result) c.in-Ok.named.0 c.in-Ok.named.1.items c.numbers_drawn.result keys
     (c.in-Ok.ensures.keys ∙ ap (λ xs. keys_told (keys_in c.of-keys.result) (map made_view xs)) c.as_slice-3.ensures.value ∙ keys_same (keys_in c.of-keys.result) [] [] made) c.in-Ok.ensures.few c.in-Ok.ensures.names
-    (c.numbers_drawn-drawn.ensures ∙ ap (λ xs. count_by (λ m. draws plan.keep_faults m.step) (map made_view xs)) c.as_slice-4.ensures.value ∙ drawn_same plan.keep_faults [] made)
-    (let few = c.if-drawn-numbers.false in let most = c.numbers-numbers.ensures in omega (arith, few, most))
-
-pub found_in-requires-clause-numbers : goal.found_in-requires-clause-numbers
-found_in-requires-clause-numbers c =
-    let plan = plan_view c.args.plan.now in
-    let made = c.in_ok-made.made.items in
-    let counted = c.numbers_drawn-drawn.ensures ∙ ap (λ xs. count_by (λ m. draws plan.keep_faults m.step) (map made_view xs)) c.as_slice-4.ensures.value ∙ drawn_same plan.keep_faults [] made in
-    all_or_fewer c.numbers_drawn-drawn.result c.numbers-numbers.result (let few = c.if-drawn-numbers.false in omega (arith, few))
-    ∙ ap (nat_le c.numbers-numbers.result) (drawn_is plan (made_views [] made) c.in_ok-made.ensures c.numbers_drawn-drawn.result counted) ∙ ap (λ most. nat_le most (numbers_drawn plan)) c.numbers-numbers.ensures
+    (c.numbers_drawn.ensures ∙ ap (λ xs. count_by (λ m. draws plan.keep_faults m.step) (map made_view xs)) c.as_slice-4.ensures.value ∙ drawn_same plan.keep_faults [] made)
+    (let few = c.if-numbers_drawn-numbers.false in let most = c.numbers-numbers.ensures in omega (arith, few, most))
 
 pub returns-in-Err-TooMany : goal.returns-in-Err-TooMany
 returns-in-Err-TooMany c =
@@ -74,8 +59,8 @@ returns-in-Err-TooMany c =
     let long = ap length (named_is plan (made_views [] made) c.in_ok-made.ensures declared _ keys told) in
     omega (arith, full, long)
 
-pub returns-then-drawn-numbers : goal.returns-then-drawn-numbers
-returns-then-drawn-numbers c =
+pub returns-then-numbers_drawn-numbers : goal.returns-then-numbers_drawn-numbers
+returns-then-numbers_drawn-numbers c =
     let plan = plan_view c.args.plan.now in
     let made = c.in_ok-made.made.items in
     let declared = keys_in c.of-keys.result in
@@ -83,8 +68,8 @@ returns-then-drawn-numbers c =
     let told = c.in-Ok.ensures.keys ∙ ap (λ xs. keys_told declared (map made_view xs)) c.as_slice-3.ensures.value ∙ keys_same declared [] [] made in
     let long = ap length (named_is plan (made_views [] made) c.in_ok-made.ensures declared _ keys told) in
     let few = c.in-Ok.ensures.few in
-    let counted = c.numbers_drawn-drawn.ensures ∙ ap (λ xs. count_by (λ m. draws plan.keep_faults m.step) (map made_view xs)) c.as_slice-4.ensures.value ∙ drawn_same plan.keep_faults [] made in
-    let drawn = drawn_is plan (made_views [] made) c.in_ok-made.ensures c.numbers_drawn-drawn.result counted in
-    let more = c.if-drawn-numbers.true in
+    let counted = c.numbers_drawn.ensures ∙ ap (λ xs. count_by (λ m. draws plan.keep_faults m.step) (map made_view xs)) c.as_slice-4.ensures.value ∙ drawn_same plan.keep_faults [] made in
+    let drawn = drawn_is plan (made_views [] made) c.in_ok-made.ensures c.numbers_drawn.result counted in
+    let more = c.if-numbers_drawn-numbers.true in
     let most = c.numbers-numbers.ensures in
     (omega (arith, long, few), omega (arith, drawn, more, most))

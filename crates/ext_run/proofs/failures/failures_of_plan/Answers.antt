@@ -1,6 +1,6 @@
 use Rattle.std.proofs.Common.{◌≡◌, IfOk, string_bytes, subst}
 use Rattle.ext_run.specs.Failures.{failures_of}
-use Rattle.ext_run.specs.InnerFailures.{line_in}
+use Rattle.ext_run.specs.FailureForms.{line_in}
 use Rattle.ext_run.proofs.failures.failures_of_plan.Goals as goal
 
 pub returns : goal.returns

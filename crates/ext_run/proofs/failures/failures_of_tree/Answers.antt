@@ -1,6 +1,6 @@
 use Rattle.std.proofs.Common.{◌++◌, ◌∙◌, ap, arith, length, string_bytes}
 use Rattle.std.proofs.lemmas.List.{length-map}
-use Rattle.ext_run.specs.InnerFailures.{line_in}
+use Rattle.ext_run.specs.FailureForms.{line_in}
 use Rattle.ext_run.proofs.Drawn.{failures-more, no-failures}
 use Rattle.ext_run.proofs.FaultGroups.{group_told}
 use Rattle.ext_run.proofs.failures.failures_of_tree.Goals as goal

@@ -1,6 +1,6 @@
 use Rattle.std.proofs.Common.{◌≡◌, string_bytes}
 use Rattle.ext_run.specs.Failures.{failures_below}
-use Rattle.ext_run.specs.InnerFailures.{line_in}
+use Rattle.ext_run.specs.FailureForms.{line_in}
 use Rattle.ext_run.proofs.failures.failures_of_tree.Given as goal
 
 abbrev pub invariant-loop-node : goal.invariant-loop-node

@@ -1,7 +1,8 @@
 use Rattle.std.proofs.Common.{◌++◌, ◌∙◌, ap, arith, string_bytes, sym, take}
 use Rattle.ext_report.specs.Groups.{shown}
 use Rattle.ext_report.proofs.Lines.{joined}
-use Rattle.ext_run.specs.InnerFailures.{line_in, lines_of}
+use Rattle.ext_run.specs.FailureForms.{line_in}
+use Rattle.ext_run.specs.InnerFailures.{lines_of}
 use Rattle.ext_run.proofs.FaultGroups.{lines_more}
 use Rattle.ext_run.proofs.failures.write_failures.Goals as goal
 

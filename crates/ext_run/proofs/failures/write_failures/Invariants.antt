@@ -1,6 +1,7 @@
 use Rattle.std.proofs.Common.{◌≡◌, ◌++◌, string_bytes, take}
 use Rattle.ext_report.specs.Groups.{shown}
-use Rattle.ext_run.specs.InnerFailures.{line_in, lines_of}
+use Rattle.ext_run.specs.FailureForms.{line_in}
+use Rattle.ext_run.specs.InnerFailures.{lines_of}
 use Rattle.ext_run.proofs.failures.write_failures.Given as goal
 
 abbrev pub invariant-loop-fault : goal.invariant-loop-fault
