@@ -18,18 +18,19 @@ TOP = pathlib.Path(__file__).resolve().parent.parent.parent
 FORBIDDEN = re.compile("[\0-\x08\x0b\x0c\x0e-\x1f\ufffe\uffff]")
 
 ELEMENTS = {"failed": "failure", "aborted": "skipped", "skipped": "skipped", "successful": None}
+TYPES = {"failure": "failed", "skipped": None}
 
 TIMED_REPORT = TOP / "crates" / "test_runs" / "src" / "timed.rt"
 # Of each element what is known of its node: the time, and how many attempts failed before one passed. A container's own case has no time.
 TIMED = [
     ("testsuites", None, 3_661_999, 0),
-    ("testsuite", "[engine:x]/[class:A]", 1304, 0),
-    ("testcase", "method:a()", 1234, 2),
-    ("testcase", "method:b()", 70, 0),
-    ("testcase", "method:c()", None, 0),
-    ("testsuite", "[engine:x]/[class:B]", 2005, 0),
-    ("testcase", "[engine:x]/[class:B]", None, 0),
-    ("testcase", "method:d()", None, 0),
+    ("testsuite", "A", 1304, 0),
+    ("testcase", "a()", 1234, 2),
+    ("testcase", "b()", 70, 0),
+    ("testcase", "c()", None, 0),
+    ("testsuite", "B", 2005, 0),
+    ("testcase", "B", None, 0),
+    ("testcase", "d()", None, 0),
 ]
 
 
@@ -41,14 +42,24 @@ def written(program, form, plan):
     return ran.stdout
 
 
-def place_of(node):
-    """The suite and the name of a node's case, if it is one."""
-    above, _, last = node["id"].rpartition("/")
+def values_of(id):
+    """The values of an id's segments, decoded."""
+    return [urllib.parse.unquote(segment[1:-1].split(":")[1]) for segment in id.split("/")]
+
+
+def class_of(id):
+    """The class that an id names: the values below the engine, joined by dots, or the engine's own."""
+    engine, *below = values_of(id)
+    return ".".join(below or [engine])
+
+
+def suite_of(node):
+    """The id of the suite in which a node is a case, if it is one."""
+    above = node["id"].rpartition("/")[0]
     if node["test"] and above:
-        kind, value = last[1:-1].split(":")
-        return above, urllib.parse.unquote(kind) + ":" + urllib.parse.unquote(value)
+        return above
     if node["test"] or node["status"] in ("failed", "aborted"):
-        return node["id"], node["id"]
+        return node["id"]
     return None
 
 
@@ -56,19 +67,19 @@ def told_of(node):
     """The element of a node's case, its message and its text."""
     if node["fault"] is None or node["status"] not in ("failed", "aborted"):
         return ELEMENTS[node["status"]], None, None
-    further = f" (+{node['more']})" if node["more"] else ""
-    return ELEMENTS[node["status"]], node["fault"], node["fault"] + further
+    further = f"\n(+{node['more']})" if node["more"] else ""
+    return ELEMENTS[node["status"]], node["fault"].split("\n")[0], node["fault"] + further
 
 
 def suites_of(nodes):
     """The suites that the nodes make, in the order of the plan, each with its cases."""
     suites = {node["id"]: [] for node in nodes}
     for node in nodes:
-        place = place_of(node)
-        if place:
-            case = (place[1], *told_of(node))
-            suites[place[0]].append(tuple(text and FORBIDDEN.sub("\ufffd", text) for text in case))
-    return [(FORBIDDEN.sub("\ufffd", name), cases) for name, cases in suites.items() if cases]
+        suite = suite_of(node)
+        if suite:
+            case = (values_of(node["id"])[-1], *told_of(node))
+            suites[suite].append(tuple(text and FORBIDDEN.sub("\ufffd", text) for text in case))
+    return [(FORBIDDEN.sub("\ufffd", class_of(id)), cases) for id, cases in suites.items() if cases]
 
 
 def case_in(suite, element):
@@ -76,6 +87,8 @@ def case_in(suite, element):
     if element.tag != "testcase" or set(element.attrib) != {"classname", "name"} or element.get("classname") != suite or len(element) > 1:
         raise ValueError(f"a case of {suite} is {element.tag} {element.attrib}")
     for told in element:
+        if told.get("type") != TYPES[told.tag]:
+            raise ValueError(f"a case of {suite} has {told.tag} {told.attrib}")
         return element.get("name"), told.tag, told.get("message"), told.text
     return element.get("name"), None, None, None
 

@@ -1,7 +1,7 @@
 //! What a suite says of its nodes, and its calls.
 
 use ext_closing::CloseAction;
-use ext_lifecycle::{Call, Callbacks, Mode, Outcome};
+use ext_lifecycle::{Call, Callbacks, Mode, NodeResult, Outcome};
 use ext_locks::{Held, LockRequest};
 use ext_model::{ContextNo, LaneNo};
 use ext_store::{Lane, Store, StoreValue};
@@ -90,11 +90,12 @@ pub trait Suite<V: StoreValue + Drop>: Callbacks {
     /// `executionStarted`; that lanes are told is an own rule.
     fn started(&self, _node: ContextNo, _lane: LaneNo) {}
 
-    /// Called when the node has ended, once for each node whose calls were made and whose context
-    /// was closed, by the thread that ran it. It is not called for nodes that were skipped, nor
-    /// where the run is refused before that. Does nothing, unless the suite says otherwise. JUnit
-    /// Platform, Javadoc `EngineExecutionListener`, `executionFinished`.
-    fn ended(&self, _node: ContextNo) {}
+    /// Called when a node has ended, with its result: once for each node whose calls were made and
+    /// whose context was closed, by the thread that ran it, after it gave its locks back. It is not
+    /// called for nodes that were skipped, nor where the run is refused before that. Does nothing,
+    /// unless the suite says otherwise. JUnit Platform, Javadoc `EngineExecutionListener`,
+    /// `executionFinished`.
+    fn ended(&self, _ran: &NodeResult) {}
 
     /// Makes one call of the node, on a lane of the store: a callback of the node or of one above
     /// it, or the test. A test is lent the locks that it holds, and a container none. The suite may

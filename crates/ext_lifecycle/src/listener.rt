@@ -1,6 +1,6 @@
 //! A listener to a run while it lasts.
 
-use crate::FaultPlace;
+use crate::{FaultPlace, NodeResult};
 use ext_model::{ContextNo, Fault};
 
 /// A listener to the progress of a run of nodes.
@@ -22,10 +22,10 @@ pub trait RunListener {
     /// failure.
     fn faulted(&self, _node: ContextNo, _place: FaultPlace, _fault: &Fault) {}
 
-    /// The node has ended: its calls were made and its context was closed. Called once for each
-    /// such node, and not for those that were skipped, nor if the run is refused before that.
-    /// `nodes` is the number of nodes of the run. Javadoc `executionFinished`.
-    fn ended(&self, node: ContextNo, nodes: usize);
+    /// A node has ended with this result: its calls were made and its context was closed. Called
+    /// once for each such node, and not for those that were skipped, nor if the run is refused
+    /// before that. `nodes` is the number of nodes of the run. Javadoc `executionFinished`.
+    fn ended(&self, ran: &NodeResult, nodes: usize);
 }
 
 /// A listener that does nothing.
@@ -34,7 +34,7 @@ pub struct NoListener;
 
 impl RunListener for NoListener {
     /// Does nothing and returns at once.
-    fn ended(&self, _node: ContextNo, _nodes: usize) {}
+    fn ended(&self, _ran: &NodeResult, _nodes: usize) {}
 }
 
 /// Reports a fault of the node at this place to the listener, if there is one, by

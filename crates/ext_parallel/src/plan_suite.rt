@@ -8,7 +8,7 @@ ghost use Rattle.ext_parallel.specs.PlanSuites.{asked};
 use crate::PlanAction;
 use crate::steps::{StoreSteps, StoredValue};
 use ext_engine::{Call, Callbacks, Kind, Mode, Outcome, Suite};
-use ext_lifecycle::{FaultPlace, RunListener, tell_fault};
+use ext_lifecycle::{FaultPlace, NodeResult, RunListener, tell_fault};
 use ext_locks::{Held, LockMode, LockRequest, Resource};
 use ext_model::{ContextNo, LaneNo};
 use ext_plan::{Plan, PlanLock, StepKeys};
@@ -121,8 +121,8 @@ impl<'a, L: RunListener + Sync> Suite<StoredValue<'a>> for PlanSuite<'a, L> {
         self.listener.started(node, lane);
     }
 
-    fn ended(&self, node: ContextNo) {
-        self.listener.ended(node, self.plan.nodes.len());
+    fn ended(&self, ran: &NodeResult) {
+        self.listener.ended(ran, self.plan.nodes.len());
     }
 
     /// Makes the steps of the call in the node's context, up to the first that is not successful,

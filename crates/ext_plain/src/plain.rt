@@ -229,8 +229,8 @@ impl<'a, L: RunListener> PlainRunner<'a, L> {
     }
 
     /// Seals the places of all keys in a node's context, including keys without a number. Closes
-    /// the closeable values that the seals kept, stores the node's result, and then notifies the
-    /// listener that the node has ended.
+    /// the closeable values that the seals kept, notifies the listener how the node has ended, and
+    /// stores its result.
     fn end_node(
         &mut self,
         alloc: Global,
@@ -249,8 +249,9 @@ impl<'a, L: RunListener> PlainRunner<'a, L> {
             .caller
             .store
             .close_values(alloc, listener, at, numbers.as_slice())?;
-        self.set_result(tally.result(at, is_test, closes));
-        listener.ended(at, self.results.len());
+        let ended = tally.result(at, is_test, closes);
+        listener.ended(&ended, self.results.len());
+        self.set_result(ended);
         Ok(())
     }
 

@@ -6,6 +6,7 @@ mod ContextLines
 mod Indents
 mod CharacterTexts
 mod Suites
+mod ClassNames
 mod Attempts
 mod Slowest
 mod Types

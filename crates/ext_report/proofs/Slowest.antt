@@ -1,16 +1,15 @@
 -- The tests whose time is known are of contexts of the tree; their order.
-use Rattle.std.proofs.Common.{◌≡◌, ℕ, ◌<◌, Bool, true, false, List, [], ◌∷◌, ◌++◌, take, All, arith, sym}
+use Rattle.std.proofs.Common.{◌≡◌, ℕ, ◌<◌, Bool, true, false, List, [], ◌∷◌, take, All, arith, sym}
 use Rattle.std.specs.Prelude.{nat_lt, IsPermutation, if◌then◌else◌, Option, Some, None}
 use Rattle.std.specs.Cmp.{IsStrictWeakOrder, ranks}
 use Rattle.std.specs.declared.cmp.Ordering.{Ordering}
 use Rattle.std.specs.declared.cmp.Ordering.TheVariants.{Less, Equal, Greater}
 use Rattle.std.specs.Ordering.{MatchOrdering, is_lt, nat_cmp}
 use Rattle.std.proofs.lemmas.Bool.{le-ltb, lt-ltb}
-use Rattle.std.specs.List.{flat_map}
 use Rattle.std.proofs.lemmas.List.Elements.{All-append, All-cons, All-head, All-nil, All-same, All-tail, All-take}
 use Rattle.std.proofs.lemmas.List.Sorted.{All-permutation, IsStrictWeakOrder-by_number, IsStrictWeakOrder-flip}
 use Rattle.ext_lifecycle.specs.declared.node_result.NodeResult.{NodeResult}
-use Rattle.ext_lifecycle.specs.FaultTexts.{NodeOutcome, result_view, results_view}
+use Rattle.ext_lifecycle.specs.FaultTexts.{result_view, results_view}
 use Rattle.ext_report.specs.declared.extra.Extra.{Extra}
 use Rattle.ext_report.specs.declared.slow.Timed.{Timed}
 use Rattle.ext_report.specs.Extras.{extra_of}

@@ -163,8 +163,9 @@ suite_is extras ids k rs cases is =
     let front = codes "  <testsuite name=\"" ++ suite_name (id_at ids k) ++ codes "\"" ++ suite_time extras k in
     let end = codes "  </testsuite>\n" in
     let counts = ap counts_of_cases is ∙ counts_are (stands_in (children_of ids k) k) rs in
-    let told = ap (flat_map (case_element extras ids k)) is ∙ flat_kept (stands_in (children_of ids k) k) (case_element extras ids k) rs in
-    ap (λ n. front ++ count_attributes n ++ flat_map (case_element extras ids k) cases ++ end) counts
+    let tell = case_element extras ids (suite_name (id_at ids k)) in
+    let told = ap (flat_map tell) is ∙ flat_kept (stands_in (children_of ids k) k) tell rs in
+    ap (λ n. front ++ count_attributes n ++ flat_map tell cases ++ end) counts
     ∙ ap (λ l. front ++ count_attributes (counts_where (stands_in (children_of ids k) k) rs) ++ l ++ end) told
 
 suite_if : (extras : List Extra) (ids : List Id) (k : ℕ) (rs cases : List NodeOutcome) → cases ≡ cases_of ids k rs → suite_if_filled extras ids k cases ≡ suite_if_any extras ids rs k

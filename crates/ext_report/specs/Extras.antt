@@ -2,8 +2,9 @@
 -- attempt it passed. The list has one entry a context, in the order of the contexts. Of a context past its end nothing is
 -- known, so of none where the list is empty.
 --
--- A time is told in seconds with three decimals. An attempt is told of a successful node alone, and from the second on:
--- one that passed at its first attempt is told like one of which nothing is known. JUnit has neither.
+-- A time is told in seconds with three decimals, and in JSON in milliseconds. An attempt is told of a successful node
+-- alone, and from the second on: one that passed at its first attempt is told like one of which nothing is known. JUnit
+-- has neither.
 use Rattle.std.specs.Prelude.{ℕ, ◌/◌, ◌%◌, codes, List, [], ◌++◌, Option, Some, None, if◌then◌else◌, nat_lt}
 use Rattle.std.specs.List.{slice_index_or}
 use Rattle.std.specs.Fmt.{decimal}

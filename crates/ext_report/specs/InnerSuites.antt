@@ -42,7 +42,7 @@ counts_of_cases cases = record {
 abbrev pub suite_with : List Extra → List Id → ℕ → List NodeOutcome → List ℕ
 suite_with extras ids suite cases =
     codes "  <testsuite name=\"" ++ suite_name (id_at ids suite) ++ codes "\"" ++ suite_time extras suite
-    ++ count_attributes (counts_of_cases cases) ++ flat_map (case_element extras ids suite) cases
+    ++ count_attributes (counts_of_cases cases) ++ flat_map (case_element extras ids (suite_name (id_at ids suite))) cases
     ++ codes "  </testsuite>\n"
 
 -- The same, if it has a case.

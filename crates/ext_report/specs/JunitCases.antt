@@ -1,28 +1,35 @@
 -- A case of a suite in JUnit's XML (`JunitXml`): its names, its time, and how it ended.
-use Rattle.std.specs.Prelude.{ℕ, zero, suc, ◌+◌, ◌-◌, Bool, true, false, ◌==◌, codes, List, [], ◌++◌, length, Option, Some, None, if◌then◌else◌}
-use Rattle.std.specs.List.{slice_index_or}
+use Rattle.std.specs.Prelude.{ℕ, zero, suc, ◌+◌, ◌-◌, Bool, true, false, ◌==◌, codes, List, [], ◌∷◌, ◌++◌, length, Option, Some, None, if◌then◌else◌}
+use Rattle.std.specs.List.{before_first, join_by, slice_index_or}
 use Rattle.std.specs.Fmt.{decimal}
-use Rattle.ext_ids.specs.Grammar.{Pair, id_text}
 use Rattle.ext_tree.specs.Trees.{Id, id_at}
 use Rattle.ext_lifecycle.specs.declared.status.Status.{Status}
 use Rattle.ext_lifecycle.specs.declared.status.Status.TheVariants as statuses
 use Rattle.ext_lifecycle.specs.FaultTexts.{NodeOutcome}
 use Rattle.ext_report.specs.declared.extra.Extra.{Extra}
 use Rattle.ext_report.specs.Extras.{extra_of, seconds}
-use Rattle.ext_report.specs.Report.{further_faults}
 use Rattle.ext_report.specs.Xml.{xml_text}
 
 -- ---- how it ended
 
--- What an element says of a fault, if there is one: its text, and the same with the number of further ones.
-abbrev pub fault_element : List ℕ → Option (List ℕ) → ℕ → List ℕ
-fault_element name None more = codes "<" ++ name ++ codes "/>"
-fault_element name (Some fault) more =
-    codes "<" ++ name ++ codes " message=\"" ++ xml_text fault ++ codes "\">" ++ xml_text fault ++ further_faults more
-    ++ codes "</" ++ name ++ codes ">"
+-- What stands before the first line feed, or the whole text.
+abbrev pub first_line : List ℕ → List ℕ
+first_line text = before_first (λ b. b == 10) text
+
+-- How many more faults and aborts there are, if any, on a line of their own.
+abbrev pub further_line : ℕ → List ℕ
+further_line more = if more == 0 then [] else codes "&#10;(+" ++ decimal more ++ codes ")"
+
+-- An element with a fault, if there is one: its first line is the message, and the text is all of it. `kind` is the
+-- attribute of the element's type, which may be empty.
+abbrev pub fault_element : List ℕ → List ℕ → Option (List ℕ) → ℕ → List ℕ
+fault_element name kind None more = codes "<" ++ name ++ kind ++ codes "/>"
+fault_element name kind (Some fault) more =
+    codes "<" ++ name ++ kind ++ codes " message=\"" ++ xml_text (first_line fault) ++ codes "\">" ++ xml_text fault
+    ++ further_line more ++ codes "</" ++ name ++ codes ">"
 
 abbrev pub flaky_element : ℕ → List ℕ
-flaky_element attempt = codes "<flakyFailure message=\"failed at attempt " ++ decimal attempt ++ codes "\"/>"
+flaky_element attempt = codes "<flakyFailure type=\"failed\" message=\"failed at attempt " ++ decimal attempt ++ codes "\"/>"
 
 -- The first `n` attempts, all of which failed.
 unfoldable pub flaky_elements : ℕ → List ℕ
@@ -32,8 +39,8 @@ flaky_elements (suc n) = flaky_elements n ++ flaky_element (n + 1)
 -- How a case ended. A skipped one has no fault, and of a successful one the attempts before it passed are told.
 abbrev pub ending_element : ℕ → Status → Option (List ℕ) → ℕ → List ℕ
 ending_element attempt statuses.Successful fault more = flaky_elements (attempt - 1)
-ending_element attempt statuses.Aborted fault more = fault_element (codes "skipped") fault more
-ending_element attempt statuses.Failed fault more = fault_element (codes "failure") fault more
+ending_element attempt statuses.Aborted fault more = fault_element (codes "skipped") [] fault more
+ending_element attempt statuses.Failed fault more = fault_element (codes "failure") (codes " type=\"failed\"") fault more
 ending_element attempt statuses.Skipped fault more = codes "<skipped/>"
 
 -- ---- times
@@ -49,21 +56,19 @@ case_time false millis = []
 
 -- ---- names
 
--- An id as it is written in XML.
+-- The values of an id's segments below the engine, decoded and joined by dots: of the root's id the engine's own.
+abbrev pub class_name : Id → List ℕ
+class_name [] = []
+class_name (engine ∷ []) = engine.1
+class_name (engine ∷ first ∷ more) = join_by (λ segment. segment.1) (codes ".") (first ∷ more)
+
+-- The name of a context's suite, which is the class of its cases.
 abbrev pub suite_name : Id → List ℕ
-suite_name id = xml_text (id_text id)
+suite_name id = xml_text (class_name id)
 
--- The type and the value of a segment, decoded.
-abbrev pub segment_name : Pair → List ℕ
-segment_name segment = xml_text segment.0 ++ codes ":" ++ xml_text segment.1
-
--- The last segment of an id.
-abbrev pub test_name : Id → List ℕ
-test_name id = segment_name (slice_index_or id (length id - 1) ([], []))
-
--- The suite's name, or that of a test in it.
-abbrev pub case_name : List Id → ℕ → ℕ → List ℕ
-case_name ids suite node = if node == suite then suite_name (id_at ids suite) else test_name (id_at ids node)
+-- The name of a case: the value of its last segment, decoded.
+abbrev pub case_name : Id → List ℕ
+case_name id = xml_text (slice_index_or id (length id - 1) ([], [])).1
 
 -- What follows a case's name.
 abbrev pub case_end : Extra → NodeOutcome → List ℕ
@@ -71,7 +76,8 @@ case_end extra r =
     codes "\"" ++ case_time r.is_test extra.millis ++ codes ">"
     ++ ending_element extra.attempt r.status r.fault r.more ++ codes "</testcase>\n"
 
-abbrev pub case_element : List Extra → List Id → ℕ → NodeOutcome → List ℕ
+-- A case of the suite with this name.
+abbrev pub case_element : List Extra → List Id → List ℕ → NodeOutcome → List ℕ
 case_element extras ids suite r =
-    codes "    <testcase classname=\"" ++ suite_name (id_at ids suite) ++ codes "\" name=\""
-    ++ case_name ids suite r.node ++ case_end (extra_of extras r.node) r
+    codes "    <testcase classname=\"" ++ suite ++ codes "\" name=\"" ++ case_name (id_at ids r.node)
+    ++ case_end (extra_of extras r.node) r

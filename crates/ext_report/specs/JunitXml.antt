@@ -1,29 +1,32 @@
 -- The report of a run in JUnit's XML, as servers of continuous integration read it: as a function of the tree's ids and
--- of the list of results,
+-- of the list of results. From a run of `[engine:x]/[class:A]` with two methods,
 --
 --     <?xml version="1.0" encoding="UTF-8"?>
 --     <testsuites tests="2" failures="1" errors="0" skipped="0">
---       <testsuite name="[engine:x]/[class:A]" tests="2" failures="1" errors="0" skipped="0">
---         <testcase classname="[engine:x]/[class:A]" name="method:a()"></testcase>
---         <testcase classname="[engine:x]/[class:A]" name="method:b()"><failure message="TEXT">TEXT
--- (+1)</failure></testcase>       </testsuite>
+--       <testsuite name="A" tests="2" failures="1" errors="0" skipped="0">
+--         <testcase classname="A" name="a()"></testcase>
+--         <testcase classname="A" name="b()"><failure type="failed" message="LINE">TEXT&#10;(+1)</failure></testcase>
+--       </testsuite>
 --     </testsuites>
 --
 -- There is one suite for each context that has a case, in the order of the tree, and none stands in another. A test is
 -- a case of its parent's suite. A container that failed or aborted itself, in a call of its own or in its close, is a
--- case of its own suite, as with Maven's Surefire; and so is a test without a parent. Such a case has the suite's name.
--- Cases come in the order of the list.
+-- case of its own suite, as with Maven's Surefire; and so is a test without a parent. Cases come in the order of the
+-- list.
 --
--- A fault's text is the message of a `failure`, or of a `skipped` if the node aborted; it is followed in the element by
--- how many more faults and aborts came. No case is an `error`. A line ends with one line feed, and numbers are decimal.
--- `JunitCases` has a case, and `Xml` how texts are written.
+-- A suite is named like a class in Java: by the values of the segments of its context's id below the engine, joined by
+-- dots, or, of the root, by the engine's value. That name is the class of its cases, and a case is named by the value of
+-- the last segment of its id. Ids that differ in nothing but the types of their segments have one name.
+--
+-- The first line of a fault's text is the message of a `failure`, or of a `skipped` if the node aborted, and the whole
+-- text stands in the element; how many more faults and aborts came follows on a line of its own. No case is an `error`.
+-- A line ends with one line feed, and numbers are decimal. `JunitCases` has a case, and `Xml` how texts are written.
 --
 -- Where a node's time is known (`Extras`), the suite of its context has it, and so has the case of a test; the root's is
 -- that of all. A container that is a case has it at its suite alone. A successful case that took several attempts has a
 -- `flakyFailure` for each before the last, as with Surefire:
 --
---         <testcase classname="[engine:x]/[class:A]" name="method:a()" time="0.123"><flakyFailure
--- message="failed at attempt 1"/></testcase>
+--     <testcase classname="A" name="a()" time="0.123"><flakyFailure type="failed" message="failed at attempt 1"/></testcase>
 use Rattle.std.specs.Prelude.{ℕ, zero, suc, Bool, true, false, not, ◌==◌, ◌&&◌, ◌||◌, codes, List, [], ◌++◌, length, if◌then◌else◌}
 use Rattle.std.specs.List.{count_by, flat_map, list_any}
 use Rattle.std.specs.Fmt.{decimal}
@@ -69,7 +72,7 @@ counts_where is_counted rs = record {
 
 abbrev pub case_in : List Extra → List Id → ℕ → NodeOutcome → List ℕ
 case_in extras ids suite r =
-    if stands_in (children_of ids suite) suite r then case_element extras ids suite r else []
+    if stands_in (children_of ids suite) suite r then case_element extras ids (suite_name (id_at ids suite)) r else []
 
 -- The counts of a suite, or of all, and the end of their line.
 unfoldable pub count_attributes : CaseCounts → List ℕ

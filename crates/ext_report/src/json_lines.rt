@@ -3,12 +3,14 @@ ghost use Rattle.std.specs.Prelude.{◌≡◌, ◌<◌, ◌++◌, ◌∷◌, [],
 ghost use Rattle.ext_lifecycle.specs.FaultTexts.{fault_text, result_view, results_view};
 ghost use Rattle.json.specs.Token.{boolean, key, string};
 ghost use Rattle.json.specs.Print.{print};
-ghost use Rattle.ext_report.specs.JsonLines.{count_member, count_members, ending_members, fault_token, json_line, json_lines, json_report, node_object, totals_line};
+ghost use Rattle.ext_report.specs.JsonLines.{attempt_member, count_member, count_members, ending_members, extra_members, fault_token, json_line, json_lines, json_report, json_with, node_object, time_member, totals_line};
 
+use crate::extra::{Extra, extra_of};
+use crate::is_status::is_status;
 use crate::line::{fault_text, status_text};
 use crate::totals::{NodeSums, TestCounts};
 use ext_ids::UniqueId;
-use ext_lifecycle::NodeResult;
+use ext_lifecycle::{NodeResult, Status};
 use ext_model::Fault;
 use ext_tree::Tree;
 use json::Writer;
@@ -34,20 +36,44 @@ pub fn json_report(
     ensures { IfOk result
         (λ bytes. bytes.items ≡ json_report tree.now (results_view results.now)) }
 {
-    let mut lines = lines_of(alloc, tree, results)?;
+    json_report_with(alloc, tree, results, &[])
+}
+
+/// The same, with what is known of the nodes beside their results. The extras stand in the order of
+/// the contexts; there may be fewer, or none.
+///
+/// Where a node's time is known, its object has a further member `millis`, and that of a successful
+/// node that passed at its second attempt or a later one has `attempt`, the last of all. The object
+/// with the totals stays as it is.
+pub fn json_report_with(
+    alloc: Global,
+    tree: &Tree,
+    results: &[NodeResult],
+    extras: &[Extra],
+) -> Result<Vec<u8>, AllocError>
+    requires in_tree { All (λ r. r.node < length tree.now) results.now }
+    ensures { IfOk result
+        (λ bytes. bytes.items ≡ json_with extras.now tree.now (results_view results.now)) }
+{
+    let mut lines = lines_of(alloc, tree, results, extras)?;
     let totals = totals_line(alloc, results)?;
     lines.extend_from_slice(totals.as_bytes())?;
     Ok(lines)
 }
 
-fn lines_of(alloc: Global, tree: &Tree, results: &[NodeResult]) -> Result<Vec<u8>, AllocError>
+fn lines_of(
+    alloc: Global,
+    tree: &Tree,
+    results: &[NodeResult],
+    extras: &[Extra],
+) -> Result<Vec<u8>, AllocError>
     requires in_tree { All (λ r. r.node < length tree.now) results.now }
     ensures { IfOk result
-        (λ bytes. bytes.items ≡ json_lines tree.now (results_view results.now)) }
+        (λ bytes. bytes.items ≡ json_lines extras.now tree.now (results_view results.now)) }
 {
     let mut lines = Vec::new(alloc);
     for node in results {
-        let line = line_of(alloc, tree.id(node.node), node)?;
+        let line = line_of(alloc, extras, tree.id(node.node), node)?;
         lines.extend_from_slice(line.as_slice())?;
     }
     Ok(lines)
@@ -64,25 +90,36 @@ fn totals_line(alloc: Global, results: &[NodeResult]) -> Result<String, AllocErr
     Ok(line)
 }
 
-fn line_of(alloc: Global, id: &UniqueId, node: &NodeResult) -> Result<Vec<u8>, AllocError>
-    ensures { IfOk result (λ line. line.items ≡ json_line id.now (result_view node.now)) }
+fn line_of(
+    alloc: Global,
+    extras: &[Extra],
+    id: &UniqueId,
+    node: &NodeResult,
+) -> Result<Vec<u8>, AllocError>
+    ensures { IfOk result (λ line. line.items ≡ json_line extras.now id.now (result_view node.now)) }
 {
     let mut name = String::new(alloc);
     id.write_to(&mut name)?;
-    let mut line = object_of(alloc, name.as_str(), node)?;
+    let mut line = object_of(alloc, name.as_str(), extra_of(extras, node.node), node)?;
     line.push(b'\n')?;
     Ok(line)
 }
 
-/// The object of a node with this id.
+/// The object of a node with this id, of which this is known.
 #[tactic(auto, unfolding(crate::specs::JsonLines::node_object))]
-fn object_of(alloc: Global, id: &str, node: &NodeResult) -> Result<Vec<u8>, AllocError>
-    ensures { IfOk result (λ text. text.items ≡ print (node_object id.now (result_view node.now))) }
+fn object_of(
+    alloc: Global,
+    id: &str,
+    extra: Extra,
+    node: &NodeResult,
+) -> Result<Vec<u8>, AllocError>
+    ensures { IfOk result (λ text. text.items ≡ print (node_object id.now extra (result_view node.now))) }
 {
     let mut writer = Writer::new(Vec::new(alloc));
     writer.begin_object()?;
     write_ending(&mut writer, id, node)?;
     write_counts(&mut writer, node)?;
+    write_extra(&mut writer, node.status, extra)?;
     writer.end_object()?;
     Ok(writer.into_inner())
 }
@@ -110,6 +147,38 @@ fn write_counts(writer: &mut Writer, node: &NodeResult) -> Result<(), AllocError
     write_count(writer, "found", node.found)?;
     write_count(writer, "closed", node.closed)?;
     write_count(writer, "close_faults", node.close_faults)?;
+    Ok(())
+}
+
+/// Writes the members of what is known of a node with this status beside its result.
+fn write_extra(writer: &mut Writer, status: Status, extra: Extra) -> Result<(), AllocError>
+    ensures before { OnOk result (writer.new.before ≡ writer.old.before) }
+    ensures tokens { OnOk result (writer.new.tokens ≡ writer.old.tokens ++ extra_members status extra) }
+{
+    write_time(writer, extra.millis)?;
+    write_attempt(writer, status, extra.attempt)
+}
+
+/// Writes how long a node took, where it is known.
+fn write_time(writer: &mut Writer, millis: Option<u64>) -> Result<(), AllocError>
+    ensures before { OnOk result (writer.new.before ≡ writer.old.before) }
+    ensures tokens { OnOk result (writer.new.tokens ≡ writer.old.tokens ++ time_member millis) }
+{
+    match millis {
+        None => Ok(()),
+        Some(millis) => write_count(writer, "millis", millis),
+    }
+}
+
+/// Writes at which attempt a node with this status passed: nothing if it was the first, or if the
+/// node is not successful.
+fn write_attempt(writer: &mut Writer, status: Status, attempt: u32) -> Result<(), AllocError>
+    ensures before { OnOk result (writer.new.before ≡ writer.old.before) }
+    ensures tokens { OnOk result (writer.new.tokens ≡ writer.old.tokens ++ attempt_member status attempt) }
+{
+    if is_status(status, Status::Successful) && attempt > 1 {
+        return write_count(writer, "attempt", u64::from(attempt));
+    }
     Ok(())
 }
 

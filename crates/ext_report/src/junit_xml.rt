@@ -3,15 +3,15 @@ ghost use Rattle.std.specs.Prelude.{◌≡◌, ◌<◌, ◌++◌, length, option
 ghost use Rattle.std.specs.List.{flat_map};
 ghost use Rattle.ext_lifecycle.specs.FaultTexts.{fault_text, result_view, results_view};
 ghost use Rattle.ext_report.specs.InnerSuites.{cases_view, suite_if_filled, suite_with};
-ghost use Rattle.ext_report.specs.JunitCases.{case_element, case_end, case_name, case_time, ending_element, fault_element, flaky_element, flaky_elements, suite_name, test_name, time_attribute};
+ghost use Rattle.ext_report.specs.JunitCases.{case_element, case_end, case_time, ending_element, fault_element, first_line, flaky_element, flaky_elements, further_line, suite_name, time_attribute};
 ghost use Rattle.ext_report.specs.JunitXml.{junit_with, junit_xml, suite_time};
 ghost use Rattle.ext_tree.specs.Trees.{id_at};
 
 use crate::cases::{CaseCounts, cases_by_suite};
 use crate::extra::{Extra, extra_of, write_seconds};
-use crate::line::{fault_text, write_further};
+use crate::line::fault_text;
+use crate::names::{suite_name, write_case_name};
 use crate::xml::write_xml;
-use ext_ids::UniqueId;
 use ext_lifecycle::{NodeResult, Status};
 use ext_model::{ContextNo, Fault};
 use ext_tree::Tree;
@@ -21,8 +21,11 @@ use std::alloc::{AllocError, Global};
 /// result is of a context of the tree. A context may have no result, or several.
 ///
 /// Each context whose children have tests is a suite, and each of these tests a case of it. A
-/// container that failed or aborted itself is a case of its own suite. The fault of a failed node
-/// is the message of a `failure`, and that of an aborted one the message of a `skipped`.
+/// container that failed or aborted itself is a case of its own suite. A suite, and the class of its
+/// cases, is named by the values of the segments of the context's id below the engine, joined by
+/// dots, and a case by the value of the last segment of its id. The fault of a failed node is the
+/// text of a `failure`, and that of an aborted one the text of a `skipped`; its first line is the
+/// message.
 ///
 /// Takes memory for the text and for a list of each suite's cases, and fails with `AllocError` only
 /// if that is refused.
@@ -108,7 +111,7 @@ fn write_filled_suite(
     text.push_str("\"")?;
     write_suite_time(text, extras, suite)?;
     CaseCounts::of(cases).write_to(text)?;
-    write_cases(text, extras, tree, cases, suite, name.as_str())?;
+    write_cases(text, extras, tree, cases, name.as_str())?;
     text.push_str("  </testsuite>\n")?;
     Ok(())
 }
@@ -136,33 +139,20 @@ fn write_time(text: &mut String, millis: Option<u64>) -> Result<(), AllocError>
     }
 }
 
-/// The id of a context, as it is written in XML.
-fn suite_name(alloc: Global, id: &UniqueId) -> Result<String, AllocError>
-    ensures { IfOk result (λ name. string_bytes name ≡ suite_name id.now) }
-{
-    let mut words = String::new(alloc);
-    id.write_to(&mut words)?;
-    let mut name = String::new(alloc);
-    write_xml(&mut name, words.as_str())?;
-    Ok(name)
-}
-
 /// Writes the cases of a suite with this name at the end of a text.
 fn write_cases(
     text: &mut String,
     extras: &[Extra],
     tree: &Tree,
     cases: &[&NodeResult],
-    suite: ContextNo,
-    name: &str,
+    suite: &str,
 ) -> Result<(), AllocError>
     requires in_tree { All (λ r. r.node < length tree.now) (cases_view cases.now) }
-    requires name { name.now ≡ suite_name (id_at tree.now suite) }
     ensures { OnOk result
-        (string_bytes text.new ≡ string_bytes text.old ++ flat_map (case_element extras.now tree.now suite) (cases_view cases.now)) }
+        (string_bytes text.new ≡ string_bytes text.old ++ flat_map (case_element extras.now tree.now suite.now) (cases_view cases.now)) }
 {
     for case in cases {
-        write_case(text, extras, tree, suite, name, case)?;
+        write_case(text, extras, tree, suite, case)?;
     }
     Ok(())
 }
@@ -172,19 +162,17 @@ fn write_case(
     text: &mut String,
     extras: &[Extra],
     tree: &Tree,
-    suite: ContextNo,
-    name: &str,
+    suite: &str,
     node: &NodeResult,
 ) -> Result<(), AllocError>
     requires in_tree { node.now.node < length tree.now }
-    requires name { name.now ≡ suite_name (id_at tree.now suite) }
     ensures { OnOk result
-        (string_bytes text.new ≡ string_bytes text.old ++ case_element extras.now tree.now suite (result_view node.now)) }
+        (string_bytes text.new ≡ string_bytes text.old ++ case_element extras.now tree.now suite.now (result_view node.now)) }
 {
     text.push_str("    <testcase classname=\"")?;
-    text.push_str(name)?;
+    text.push_str(suite)?;
     text.push_str("\" name=\"")?;
-    write_case_name(text, tree, suite, name, node.node)?;
+    write_case_name(text, tree.id(node.node))?;
     write_case_end(text, extra_of(extras, node.node), node)?;
     Ok(())
 }
@@ -213,36 +201,6 @@ fn write_case_time(text: &mut String, is_test: bool, millis: Option<u64>) -> Res
     Ok(())
 }
 
-/// Writes the name of a case at the end of a text.
-fn write_case_name(
-    text: &mut String,
-    tree: &Tree,
-    suite: ContextNo,
-    name: &str,
-    node: ContextNo,
-) -> Result<(), AllocError>
-    requires in_tree { node < length tree.now }
-    requires name { name.now ≡ suite_name (id_at tree.now suite) }
-    ensures { OnOk result
-        (string_bytes text.new ≡ string_bytes text.old ++ case_name tree.now suite node) }
-{
-    if node == suite {
-        return text.push_str(name);
-    }
-    write_test_name(text, tree.id(node))
-}
-
-/// Writes the last segment of an id, decoded, at the end of a text.
-fn write_test_name(text: &mut String, id: &UniqueId) -> Result<(), AllocError>
-    ensures { OnOk result (string_bytes text.new ≡ string_bytes text.old ++ test_name id.now) }
-{
-    let (kind, value) = id.segment(id.len() - 1);
-    write_xml(text, kind)?;
-    text.push_str(":")?;
-    write_xml(text, value)?;
-    Ok(())
-}
-
 /// Writes how a case ended at the end of a text: of a successful one, the attempts before it passed.
 fn write_ending(text: &mut String, attempt: u32, node: &NodeResult) -> Result<(), AllocError>
     ensures { OnOk result
@@ -251,8 +209,8 @@ fn write_ending(text: &mut String, attempt: u32, node: &NodeResult) -> Result<()
 {
     match node.status {
         Status::Successful => write_flaky(text, attempt.saturating_sub(1)),
-        Status::Aborted => write_fault_if_any(text, "skipped", node),
-        Status::Failed => write_fault_if_any(text, "failure", node),
+        Status::Aborted => write_fault_if_any(text, "skipped", "", node),
+        Status::Failed => write_fault_if_any(text, "failure", " type=\"failed\"", node),
         Status::Skipped => text.push_str("<skipped/>"),
     }
 }
@@ -275,34 +233,66 @@ fn write_failed_attempt(text: &mut String, attempt: u32) -> Result<(), AllocErro
 {
     write!(
         text,
-        "<flakyFailure message=\"failed at attempt {attempt}\"/>"
+        "<flakyFailure type=\"failed\" message=\"failed at attempt {attempt}\"/>"
     )
 }
 
-/// Writes an element with a node's fault, if it has one, at the end of a text.
-fn write_fault_if_any(text: &mut String, name: &str, node: &NodeResult) -> Result<(), AllocError>
+/// Writes an element with a node's fault, if it has one, at the end of a text. The attribute of the
+/// element's type may be empty.
+fn write_fault_if_any(
+    text: &mut String,
+    name: &str,
+    kind: &str,
+    node: &NodeResult,
+) -> Result<(), AllocError>
     ensures { OnOk result
         (string_bytes text.new ≡ string_bytes text.old
-        ++ fault_element name.now (option_map fault_text node.now.fault) node.now.more) }
+        ++ fault_element name.now kind.now (option_map fault_text node.now.fault) node.now.more) }
 {
     match &node.fault {
-        None => write!(text, "<{name}/>"),
-        Some(fault) => write_fault(text, name, fault, node.more),
+        None => write!(text, "<{name}{kind}/>"),
+        Some(fault) => write_fault(text, name, kind, fault, node.more),
     }
 }
 
 /// Writes an element with a fault, and how many others there are, at the end of a text.
-fn write_fault(text: &mut String, name: &str, fault: &Fault, more: u64) -> Result<(), AllocError>
+fn write_fault(
+    text: &mut String,
+    name: &str,
+    kind: &str,
+    fault: &Fault,
+    more: u64,
+) -> Result<(), AllocError>
     ensures { OnOk result
         (string_bytes text.new ≡ string_bytes text.old
-        ++ fault_element name.now (Some (fault_text fault.now)) more) }
+        ++ fault_element name.now kind.now (Some (fault_text fault.now)) more) }
 {
     let words = fault_text(fault);
-    write!(text, "<{name} message=\"")?;
-    write_xml(text, words)?;
+    write!(text, "<{name}{kind} message=\"")?;
+    write_xml(text, first_line(words))?;
     text.push_str("\">")?;
     write_xml(text, words)?;
-    write_further(text, more)?;
+    write_further_line(text, more)?;
     write!(text, "</{name}>")?;
+    Ok(())
+}
+
+/// The first line of a text.
+fn first_line(text: &str) -> &str
+    ensures { result.now ≡ first_line text.now }
+{
+    match text.split_once('\n') {
+        None => text,
+        Some((first, _)) => first,
+    }
+}
+
+/// Writes how many other faults there are, if any, on a line of their own at the end of a text.
+fn write_further_line(text: &mut String, more: u64) -> Result<(), AllocError>
+    ensures { OnOk result (string_bytes text.new ≡ string_bytes text.old ++ further_line more) }
+{
+    if more != 0 {
+        write!(text, "&#10;(+{more})")?;
+    }
     Ok(())
 }

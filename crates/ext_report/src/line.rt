@@ -66,7 +66,7 @@ fn write_fault_and_further(text: &mut String, fault: &Fault, more: u64) -> Resul
 }
 
 /// Writes how many other faults there are, if any, at the end of a text.
-pub(crate) fn write_further(text: &mut String, more: u64) -> Result<(), AllocError>
+fn write_further(text: &mut String, more: u64) -> Result<(), AllocError>
     ensures { OnOk result (string_bytes text.new ≡ string_bytes text.old ++ further_faults more) }
 {
     if more != 0 {

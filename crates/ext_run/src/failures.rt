@@ -16,7 +16,7 @@ use crate::failure_json::write_object;
 use crate::fault::RunFault;
 use crate::list_form::ListForm;
 use ext_ids::UniqueId;
-use ext_lifecycle::{Call, FaultPlace, Kind, RunListener};
+use ext_lifecycle::{Call, FaultPlace, Kind, NodeResult, RunListener};
 use ext_model::{ContextNo, Fault, Size};
 use ext_plan_reading::{Plan, PlanFault, read_plan_within};
 use ext_report::grouped;
@@ -133,8 +133,8 @@ impl<R: Wait, L: RunListener> RunListener for Failures<'_, R, L> {
         self.listener.faulted(node, place, fault);
     }
 
-    fn ended(&self, node: ContextNo, nodes: usize) {
-        self.listener.ended(node, nodes);
+    fn ended(&self, ran: &NodeResult, nodes: usize) {
+        self.listener.ended(ran, nodes);
     }
 }
 

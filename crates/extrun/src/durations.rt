@@ -7,7 +7,7 @@ use crate::progress::ids_of;
 use crate::times::{Times, seconds};
 use ext_model::Fault;
 use ext_report::write_visible;
-use ext_run::{FaultPlace, Options, RunFault, RunListener, Summary, run_with_listener};
+use ext_run::{FaultPlace, NodeResult, Options, RunFault, RunListener, Summary, run_with_listener};
 use std::alloc::{AllocError, Global};
 use std::io::Write;
 use std::sync::{Mutex, Wait};
@@ -93,11 +93,11 @@ impl<R: Wait + Clock, L: RunListener> RunListener for Durations<'_, R, L> {
         self.listener.faulted(node, place, fault);
     }
 
-    fn ended(&self, node: usize, nodes: usize) {
+    fn ended(&self, ran: &NodeResult, nodes: usize) {
         if let Ok(now) = Instant::now(self.rt) {
-            self.times.lock(self.rt).end(node, now);
+            self.times.lock(self.rt).end(ran.node, now);
         }
-        self.listener.ended(node, nodes);
+        self.listener.ended(ran, nodes);
     }
 }
 

@@ -8,7 +8,7 @@ use crate::command::Told;
 use crate::failing::run_plan;
 use crate::running::Running;
 use crate::screen::shown_text;
-use ext_run::{Options, RunFault, RunListener, Size, Summary, read_plan_within};
+use ext_run::{NodeResult, Options, RunFault, RunListener, Size, Summary, read_plan_within};
 use std::alloc::{AllocError, Global};
 use std::io::Write;
 use std::sync::{Condvar, CondvarTimeouts, Mutex, Wait};
@@ -182,9 +182,9 @@ impl<R: Wait> RunListener for Progress<'_, R> {
         state.is_new = true;
     }
 
-    fn ended(&self, node: usize, _nodes: usize) {
+    fn ended(&self, ran: &NodeResult, _nodes: usize) {
         let mut state = self.state.lock(self.rt);
-        state.running.end(node);
+        state.running.end(ran.node);
         state.is_new = true;
     }
 }

@@ -2,8 +2,8 @@
 use crate::same::same;
 use ext_model::{ContextNo, Fault};
 use ext_run::{
-    Call, Failures, FaultPlace, Kind, ListForm, NoListener, RunListener, Size, ToldFaults,
-    failures_text,
+    Call, Failures, FaultPlace, Kind, ListForm, NoListener, NodeResult, RunListener, Size,
+    ToldFaults, failures_text,
 };
 use std::alloc::{AllocError, Global};
 use std::sync::atomic::{AtomicU64, Ordering};
@@ -35,7 +35,7 @@ fn faults_are_told_once_more_by_node(rt: HostRuntime) -> Result<(), Fail> {
     failures.faulted(2, at(Kind::Test, 2, 0, 3), &fault(alloc, "first")?);
     failures.faulted(1, FaultPlace::Close, &Fault::Memory);
     failures.faulted(2, at(Kind::AfterEach, 0, 1, 0), &fault(alloc, "second")?);
-    failures.ended(2, 3);
+    failures.ended(&NodeResult::skipped(2, true), 3);
     let told = failures.into_told();
     same(&rt, told.lost, false, "whether a fault was lost");
     let text = failures_text(alloc, PLAN.as_bytes(), Size::Usual, &told, ListForm::Lines)?;
@@ -123,8 +123,8 @@ impl RunListener for Sum {
         self.add(node, 100);
     }
 
-    fn ended(&self, node: ContextNo, _nodes: usize) {
-        self.add(node, 10_000);
+    fn ended(&self, ran: &NodeResult, _nodes: usize) {
+        self.add(ran.node, 10_000);
     }
 }
 
@@ -136,7 +136,7 @@ fn each_is_passed_on_once(rt: HostRuntime) -> Result<(), Fail> {
     failures.started(2, 0);
     failures.faulted(2, FaultPlace::Close, &Fault::Memory);
     failures.faulted(1, FaultPlace::Close, &Fault::Memory);
-    failures.ended(3, 4);
+    failures.ended(&NodeResult::skipped(3, true), 4);
     let told = sum.0.load(Ordering::SeqCst);
     same(&rt, told, 30_302, "what was passed on");
     Ok(())

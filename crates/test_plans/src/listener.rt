@@ -4,7 +4,9 @@ ghost use Rattle.std.specs.Prelude.{◌≡◌, ◌≤◌, false};
 use crate::rows::{FOUR_LANES, PLAIN};
 use crate::same::same;
 use ext_model::Fault;
-use ext_run::{Call, FaultPlace, Kind, Options, ReportForm, RunListener, Size, run_with_listener};
+use ext_run::{
+    Call, FaultPlace, Kind, NodeResult, Options, ReportForm, RunListener, Size, run_with_listener,
+};
 use std::alloc::Global;
 use std::process::Abort;
 use std::sync::Wait;
@@ -156,10 +158,20 @@ impl RunListener for Heard {
         }
     }
 
-    /// Comes last.
-    fn ended(&self, node: usize, nodes: usize) {
+    /// Comes last, with as many faults as were told.
+    fn ended(&self, ran: &NodeResult, nodes: usize) {
+        let node = ran.node;
         self.expect(nodes == self.nodes && self.starts.of(node) == Some(1));
+        self.expect(self.faults.of(node) == Some(faults_in(ran)));
         self.ends.add(node);
+    }
+}
+
+/// How many faults a result has.
+fn faults_in(ran: &NodeResult) -> u64 {
+    match &ran.fault {
+        Some(_) => ran.more.saturating_add(1),
+        None => 0,
     }
 }
 
@@ -291,7 +303,7 @@ impl<C: Clock> RunListener for HoldsUp<'_, C> {
         self.miss();
     }
 
-    fn ended(&self, _node: usize, _nodes: usize) {}
+    fn ended(&self, _ran: &NodeResult, _nodes: usize) {}
 }
 
 /// Asserts that two tests of a plan have both started before the first of them ends, and that they

@@ -4,7 +4,8 @@ use crate::opening::same;
 use ext_engine::read_ids;
 use ext_model::{ContextNo, Fault};
 use ext_report::{
-    Extra, NodeResult, Status, junit_report_with, report_text_with, slowest_tests, tree_report_with,
+    Extra, NodeResult, Status, json_report_with, junit_report_with, report_text_with,
+    slowest_tests, tree_report_with,
 };
 use ext_tree::Tree;
 use std::alloc::Global;
@@ -79,14 +80,14 @@ fn results(alloc: Global) -> Result<Vec<NodeResult>, Fail> {
 /// The report in JUnit's XML.
 const IN_XML: &str = r#"<?xml version="1.0" encoding="UTF-8"?>
 <testsuites time="3661.999" tests="5" failures="2" errors="0" skipped="1">
-  <testsuite name="[engine:x]/[class:A]" time="1.304" tests="3" failures="1" errors="0" skipped="0">
-    <testcase classname="[engine:x]/[class:A]" name="method:a()" time="1.234"><flakyFailure message="failed at attempt 1"/><flakyFailure message="failed at attempt 2"/></testcase>
-    <testcase classname="[engine:x]/[class:A]" name="method:b()" time="0.070"><failure message="too &lt;late&gt;">too &lt;late&gt;</failure></testcase>
-    <testcase classname="[engine:x]/[class:A]" name="method:c()"></testcase>
+  <testsuite name="A" time="1.304" tests="3" failures="1" errors="0" skipped="0">
+    <testcase classname="A" name="a()" time="1.234"><flakyFailure type="failed" message="failed at attempt 1"/><flakyFailure type="failed" message="failed at attempt 2"/></testcase>
+    <testcase classname="A" name="b()" time="0.070"><failure type="failed" message="too &lt;late&gt;">too &lt;late&gt;</failure></testcase>
+    <testcase classname="A" name="c()"></testcase>
   </testsuite>
-  <testsuite name="[engine:x]/[class:B]" time="2.005" tests="2" failures="1" errors="0" skipped="1">
-    <testcase classname="[engine:x]/[class:B]" name="[engine:x]/[class:B]"><failure message="no close">no close</failure></testcase>
-    <testcase classname="[engine:x]/[class:B]" name="method:d()"><skipped/></testcase>
+  <testsuite name="B" time="2.005" tests="2" failures="1" errors="0" skipped="1">
+    <testcase classname="B" name="B"><failure type="failed" message="no close">no close</failure></testcase>
+    <testcase classname="B" name="d()"><skipped/></testcase>
   </testsuite>
 </testsuites>
 "#;
@@ -102,6 +103,18 @@ const IN_TEXT: &str = "[engine:x] successful closed 0 took 3661.999 s flaky, pas
 tests 4 successful 2 aborted 0 failed 1 skipped 1
 computed 0 found 0 closed 0 close faults 0
 ";
+
+/// The report as JSON lines.
+const IN_JSON: &str =
+    r#"{"id":"[engine:x]","test":false,"status":"successful","fault":null,"more":0,"computed":0,"found":0,"closed":0,"close_faults":0,"millis":3661999,"attempt":2}
+{"id":"[engine:x]/[class:A]","test":false,"status":"successful","fault":null,"more":0,"computed":0,"found":0,"closed":0,"close_faults":0,"millis":1304}
+{"id":"[engine:x]/[class:A]/[method:a()]","test":true,"status":"successful","fault":null,"more":0,"computed":0,"found":0,"closed":0,"close_faults":0,"millis":1234,"attempt":3}
+{"id":"[engine:x]/[class:A]/[method:b()]","test":true,"status":"failed","fault":"too <late>","more":0,"computed":0,"found":0,"closed":0,"close_faults":0,"millis":70}
+{"id":"[engine:x]/[class:A]/[method:c()]","test":true,"status":"successful","fault":null,"more":0,"computed":0,"found":0,"closed":0,"close_faults":0}
+{"id":"[engine:x]/[class:B]","test":false,"status":"failed","fault":"no close","more":0,"computed":0,"found":0,"closed":0,"close_faults":0,"millis":2005}
+{"id":"[engine:x]/[class:B]/[method:d()]","test":true,"status":"skipped","fault":null,"more":0,"computed":0,"found":0,"closed":0,"close_faults":0}
+{"version":1,"totals":{"tests":4,"successful":2,"aborted":0,"failed":1,"skipped":1,"computed":0,"found":0,"closed":0,"close_faults":0}}
+"#;
 
 /// The report as a tree.
 const IN_A_TREE: &str = "engine:x successful closed 0 took 3661.999 s flaky, passed at attempt 2
@@ -128,13 +141,33 @@ fn tells<R: Abort>(rt: &R, alloc: Global, tree: &Tree, results: &[NodeResult]) -
     Ok(())
 }
 
-/// Tests `junit_report_with`, `report_text_with` and `tree_report_with`.
+/// Asserts what the report of these results as JSON lines tells.
+fn tells_lines<R: Abort>(
+    rt: &R,
+    alloc: Global,
+    tree: &Tree,
+    results: &[NodeResult],
+) -> Result<(), Fail> {
+    assert!(rt; results.iter().all(|r| r.node < tree.len()));
+    let extras = extras_of(alloc, &KNOWN)?;
+    let lines = json_report_with(alloc, tree, results, &extras)?;
+    same(
+        rt,
+        lines.as_slice(),
+        IN_JSON.as_bytes(),
+        "the report as JSON lines",
+    );
+    Ok(())
+}
+
+/// Tests `junit_report_with`, `json_report_with`, `report_text_with` and `tree_report_with`.
 #[test]
 fn reports_with_times_and_attempts(rt: HostRuntime) -> Result<(), Fail> {
     let ids = read_ids(rt.alloc(), &CONTEXTS)?;
     let tree = Tree::build(rt.alloc(), ids.as_slice())?;
     let results = results(rt.alloc())?;
-    tells(&rt, rt.alloc(), &tree, results.as_slice())
+    tells(&rt, rt.alloc(), &tree, results.as_slice())?;
+    tells_lines(&rt, rt.alloc(), &tree, results.as_slice())
 }
 
 /// The times of these contexts, where two tests took as long.

@@ -19,6 +19,8 @@ mod held;
 #[cfg(test)]
 mod keys;
 #[cfg(test)]
+mod lent;
+#[cfg(test)]
 mod locks;
 #[cfg(test)]
 mod opening;

@@ -90,7 +90,7 @@ pub(crate) fn open_container<'a, R: Wait, V: StoreValue + Drop, S: Suite<V>>(
 }
 
 /// Closes a container: calls its after-callbacks on the first lane, in order, however each ends,
-/// closes its context with all lanes, and answers its result.
+/// closes its context with all lanes, tells the suite how it ended, and answers its result.
 ///
 /// The container is one that `open_container` gave. There is at least one lane, all are the
 /// store's, and the suite may be run over the store. Refused as `Unjoined` where its context can't
@@ -135,10 +135,14 @@ pub(crate) fn close_container<'a, R: Wait, V: StoreValue + Drop, S: Suite<V>>(
         &mut tally,
     );
     match nodes.close_node(node, closer, lanes) {
-        Ok(closes) => Ok(RanNode {
-            result: tally.result(node, false, closes),
-            went_on,
-        }),
+        Ok(closes) => {
+            let ended = tally.result(node, false, closes);
+            nodes.suite.ended(&ended);
+            Ok(RanNode {
+                result: ended,
+                went_on,
+            })
+        }
         Err(number) => Err(EngineFault::Unjoined(node, number)),
     }
 }

@@ -161,7 +161,7 @@ impl<'a, R: Wait, V: StoreValue + Drop, S: Suite<V>> NodeRunner<'a, R, V, S> {
     }
 
     /// Tells the suite that the test starts, takes its locks, makes its calls, closes its context,
-    /// and gives the locks back.
+    /// gives the locks back, and tells the suite how the test ended.
     fn run_locked(
         &self,
         node: ContextNo,
@@ -201,14 +201,17 @@ impl<'a, R: Wait, V: StoreValue + Drop, S: Suite<V>> NodeRunner<'a, R, V, S> {
         let closed = self.close_node(node, closer, lanes);
         give_locks(self.locks, &mut lock_lanes[0], held);
         match closed {
-            Ok(closes) => Ok(tally.result(node, true, closes)),
+            Ok(closes) => {
+                let ended = tally.result(node, true, closes);
+                self.suite.ended(&ended);
+                Ok(ended)
+            }
             Err(number) => Err(EngineFault::Unjoined(node, number)),
         }
     }
 
     /// Closes the context of a node with the lanes in hand, by an action of the suite, and asks
-    /// again where a lane computes a value for it or other lanes are in the way. Then tells the
-    /// suite that the node has ended.
+    /// again where a lane computes a value for it or other lanes are in the way.
     ///
     /// There is at least one lane, all are the store's, and the closer is that of the node's
     /// context. Refused with the number of a remaining value that no lane in hand knows: then the
@@ -236,10 +239,7 @@ impl<'a, R: Wait, V: StoreValue + Drop, S: Suite<V>> NodeRunner<'a, R, V, S> {
     {
         let mut action = self.suite.action(node);
         match close_again(self.rt, self.store, closer, lanes, &mut action) {
-            Ok(closes) => {
-                self.suite.ended(node);
-                Ok(closes)
-            }
+            Ok(closes) => Ok(closes),
             Err(number) => Err(number),
         }
     }

@@ -17,12 +17,14 @@ returns c =
     let name = suite_name (id_at ids suite) in
     let time = suite_time extras suite in
     let counts = count_attributes (counts_of_cases view) in
-    let cases = flat_map (case_element extras ids suite) view in
+    let cases = flat_map (case_element extras ids name) view in
     let named = c.in_ok-push_str-2.ensures.bytes ∙ ap (λ n. string_bytes c.push_str.new.self ++ n) (c.as_str.ensures.value ∙ c.in_ok-name.ensures ∙ ap suite_name c.id.ensures) in
     let counted = c.in_ok-write_to.ensures ∙ ap (λ n. string_bytes c.write_suite_time.new.text ++ count_attributes n) c.of.ensures in
+    let told =
+    c.in_ok-write_cases.ensures ∙ ap (λ n. string_bytes c.write_to.new.text ++ flat_map (case_element extras ids n) view) (c.as_str-2.ensures.value ∙ c.in_ok-name.ensures ∙ ap suite_name c.id.ensures) in
     let two = joined _ _ _ begin name c.in_ok-push_str.ensures.bytes named in
     let three = joined _ _ _ (begin ++ name) (codes "\"") two c.in_ok-push_str-3.ensures.bytes in
     let four = joined _ _ _ ((begin ++ name) ++ codes "\"") time three c.in_ok-write_suite_time.ensures in
     let five = joined _ _ _ (((begin ++ name) ++ codes "\"") ++ time) counts four counted in
-    let six = joined _ _ _ ((((begin ++ name) ++ codes "\"") ++ time) ++ counts) cases five c.in_ok-write_cases.ensures in
+    let six = joined _ _ _ ((((begin ++ name) ++ codes "\"") ++ time) ++ counts) cases five told in
     joined _ _ _ (((((begin ++ name) ++ codes "\"") ++ time) ++ counts) ++ cases) (codes "  </testsuite>\n") six c.in_ok-push_str-4.ensures.bytes

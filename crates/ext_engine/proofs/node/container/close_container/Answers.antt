@@ -27,7 +27,7 @@ returns-in-Ok-clause-ends g c = λ path befores by.
       afters_made = afters-on makes c.args.lanes.now _ _ (afters_of registered false node path) a.0 (c.as_slice.ensures.value ∙ by.afters_are) c.requires.lanes a.1;
       faults = closed.0;
       closes = closed.1;
-      own_is = ap (λ x. first x c.args.begun.went_on) (c.result.ensures made closed.0 a.2 closed.2)
+      own_is = ap (λ x. first x c.args.begun.went_on) (c.result-ended.ensures made closed.0 a.2 closed.2)
           ∙ ap (λ w. first (result_of node false (endings_of made) (computed_in made) (found_in made) closed.0) w) by.went_on_is;
     }
 

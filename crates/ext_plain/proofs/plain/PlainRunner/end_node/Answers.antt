@@ -20,11 +20,11 @@ returns-clause-end g c = record {
       let closed = map close_fault (closeables sealed.values c.as_slice.result.now) in
       let told : closed ≡ faults_of_closes s.places at sealed = ap (λ ns. map close_fault (closeables sealed.values ns)) numbers in
       let counted = c.in_ok-closes.ensures in
-      let shown = outcome_is at c.args.is_test s closed outcomes counted.faults c.result.result (c.result.ensures outcomes counted.faults tallied counted.counted) counted.texts in
+      let shown = outcome_is at c.args.is_test s closed outcomes counted.faults c.result-ended.result (c.result-ended.ensures outcomes counted.faults tallied counted.counted) counted.texts in
       let results = results_view old.results.items in
       let left = with_memory later sealed in
       let sealing = ap (with_memory later) (c.in_ok-numbers.ensures.state ∙ ap (λ n. seal_keys n at s) c.places-places.ensures.places) ∙ seal_keys-with later s.places at s in
-      let end = end_is at c.args.is_test (calls_end (with_memory later s) outcomes) results left closed (result_view c.result.result) sealing told shown in
+      let end = end_is at c.args.is_test (calls_end (with_memory later s) outcomes) results left closed (result_view c.result-ended.result) sealing told shown in
       let store = ap (λ caller. with_memory later (state_view caller.store)) c.set_result.ensures.caller in
       ap (λ t. record { state = t; results = results_view c.set_result.new.self.results.items }) store
       ∙ ap (λ rs. record { state = left; results = rs }) c.set_result.ensures.results

@@ -43,7 +43,7 @@ returns-in-Ok g c =
           faults = closed.0;
           closes = closed.1;
           given_back = on-first (GivesBack held) locked _ _ still_some c.give_locks.ensures.gives;
-          ran_is = same-told _ _ (c.result.ensures m.0 closed.0 m.2 closed.2);
+          ran_is = same-told _ _ (c.result-ended.ensures m.0 closed.0 m.2 closed.2);
         },
       );
       early = tt;

@@ -1,0 +1,72 @@
+-- What is told of a run, and how the program ends. `ext_report` has the forms of a report.
+use Rattle.std.specs.Prelude.{ℕ, ◌/◌, ◌^◌, ◌==◌, ◌&&◌, nat_lt, Bool, true, false, codes, encode_utf8, List, ◌++◌, Option, Some, None, if◌then◌else◌, slice_get}
+use Rattle.std.specs.List.{flat_map}
+use Rattle.std.specs.Str.{chars}
+use Rattle.std.specs.Duration.{as_nanos}
+use Rattle.std.specs.declared.time.Duration.{Duration}
+use Rattle.ext_lifecycle.specs.FaultTexts.{NodeOutcome}
+use Rattle.ext_lifecycle.specs.Results.{with_fault_told}
+use Rattle.ext_lifecycle.specs.declared.node_result.NodeResult.{NodeResult}
+use Rattle.ext_report.specs.Report.{any_failed}
+use Rattle.ext_report.specs.declared.extra.Extra.{Extra}
+use Rattle.ext_table.specs.declared.listener.LeftOut.{LeftOut}
+use Rattle.ext_table.specs.declared.listener.LeftOut.TheVariants as left_out
+use Rattle.ext_runner.specs.declared.node_log.NodeLog.{NodeLog}
+use Rattle.ext_runner.specs.declared.ending.Ending.{Ending}
+use Rattle.ext_runner.specs.declared.ending.Ending.TheVariants.{Failed, NothingSelected, NotRun, Passed, WrongWords}
+
+-- ---- which results are told
+
+-- Whether a node came: one in reserve may not.
+abbrev pub comes : Option LeftOut → Bool
+comes None = true
+comes (Some left_out.Stopped) = true
+comes (Some left_out.DidNotCome) = false
+
+abbrev pub has_come : Option NodeLog → Bool
+has_come None = false
+has_come (Some log) = comes log.left_out
+
+-- Whether a result is told in a tree of so many nodes, by what is known of each.
+abbrev pub is_told : ℕ → List NodeLog → NodeResult → Bool
+is_told count logs r = nat_lt r.node count && has_come (slice_get logs r.node)
+
+-- What is told of a node beside its fault: how it ended, and what it counted.
+abbrev pub without_faults : NodeResult → NodeResult
+without_faults r = record r { fault = None; more = 0 }
+
+-- How long a node took in whole milliseconds, if it is known, and they fit 64 bits.
+abbrev pub whole_millis : Option Duration → Option ℕ
+whole_millis None = None
+whole_millis (Some took) = if nat_lt (as_nanos took / 1_000_000) (2 ^ 64) then Some (as_nanos took / 1_000_000) else None
+
+-- What is told of a node beside its result.
+abbrev pub extra_of : NodeLog → Extra
+extra_of log = record { millis = whole_millis log.took; attempt = log.attempt }
+
+-- ---- texts
+
+-- A character of a text of several lines. In ASCII 10 is the line feed.
+abbrev pub indented_character : ℕ → List ℕ
+indented_character c = encode_utf8 c ++ (if c == 10 then codes "    " else codes "")
+
+-- The text, whose lines behind the first are indented.
+abbrev pub indented : List ℕ → List ℕ
+indented text = flat_map indented_character (chars text)
+
+abbrev pub with_indented_fault : NodeOutcome → NodeOutcome
+with_indented_fault r = with_fault_told indented r
+
+-- ---- endings
+
+-- How the program ends after a run with these results.
+abbrev pub ending_of : List NodeOutcome → Ending
+ending_of rs = if any_failed rs then Failed else Passed
+
+-- The exit status of the program.
+abbrev pub exit_code : Ending → ℕ
+exit_code Passed = 0
+exit_code Failed = 1
+exit_code WrongWords = 2
+exit_code NotRun = 3
+exit_code NothingSelected = 4

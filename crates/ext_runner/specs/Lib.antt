@@ -1,0 +1,5 @@
+-- What the clauses of this crate speak of.
+pub mod InnerCommand
+pub mod InnerEarlierRuns
+pub mod Selecting
+pub mod InnerTelling

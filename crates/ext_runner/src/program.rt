@@ -1,0 +1,245 @@
+//! The program of an engine.
+use crate::command::{Asked, Options, read_words};
+use crate::ending::Ending;
+use crate::results::told_results;
+use crate::run_log::{Listed, RunLog, Watching};
+use crate::selecting::selected_by;
+use crate::telling::{is_colored, tell};
+use ext_model::Size;
+use ext_store::Limits;
+use ext_table::{Engine, RunLimits, TableFault, TableRun, TestTable, run_table};
+use std::io::IsTerminal;
+use std::process::ExitCode;
+use std::sync::Wait;
+use std::thread::{Threads, available_parallelism, join_mut};
+use std::time::{Clock, Instant};
+
+/// The most lanes of a run.
+const MOST_LANES: usize = 32;
+
+/// The program of an engine of this name: reads the words of its command line, runs the tests of the
+/// table that they select, and tells of them. `--help` prints the words.
+///
+/// Its exit status is 0, or 1 if a test or a container failed, 2 if the words are wrong, 3 if the
+/// tests were not run or a file was not read or written, and 4 if no test is selected. A table that
+/// was not made is told, and then nothing is run. `threads` and `rt` are the runtime of `main`. Takes
+/// memory, and may wait.
+///
+/// JUnit 5 User Guide, section "Console Launcher"; the words are an own rule.
+pub fn main_of<R: Threads + Wait + Sync + Clock, E: Engine + Sync>(
+    threads: &R,
+    rt: &HostRuntime,
+    name: &str,
+    engine: &E,
+    table: Result<TestTable<E::Given>, TableFault>,
+) -> ExitCode
+where
+    E::Given: Drop + Sync,
+    E::Shared: Send + Sync,
+{
+    match done(threads, rt, name, engine, table) {
+        Ok(ending) => ExitCode::from(ending.code()),
+        Err(why) => {
+            let _ = eprintln!(rt; "{name}: {why}");
+            ExitCode::from(Ending::NotRun.code())
+        }
+    }
+}
+
+/// Does what the words ask for.
+fn done<R: Threads + Wait + Sync + Clock, E: Engine + Sync>(
+    threads: &R,
+    rt: &HostRuntime,
+    name: &str,
+    engine: &E,
+    table: Result<TestTable<E::Given>, TableFault>,
+) -> anyhow::Result<Ending>
+where
+    E::Given: Drop + Sync,
+    E::Shared: Send + Sync,
+{
+    match read_words(rt, name)? {
+        Asked::Run(options) => run_asked(threads, rt, name, engine, table?, &options),
+        Asked::Helped => Ok(Ending::Passed),
+        Asked::Refused => Ok(Ending::WrongWords),
+    }
+}
+
+/// Runs or lists the tests of a table that the options select.
+fn run_asked<R: Threads + Wait + Sync + Clock, E: Engine + Sync>(
+    threads: &R,
+    rt: &HostRuntime,
+    name: &str,
+    engine: &E,
+    table: TestTable<E::Given>,
+    options: &Options,
+) -> anyhow::Result<Ending>
+where
+    E::Given: Drop + Sync,
+    E::Shared: Send + Sync,
+{
+    let table = selected_by(rt, table, &options.selecting, options.running.order)?;
+    if table.rows.is_empty() {
+        eprintln!(rt; "{name}: no test is selected")?;
+        Ok(Ending::NothingSelected)
+    } else if options.selecting.list {
+        list(rt, &table)?;
+        Ok(Ending::Passed)
+    } else {
+        run_repeated(threads, rt, engine, &table, options)
+    }
+}
+
+/// Prints the ids of the tests of a table.
+fn list<T>(rt: &HostRuntime, table: &TestTable<T>) -> anyhow::Result<()> {
+    for (id, row) in table.ids.iter().zip(table.rows.iter()) {
+        if row.test.is_some() {
+            let mut text = String::new(rt.alloc());
+            id.write_to(&mut text)?;
+            println!(rt; "{}", text.as_str())?;
+        }
+    }
+    Ok(())
+}
+
+/// Runs a table as often as is asked, until a run fails.
+fn run_repeated<R: Threads + Wait + Sync + Clock, E: Engine + Sync>(
+    threads: &R,
+    rt: &HostRuntime,
+    engine: &E,
+    table: &TestTable<E::Given>,
+    options: &Options,
+) -> anyhow::Result<Ending>
+where
+    E::Given: Drop + Sync,
+    E::Shared: Send + Sync,
+{
+    let times = options.running.repeat;
+    for time in 1..times {
+        eprintln!(rt; "run {time} of {times}")?;
+        let ending = run_once(threads, rt, engine, table, options)?;
+        if !matches!(ending, Ending::Passed) {
+            return Ok(ending);
+        }
+    }
+    if times > 1 {
+        eprintln!(rt; "run {times} of {times}")?;
+    }
+    run_once(threads, rt, engine, table, options)
+}
+
+/// Runs a table, and tells of the run.
+fn run_once<R: Threads + Wait + Sync + Clock, E: Engine + Sync>(
+    threads: &R,
+    rt: &HostRuntime,
+    engine: &E,
+    table: &TestTable<E::Given>,
+    options: &Options,
+) -> anyhow::Result<Ending>
+where
+    E::Given: Drop + Sync,
+    E::Shared: Send + Sync,
+{
+    let at_terminal = rt.stderr().is_terminal();
+    let watching = Watching {
+        each: at_terminal,
+        colored: is_colored(rt, options.telling.color, at_terminal),
+    };
+    let listed = listed(rt, table, options)?;
+    let begun = Instant::now(rt).ok();
+    let log = RunLog::new(threads, rt, listed, watching)?;
+    let run = run_watched(
+        threads,
+        rt,
+        engine,
+        table,
+        limits(threads, table, options),
+        &log,
+    )?;
+    let took = match begun {
+        Some(begun) => begun.elapsed(rt).ok(),
+        None => None,
+    };
+    if at_terminal {
+        eprintln!(rt; "")?;
+    }
+    let (listed, state) = log.into_parts();
+    let TableRun { store, results } = run;
+    let tree = store.tree();
+    let told = told_results(rt.alloc(), tree, results, listed.as_slice(), &state)?;
+    tell(
+        rt,
+        tree,
+        &told,
+        listed.as_slice(),
+        &state,
+        took,
+        &options.telling,
+    )
+}
+
+/// Runs a table beside a thread that tells what there is to tell meanwhile.
+fn run_watched<R: Threads + Wait + Sync + Clock, E: Engine + Sync>(
+    threads: &R,
+    rt: &HostRuntime,
+    engine: &E,
+    table: &TestTable<E::Given>,
+    limits: RunLimits,
+    log: &RunLog<R>,
+) -> anyhow::Result<TableRun<E::Shared>>
+where
+    E::Given: Sync,
+    E::Shared: Send + Sync,
+{
+    let mut tell = || log.tell_to_the_end();
+    let mut run = || {
+        let ran = run_table(threads, rt, engine, table, limits, log);
+        log.finish();
+        ran
+    };
+    let ((), ran) = join_mut(threads, &mut tell, &mut run);
+    Ok(ran?)
+}
+
+/// The limits of a run: a large store where a usual one has no place for so many nodes or lanes.
+fn limits<R: Threads, T>(threads: &R, table: &TestTable<T>, options: &Options) -> RunLimits {
+    let processors = match available_parallelism(threads) {
+        Ok(count) => count.get(),
+        Err(_) => 1,
+    };
+    let lanes = match options.running.lanes {
+        Some(lanes) => usize::from(lanes),
+        None => processors,
+    };
+    let lanes = lanes.clamp(1, MOST_LANES);
+    let is_large = lanes > Size::Usual.lanes() || table.rows.len() > Size::Usual.contexts();
+    RunLimits {
+        limits: Limits {
+            keep_faults: true,
+            size: if is_large { Size::Large } else { Size::Usual },
+            ..Limits::new(lanes)
+        },
+        attempts: options.running.retries.saturating_add(1),
+        stop_after: u64::from(options.running.stop_after),
+    }
+}
+
+/// The nodes of a table as they are told.
+fn listed<T>(
+    rt: &HostRuntime,
+    table: &TestTable<T>,
+    options: &Options,
+) -> anyhow::Result<Vec<Listed>> {
+    let mut listed = Vec::new(rt.alloc());
+    for (id, row) in table.ids.iter().zip(table.rows.iter()) {
+        let mut text = String::new(rt.alloc());
+        id.write_to(&mut text)?;
+        let is_test = row.test.is_some();
+        listed.push(Listed {
+            id: text,
+            is_test,
+            slow_after: row.slow_after.or(options.running.slow),
+        })?;
+    }
+    Ok(listed)
+}

@@ -1,0 +1,277 @@
+//! The results of a run as they are told: with all that failed, and without what did not come.
+ghost use Rattle.std.specs.Prelude.{◌≡◌, ◌<◌, ◌++◌, All, IfOk, OnOk, filter, length, map, option_map, string_bytes};
+ghost use Rattle.ext_lifecycle.specs.FaultTexts.{fault_text, result_view, results_view};
+ghost use Rattle.ext_runner.specs.InnerTelling.{extra_of, has_come, indented, indented_character, is_told, whole_millis, with_indented_fault, without_faults};
+
+use crate::node_log::{NodeLog, ToldFault};
+use crate::run_log::{Listed, State};
+use ext_report::{Extra, NodeResult};
+use ext_table::{ContextNo, Fault, FaultPlace, Kind, LeftOut};
+use ext_tree::Tree;
+use std::alloc::{AllocError, Global};
+use std::time::Duration;
+
+/// The results as they are told, and what is known beside them.
+#[derive(Drop)]
+pub(crate) struct ToldResults {
+    pub(crate) results: Vec<NodeResult>,
+    pub(crate) extras: Vec<Extra>,
+}
+
+/// What is told of these results. The fault of a node has all its faults, on lines of their own.
+/// Nodes in reserve that did not come are left out.
+pub(crate) fn told_results(
+    alloc: Global,
+    tree: &Tree,
+    results: Vec<NodeResult>,
+    listed: &[Listed],
+    state: &State,
+) -> Result<ToldResults, AllocError>
+    ensures within { IfOk result (λ told. All (λ r. r.node < length tree.now) told.results.items) }
+    ensures same { IfOk result (λ told. map without_faults told.results.items ≡ map without_faults (filter (is_told (length tree.now) state.now.nodes.items) results.items)) }
+    ensures extras { IfOk result (λ told. told.extras.items ≡ map extra_of state.now.nodes.items) }
+{
+    let logs = state.nodes.as_slice();
+    Ok(ToldResults {
+        results: results_with_faults(alloc, tree.len(), results, listed, logs)?,
+        extras: extras_of(alloc, logs)?,
+    })
+}
+
+/// The results that are told, each with all faults of its node, in a tree of so many nodes.
+fn results_with_faults(
+    alloc: Global,
+    count: usize,
+    results: Vec<NodeResult>,
+    listed: &[Listed],
+    logs: &[NodeLog],
+) -> Result<Vec<NodeResult>, AllocError>
+    ensures within { IfOk result (λ told. All (λ r. r.node < count) told.items) }
+    ensures same { IfOk result (λ told. map without_faults told.items ≡ map without_faults (filter (is_told count logs.now) results.items)) }
+{
+    let mut told = Vec::new(alloc);
+    for ran in results {
+        if is_told(count, logs, &ran) {
+            told.push(with_all_faults(alloc, listed, ran, logs)?)?;
+        }
+    }
+    Ok(told)
+}
+
+/// Whether what came of a node is told: not of one in reserve that did not come.
+fn is_told(count: usize, logs: &[NodeLog], ran: &NodeResult) -> bool
+    ensures { result ≡ is_told count logs.now ran.now }
+{
+    ran.node < count && has_come(logs.get(ran.node))
+}
+
+/// Whether a node came that has this log.
+fn has_come(log: Option<&NodeLog>) -> bool
+    ensures { result ≡ has_come (option_map (λ log. log.now) log.entry) }
+{
+    match log {
+        Some(log) => !matches!(log.left_out, Some(LeftOut::DidNotCome)),
+        None => false,
+    }
+}
+
+/// What is known of each node beside its result.
+fn extras_of(alloc: Global, logs: &[NodeLog]) -> Result<Vec<Extra>, AllocError>
+    ensures { IfOk result (λ extras. extras.items ≡ map extra_of logs.now) }
+{
+    logs.iter().map(extra_of).collect(alloc)
+}
+
+/// What is known of a node beside its result.
+fn extra_of(log: &NodeLog) -> Extra
+    ensures { result ≡ extra_of log.now }
+{
+    Extra {
+        millis: whole_millis(log.took),
+        attempt: log.attempt,
+    }
+}
+
+/// The time in whole milliseconds, if it is known and they fit.
+fn whole_millis(took: Option<Duration>) -> Option<u64>
+    ensures { result ≡ whole_millis took }
+{
+    match took {
+        Some(took) => u64::try_from(took.as_millis()).ok(),
+        None => None,
+    }
+}
+
+/// The result, whose fault has all faults of the node.
+fn with_all_faults(
+    alloc: Global,
+    listed: &[Listed],
+    ran: NodeResult,
+    logs: &[NodeLog],
+) -> Result<NodeResult, AllocError>
+    ensures { IfOk result (λ told. without_faults told ≡ without_faults ran) }
+{
+    match logs.get(ran.node) {
+        Some(log) if !log.faults.is_empty() => {
+            let text = text_of_all(alloc, listed, ran.node, log.faults.as_slice())?;
+            Ok(with_text(ran, text))
+        }
+        _ => Ok(ran),
+    }
+}
+
+/// The result with this text for its fault.
+fn with_text(ran: NodeResult, text: String) -> NodeResult
+    ensures { without_faults result ≡ without_faults ran }
+{
+    let NodeResult {
+        node,
+        is_test,
+        status,
+        fault: _,
+        more: _,
+        computed,
+        found,
+        closed,
+        close_faults,
+    } = ran;
+    NodeResult {
+        node,
+        is_test,
+        status,
+        fault: Some(Fault::Text(text)),
+        more: 0,
+        computed,
+        found,
+        closed,
+        close_faults,
+    }
+}
+
+/// The texts of these faults, each on lines of its own.
+fn text_of_all(
+    alloc: Global,
+    listed: &[Listed],
+    node: ContextNo,
+    faults: &[ToldFault],
+) -> Result<String, AllocError> {
+    let mut text = String::new(alloc);
+    for (at, fault) in faults.iter().enumerate() {
+        if at > 0 {
+            text.push('\n')?;
+        }
+        write_place(&mut text, listed, node, fault.place)?;
+        text.push_str(fault.text.as_str())?;
+    }
+    Ok(text)
+}
+
+/// Writes where in this node a fault came, unless it came in the test itself.
+fn write_place(
+    text: &mut String,
+    listed: &[Listed],
+    node: ContextNo,
+    place: FaultPlace,
+) -> Result<(), AllocError> {
+    match place {
+        FaultPlace::Close => text.push_str("close: "),
+        FaultPlace::Step { call, .. } => match call.kind {
+            Kind::Test => Ok(()),
+            kind => {
+                text.push_str(word_of(kind))?;
+                write_owner(text, listed, node, call.from)?;
+                text.push_str(": ")
+            }
+        },
+    }
+}
+
+/// Writes which node registered a callback, unless it is the node itself.
+fn write_owner(
+    text: &mut String,
+    listed: &[Listed],
+    node: ContextNo,
+    from: ContextNo,
+) -> Result<(), AllocError> {
+    match listed.get(from) {
+        Some(owner) if from != node => {
+            text.push_str(" of ")?;
+            text.push_str(owner.id.as_str())
+        }
+        _ => Ok(()),
+    }
+}
+
+fn word_of(kind: Kind) -> &'static str {
+    match kind {
+        Kind::BeforeAll => "before all",
+        Kind::BeforeEach => "before each",
+        Kind::Test => "test",
+        Kind::AfterEach => "after each",
+        Kind::AfterAll => "after all",
+    }
+}
+
+/// The results, whose faults of several lines are indented behind the first.
+pub(crate) fn indented(alloc: Global, results: &[NodeResult]) -> Result<Vec<NodeResult>, AllocError>
+    ensures views { IfOk result (λ told. results_view told.items ≡ map with_indented_fault (results_view results.now)) }
+    ensures nodes { IfOk result (λ told. map (λ r. r.node) told.items ≡ map (λ r. r.node) results.now) }
+{
+    let mut told = Vec::new(alloc);
+    for ran in results {
+        told.push(with_indented_fault(alloc, ran)?)?;
+    }
+    Ok(told)
+}
+
+/// A copy of the result, whose fault is indented.
+fn with_indented_fault(alloc: Global, ran: &NodeResult) -> Result<NodeResult, AllocError>
+    ensures view { IfOk result (λ told. result_view told ≡ with_indented_fault (result_view ran.now)) }
+    ensures node { IfOk result (λ told. told.node ≡ ran.now.node) }
+{
+    let fault = indented_fault(alloc, &ran.fault)?;
+    Ok(NodeResult {
+        node: ran.node,
+        is_test: ran.is_test,
+        status: ran.status,
+        fault,
+        more: ran.more,
+        computed: ran.computed,
+        found: ran.found,
+        closed: ran.closed,
+        close_faults: ran.close_faults,
+    })
+}
+
+#[tactic(auto, using(crate::proofs::Indenting::no_memory_stays))]
+fn indented_fault(alloc: Global, fault: &Option<Fault>) -> Result<Option<Fault>, AllocError>
+    ensures { IfOk result (λ told. option_map fault_text told ≡ option_map indented (option_map fault_text fault.now)) }
+{
+    match fault {
+        Some(Fault::Text(text)) => Ok(Some(Fault::Text(indented_text(alloc, text.as_str())?))),
+        Some(Fault::Memory) => Ok(Some(Fault::Memory)),
+        None => Ok(None),
+    }
+}
+
+/// The text, whose lines behind the first are indented.
+fn indented_text(alloc: Global, text: &str) -> Result<String, AllocError>
+    ensures { IfOk result (λ told. string_bytes told ≡ indented text.now) }
+{
+    let mut told = String::new(alloc);
+    for c in text.chars() {
+        write_indented(&mut told, c)?;
+    }
+    Ok(told)
+}
+
+/// Writes a character of a text, and behind a line feed four spaces.
+fn write_indented(text: &mut String, c: char) -> Result<(), AllocError>
+    ensures { OnOk result (string_bytes text.new ≡ string_bytes text.old ++ indented_character c) }
+{
+    text.push(c)?;
+    if c == '\n' {
+        text.push_str("    ")?;
+    }
+    Ok(())
+}

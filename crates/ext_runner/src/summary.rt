@@ -1,0 +1,200 @@
+//! What people are told of a run.
+ghost use Rattle.std.specs.Prelude.{◌<◌, All, length};
+
+use crate::live::{write_seconds, write_word};
+use crate::run_log::{Listed, State};
+use ext_report::{NodeResult, Status, write_visible, write_visible_lines};
+use ext_table::LeftOut;
+use std::alloc::{AllocError, Global};
+use std::time::Duration;
+
+/// How many tests ended in each way.
+#[derive(Clone, Copy)]
+struct Counts {
+    passed: usize,
+    flaky: usize,
+    failed: usize,
+    aborted: usize,
+    skipped: usize,
+    /// Containers that failed or aborted.
+    containers: usize,
+}
+
+/// What did not pass, each with all that it said, and how many tests ended in each way.
+pub(crate) fn summary(
+    alloc: Global,
+    listed: &[Listed],
+    state: &State,
+    results: &[NodeResult],
+    took: Option<Duration>,
+    colored: bool,
+) -> Result<String, AllocError> {
+    let mut text = String::new(alloc);
+    for ran in results {
+        if let Some(node) = listed.get(ran.node) {
+            write_not_passed(alloc, &mut text, node.id.as_str(), ran, colored)?;
+        }
+    }
+    for (node, log) in listed.iter().zip(state.nodes.iter()) {
+        if log.is_flaky() {
+            write_flaky(&mut text, node.id.as_str(), log.earlier.as_slice(), colored)?;
+        }
+    }
+    write_counts(alloc, &mut text, counts_of(state, results), took, colored)?;
+    write_skipped(&mut text, state, results)?;
+    if state.lost {
+        text.push_str("what failed is not told whole, for want of memory\n")?;
+    }
+    Ok(text)
+}
+
+/// Writes a node that failed or aborted, and all that it said.
+fn write_not_passed(
+    alloc: Global,
+    text: &mut String,
+    id: &str,
+    ran: &NodeResult,
+    colored: bool,
+) -> Result<(), AllocError> {
+    let (word, color) = match ran.status {
+        Status::Failed => ("failed ", "\x1b[31m"),
+        Status::Aborted => ("aborted", "\x1b[33m"),
+        Status::Successful | Status::Skipped => return Ok(()),
+    };
+    write_word(text, word, color, colored)?;
+    text.push_str(" ")?;
+    write_visible(text, id)?;
+    text.push('\n')?;
+    if let Some(fault) = &ran.fault {
+        let fault = format!(in alloc; "{fault}")?;
+        write_indented(text, fault.as_str())?;
+    }
+    text.push('\n')
+}
+
+/// Writes the lines of a text, each indented.
+fn write_indented(text: &mut String, lines: &str) -> Result<(), AllocError> {
+    for line in lines.lines() {
+        text.push_str("    ")?;
+        write_visible_lines(text, line)?;
+        text.push('\n')?;
+    }
+    Ok(())
+}
+
+/// Writes a test that passed after attempts that failed, with what they said.
+fn write_flaky(
+    text: &mut String,
+    id: &str,
+    earlier: &[String],
+    colored: bool,
+) -> Result<(), AllocError> {
+    write_word(text, "flaky  ", "\x1b[33m", colored)?;
+    text.push_str(" ")?;
+    write_visible(text, id)?;
+    text.push('\n')?;
+    for fault in earlier {
+        write_indented(text, fault.as_str())?;
+    }
+    text.push('\n')
+}
+
+/// Counts how tests ended.
+fn counts_of(state: &State, results: &[NodeResult]) -> Counts {
+    let mut counts = Counts {
+        passed: 0,
+        flaky: 0,
+        failed: 0,
+        aborted: 0,
+        skipped: 0,
+        containers: 0,
+    };
+    for ran in results {
+        let is_flaky = match state.nodes.get(ran.node) {
+            Some(log) => log.is_flaky(),
+            None => false,
+        };
+        let place = match (ran.is_test, ran.status) {
+            (true, Status::Successful) if is_flaky => &mut counts.flaky,
+            (true, Status::Successful) => &mut counts.passed,
+            (true, Status::Failed) => &mut counts.failed,
+            (true, Status::Aborted) => &mut counts.aborted,
+            (true, Status::Skipped) => &mut counts.skipped,
+            (false, Status::Failed | Status::Aborted) => &mut counts.containers,
+            (false, Status::Successful | Status::Skipped) => continue,
+        };
+        *place = place.saturating_add(1);
+    }
+    counts
+}
+
+/// Writes how many tests ended in each way, and how long the run took.
+fn write_counts(
+    alloc: Global,
+    text: &mut String,
+    counts: Counts,
+    took: Option<Duration>,
+    colored: bool,
+) -> Result<(), AllocError> {
+    let mut parts = String::new(alloc);
+    write_part(&mut parts, counts.passed, "passed", "\x1b[32m", colored)?;
+    write_part(&mut parts, counts.flaky, "flaky", "\x1b[33m", colored)?;
+    write_part(&mut parts, counts.failed, "failed", "\x1b[31m", colored)?;
+    write_part(&mut parts, counts.aborted, "aborted", "\x1b[33m", colored)?;
+    write_part(&mut parts, counts.skipped, "skipped", "\x1b[2m", colored)?;
+    let tests = counts
+        .passed
+        .saturating_add(counts.flaky)
+        .saturating_add(counts.failed)
+        .saturating_add(counts.aborted)
+        .saturating_add(counts.skipped);
+    write!(text, "{tests} tests")?;
+    if let Some(took) = took {
+        text.push_str(" in ")?;
+        write_seconds(text, took)?;
+    }
+    text.push_str(parts.as_str())?;
+    if counts.containers > 0 {
+        let containers = counts.containers;
+        write!(text, "; {containers} containers did not pass themselves")?;
+    }
+    text.push('\n')
+}
+
+/// Writes how many tests ended so, unless none did: behind a colon the first, others behind commas.
+fn write_part(
+    parts: &mut String,
+    count: usize,
+    word: &str,
+    color: &str,
+    colored: bool,
+) -> Result<(), AllocError> {
+    if count == 0 {
+        return Ok(());
+    }
+    parts.push_str(if parts.is_empty() { ": " } else { ", " })?;
+    write!(parts, "{count} ")?;
+    write_word(parts, word, color, colored)
+}
+
+/// Says why tests were skipped.
+fn write_skipped(
+    text: &mut String,
+    state: &State,
+    results: &[NodeResult],
+) -> Result<(), AllocError> {
+    let skipped = results
+        .iter()
+        .filter(|ran| ran.is_test && matches!(ran.status, Status::Skipped))
+        .count();
+    let stopped = state
+        .nodes
+        .iter()
+        .any(|log| log.left_out == Some(LeftOut::Stopped));
+    if skipped > 0 && stopped {
+        text.push_str("skipped: so many had failed that no more were begun\n")?;
+    } else if skipped > 0 {
+        text.push_str("skipped: what they stand in did not pass before them\n")?;
+    }
+    Ok(())
+}

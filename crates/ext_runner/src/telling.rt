@@ -1,0 +1,189 @@
+//! What is told once a run is over.
+ghost use Rattle.std.specs.Prelude.{◌≡◌, ◌<◌, All, IfOk, length, map, string_bytes};
+ghost use Rattle.ext_lifecycle.specs.FaultTexts.{results_view};
+ghost use Rattle.ext_report.specs.JsonLines.{json_with};
+ghost use Rattle.ext_report.specs.Report.{report_with};
+ghost use Rattle.ext_report.specs.TreeLines.{tree_with};
+ghost use Rattle.ext_runner.specs.InnerTelling.{ending_of, with_indented_fault};
+
+use crate::command::{ColorChoice, Form, Telling};
+use crate::ending::Ending;
+use crate::live::write_seconds;
+use crate::results::{ToldResults, indented};
+use crate::run_log::{Listed, State};
+use crate::summary::summary;
+use ext_report::{
+    NodeResult, any_failed, json_report_with, junit_report_with, report_text_with,
+    tree_report_with, write_visible,
+};
+use ext_tree::Tree;
+use std::alloc::{AllocError, Global};
+use std::io::{self, IsTerminal, Write};
+use std::time::Duration;
+use std::{env, fs};
+
+/// Tells of a run on standard output and in files, as is asked. Answers how the program ends.
+pub(crate) fn tell(
+    rt: &HostRuntime,
+    tree: &Tree,
+    told: &ToldResults,
+    listed: &[Listed],
+    state: &State,
+    took: Option<Duration>,
+    telling: &Telling,
+) -> anyhow::Result<Ending>
+    requires { All (λ r. r.node < length tree.now) told.now.results.items }
+{
+    let alloc = rt.alloc();
+    write_files(rt, tree, told, telling)?;
+    if telling.durations > 0 {
+        let text = slowest(alloc, listed, state, telling.durations as usize)?;
+        eprint!(rt; "{}", text.as_str())?;
+    }
+    match telling.form {
+        Form::Summary => {
+            let colored = is_colored(rt, telling.color, rt.stdout().is_terminal());
+            let results = told.results.as_slice();
+            let text = summary(alloc, listed, state, results, took, colored)?;
+            print!(rt; "{}", text.as_str())?;
+        }
+        Form::Text => print!(rt; "{}", text_report(alloc, tree, told)?.as_str())?,
+        Form::Tree => print!(rt; "{}", tree_report(alloc, tree, told)?.as_str())?,
+        Form::Json => {
+            let bytes = json_of(alloc, tree, told)?;
+            io::writer(rt).write_all(bytes.as_slice())?;
+        }
+    }
+    Ok(ending_of(told.results.as_slice()))
+}
+
+/// Writes the files that are asked for.
+fn write_files(
+    rt: &HostRuntime,
+    tree: &Tree,
+    told: &ToldResults,
+    telling: &Telling,
+) -> anyhow::Result<()>
+    requires { All (λ r. r.node < length tree.now) told.now.results.items }
+{
+    if let Some(file) = &telling.junit {
+        let (results, extras) = (told.results.as_slice(), told.extras.as_slice());
+        let text = junit_report_with(rt.alloc(), tree, results, extras)?;
+        fs::write(rt, file.as_str(), text.as_str())?;
+    }
+    if let Some(file) = &telling.json {
+        let bytes = json_of(rt.alloc(), tree, told)?;
+        fs::write(rt, file.as_str(), bytes.as_slice())?;
+    }
+    Ok(())
+}
+
+/// How the program ends after these results.
+fn ending_of(results: &[NodeResult]) -> Ending
+    ensures { result ≡ ending_of (results_view results.now) }
+{
+    if any_failed(results) {
+        Ending::Failed
+    } else {
+        Ending::Passed
+    }
+}
+
+/// The report in JSON.
+fn json_of(alloc: Global, tree: &Tree, told: &ToldResults) -> Result<Vec<u8>, AllocError>
+    requires { All (λ r. r.node < length tree.now) told.now.results.items }
+    ensures { IfOk result (λ bytes. bytes.items ≡ json_with told.now.extras.items tree.now (results_view told.now.results.items)) }
+{
+    json_report_with(alloc, tree, told.results.as_slice(), told.extras.as_slice())
+}
+
+/// The report as text, with faults of several lines indented.
+fn text_report(alloc: Global, tree: &Tree, told: &ToldResults) -> Result<String, AllocError>
+    requires { All (λ r. r.node < length tree.now) told.now.results.items }
+    ensures { IfOk result (λ text. string_bytes text ≡ report_with told.now.extras.items tree.now (map with_indented_fault (results_view told.now.results.items))) }
+{
+    let results = indented(alloc, told.results.as_slice())?;
+    report_text_with(alloc, tree, results.as_slice(), told.extras.as_slice())
+}
+
+/// The report as a tree, with faults of several lines indented.
+fn tree_report(alloc: Global, tree: &Tree, told: &ToldResults) -> Result<String, AllocError>
+    requires { All (λ r. r.node < length tree.now) told.now.results.items }
+    ensures { IfOk result (λ text. string_bytes text ≡ tree_with told.now.extras.items tree.now (map with_indented_fault (results_view told.now.results.items))) }
+{
+    let results = indented(alloc, told.results.as_slice())?;
+    tree_report_with(alloc, tree, results.as_slice(), told.extras.as_slice())
+}
+
+/// The tests that took longest, so many at most, with what they waited for.
+fn slowest(
+    alloc: Global,
+    listed: &[Listed],
+    state: &State,
+    most: usize,
+) -> Result<String, AllocError> {
+    let mut timed: Vec<(u128, usize)> = Vec::new(alloc);
+    for (node, (listed, log)) in listed.iter().zip(state.nodes.iter()).enumerate() {
+        if let Some(took) = log.took
+            && listed.is_test
+        {
+            timed.push((u128::MAX - took.as_nanos(), node))?;
+        }
+    }
+    timed.sort()?;
+    let mut text = String::new(alloc);
+    for (_, node) in timed.iter().take(most) {
+        if let (Some(listed), Some(log)) = (listed.get(*node), state.nodes.get(*node)) {
+            write_slow(&mut text, listed.id.as_str(), log)?;
+        }
+    }
+    Ok(text)
+}
+
+/// Writes how long a test took, and what it waited for.
+fn write_slow(
+    text: &mut String,
+    id: &str,
+    log: &crate::node_log::NodeLog,
+) -> Result<(), AllocError> {
+    text.push_str("took ")?;
+    write_seconds(text, log.took.unwrap_or(Duration::ZERO))?;
+    text.push_str("  ")?;
+    write_visible(text, id)?;
+    write_part(text, ", waited for locks ", log.for_locks)?;
+    write_part(text, ", waited for what is shared ", log.for_shared)?;
+    write_part(text, ", made what is shared in ", log.made)?;
+    text.push('\n')
+}
+
+/// Writes a time behind its word, if it is a millisecond or more.
+fn write_part(text: &mut String, word: &str, time: Duration) -> Result<(), AllocError> {
+    if time.as_millis() == 0 {
+        return Ok(());
+    }
+    text.push_str(word)?;
+    write_seconds(text, time)
+}
+
+/// Whether what is told has colours: by the choice, or else at a terminal, unless the environment
+/// has a `NO_COLOR` that is not empty, or a `TERM` of `dumb`.
+pub(crate) fn is_colored(rt: &HostRuntime, color: ColorChoice, at_terminal: bool) -> bool {
+    match color {
+        ColorChoice::Always => true,
+        ColorChoice::Never => false,
+        ColorChoice::Auto => at_terminal && wants_colors(rt),
+    }
+}
+
+/// Whether the user wants colours.
+fn wants_colors(rt: &HostRuntime) -> bool {
+    let no_color = match env::var(rt, "NO_COLOR") {
+        Ok(value) => !value.is_empty(),
+        Err(why) => why != env::VarError::NotPresent,
+    };
+    let is_dumb = match env::var(rt, "TERM") {
+        Ok(value) => value.as_str() == "dumb",
+        Err(_) => false,
+    };
+    !no_color && !is_dumb
+}

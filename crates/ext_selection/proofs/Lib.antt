@@ -1,0 +1,5 @@
+pub mod Keeping
+pub mod Texts
+pub mod Ranks
+pub mod Starts
+pub mod Places

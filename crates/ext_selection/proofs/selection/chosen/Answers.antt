@@ -1,0 +1,41 @@
+use Rattle.std.proofs.Common.{◌≡◌, ◌∙◌, length, filter, ap, subst}
+use Rattle.std.specs.List.{range_with_len}
+use Rattle.std.proofs.lemmas.Result.{IfOk-weaker}
+use Rattle.ext_selection.specs.Nodes.{AreClosed, ArePlaces}
+use Rattle.ext_selection.proofs.Places.{chosen_places, closed_places}
+use Rattle.ext_selection.specs.Selection.{flag_at, wanted_of, AreKept, AreChosen}
+use Rattle.ext_selection.proofs.selection.chosen.Goals as goal
+
+pub returns-clause-chosen : goal.returns-clause-chosen
+returns-clause-chosen c =
+    let nodes = c.args.nodes.now in
+    let flags = c.in_ok-kept.kept.items in
+    let wanted : c.as_slice.result.now ≡ wanted_of c.args.selection.now c.args.ids.now =
+    c.as_slice.ensures.value ∙ c.in_ok-wanted.ensures in
+    IfOk-weaker c.places.result
+    (λ places. places.items ≡ filter (flag_at c.as_slice-2.result.now) (range_with_len 0 (length c.as_slice-2.result.now)))
+    (λ places. AreChosen nodes (wanted_of c.args.selection.now c.args.ids.now) places.items)
+    (λ places made. record {
+      kept = flag_at flags;
+      rule = subst (λ w. AreKept nodes w (flag_at flags)) wanted c.in_ok-kept.ensures.rule;
+      exact = made
+          ∙ ap (λ f. filter (flag_at f) (range_with_len 0 (length f))) c.as_slice-2.ensures.value
+          ∙ ap (λ n. filter (flag_at flags) (range_with_len 0 n)) c.in_ok-kept.ensures.len;
+    })
+    c.places.ensures
+
+pub returns-clause-places : goal.returns-clause-places
+returns-clause-places c =
+    IfOk-weaker c.places.result
+    (λ places. AreChosen c.args.nodes.now (wanted_of c.args.selection.now c.args.ids.now) places.items)
+    (λ places. ArePlaces (length c.args.nodes.now) places.items)
+    (λ places h. chosen_places c.args.nodes.now (wanted_of c.args.selection.now c.args.ids.now) places.items h)
+    (returns-clause-chosen c)
+
+pub returns-clause-closed : goal.returns-clause-closed
+returns-clause-closed c =
+    IfOk-weaker c.places.result
+    (λ places. AreChosen c.args.nodes.now (wanted_of c.args.selection.now c.args.ids.now) places.items)
+    (λ places. AreClosed c.args.nodes.now places.items)
+    (λ places h. closed_places c.args.nodes.now (wanted_of c.args.selection.now c.args.ids.now) places.items h)
+    (returns-clause-chosen c)

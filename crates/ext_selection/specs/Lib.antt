@@ -1,0 +1,9 @@
+pub mod Hashing
+pub mod InnerKeeping
+pub mod Nodes
+pub mod Selection
+pub mod SelectionLaws
+pub mod InnerRanks
+pub mod InnerStarts
+pub mod Shards
+pub mod Shuffling

@@ -1,0 +1,15 @@
+use Rattle.std.proofs.Common.{◌≡◌, ℕ, length, vec_len}
+use Rattle.std.specs.Prelude.{Some, slice_get}
+use Rattle.ext_table.specs.Arranging.{ArePlaces, IsRenumbered}
+use Rattle.ext_table.specs.declared.row.Row.{Row}
+use Rattle.ext_table.proofs.Arranging.{AreMoved}
+use Rattle.ext_table.proofs.arranged.renumbered.Given as goal
+
+abbrev pub invariant-loop-row : goal.invariant-loop-row
+invariant-loop-row g l = record {
+  done_long : length l.done.items ≡ length l.yielded;
+  done_len : vec_len l.done ≡ length l.yielded;
+  moved_long : length l.moved ≡ l.count;
+  moved : ArePlaces l.count l.places → AreMoved l.places (length l.yielded) l.moved;
+  each : ArePlaces l.count l.places → (at : ℕ) (a b : Row g.row.T.Denot) → slice_get l.fn.rows.items at ≡ Some a → slice_get l.done.items at ≡ Some b → IsRenumbered l.places at a b;
+}

@@ -1,0 +1,41 @@
+//! What is told of a run of a table while it lasts.
+use ext_lifecycle::{Call, NoListener, RunListener};
+use ext_model::{ContextNo, Fault};
+
+/// Why a node was left out of a run.
+#[derive(Clone, Copy, Debug, PartialEq, Eq)]
+pub enum LeftOut {
+    /// So many tests had failed that no more were to be begun.
+    Stopped,
+    /// It stood in reserve, and its engine did not let it come.
+    DidNotCome,
+}
+
+/// A listener to a run of a table while it lasts.
+///
+/// It is told what a `RunListener` is, in the same way: from the threads that run the nodes, each of
+/// which it holds up. Between the start and the end of a node come its calls. Within a call first
+/// come what it is handed, the outermost first, and then, if it is a test, its attempts. An own
+/// rule.
+pub trait TableListener: RunListener {
+    /// A call of the node begins. A test has its locks.
+    fn called(&self, _node: ContextNo, _call: &Call) {}
+
+    /// The call asks for what the node `from` shares. It may wait for it, or make it.
+    fn asks(&self, _node: ContextNo, _from: ContextNo) {}
+
+    /// The call was handed it. It has made it if it is new, or else found it.
+    fn handed(&self, _node: ContextNo, _from: ContextNo, _is_new: bool) {}
+
+    /// An attempt of the test begins: the first is 1.
+    fn tries(&self, _node: ContextNo, _attempt: u32) {}
+
+    /// An attempt failed with this fault, and is followed by another one. The fault of the last
+    /// attempt is told as that of the call.
+    fn failed_attempt(&self, _node: ContextNo, _attempt: u32, _fault: &Fault) {}
+
+    /// The node was left out, with all nodes below it.
+    fn left_out(&self, _node: ContextNo, _why: LeftOut) {}
+}
+
+impl TableListener for NoListener {}

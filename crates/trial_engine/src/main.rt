@@ -1,0 +1,271 @@
+//! An engine for tests of the command line: its tests pass, fail, abort, wait and pass at a later attempt in each way that a tester is
+//! told of. `scripts/parts/options.py` runs it with each option, and says what has to come of it.
+//!
+//! `TRIAL_TESTS` in the environment adds so many tests that pass.
+#![tactic(auto)]
+
+ghost use Rattle.ext_lane.specs.Lent.{IsSame};
+
+use ext_runner::{
+    Engine, ExitCode, Fault, Kept, Key, Kind, LentLane, LockMode, Namespace, Scope, Stop,
+    TableFault, TestTable, main_of,
+};
+use std::sync::Wait;
+use std::sync::atomic::{AtomicU64, Ordering};
+use std::time::Duration;
+use std::{env, thread};
+
+/// What a test or a callback does, and of what it is made that is shared.
+#[derive(Clone, Copy)]
+enum Task {
+    /// A count, from 0.
+    Count,
+    /// A value whose close fails.
+    Unclosable,
+    /// A value that cannot be made.
+    Unmakable,
+    Pass,
+    /// Takes so many milliseconds.
+    Sleep(u64),
+    Fail(&'static str),
+    Abort(&'static str),
+    /// Passes at this attempt.
+    PassAt(u64),
+    /// Fails unless the count stands at the first number, and sets it to the second.
+    Step(u64, u64),
+    /// Fails unless so many tests run this at once.
+    Meet(u64),
+    /// Stores a value of its own, which each attempt but the first finds.
+    Store,
+    /// A row in reserve: the first one comes.
+    Row(u64),
+}
+
+/// What tests share.
+#[derive(Drop)]
+enum Shared {
+    Count(AtomicU64),
+    Unclosable,
+}
+
+fn tests(rt: &HostRuntime) -> Result<TestTable<Task>, TableFault> {
+    let mut tests = TestTable::new(rt.alloc(), "trial")?;
+    add_times(&mut tests)?;
+    add_rows(&mut tests)?;
+    add_callbacks(&mut tests)?;
+    add_faults(&mut tests)?;
+    tests.class("Many")?;
+    for number in 0..many(rt) {
+        let name = format!(in rt.alloc(); "t{number}")?;
+        tests.test(name.as_str(), Task::Pass)?;
+    }
+    Ok(tests)
+}
+
+/// How many tests the environment asks for.
+fn many(rt: &HostRuntime) -> u32 {
+    match env::var(rt, "TRIAL_TESTS") {
+        Ok(word) => word.as_str().parse().unwrap_or(0),
+        Err(_) => 0,
+    }
+}
+
+/// Tests that take time, that run alone, at once or in turn, and that pass at a later attempt.
+fn add_times(tests: &mut TestTable<Task>) -> Result<(), TableFault> {
+    tests.class("Slow")?;
+    tests.test("sleeps", Task::Sleep(2_300))?;
+    tests.test("alone", Task::Sleep(10))?;
+    tests.alone();
+    tests.class("Meeting")?;
+    tests.share(Task::Count);
+    tests.test("one", Task::Meet(2))?;
+    tests.test("two", Task::Meet(2))?;
+    tests.class("Locked")?;
+    tests.lock("count", LockMode::ReadWrite)?;
+    tests.test("one", Task::Sleep(100))?;
+    tests.test("two", Task::Sleep(100))?;
+    tests.class("Flaky")?;
+    tests.share(Task::Count);
+    tests.test("third", Task::PassAt(3))?;
+    tests.class("Storing")?;
+    tests.test("twice", Task::Store)?;
+    tests.attempts(2);
+    Ok(())
+}
+
+/// A group of cases that are known when its turn comes.
+fn add_rows(tests: &mut TestTable<Task>) -> Result<(), TableFault> {
+    tests.class("Rows")?;
+    tests.in_turn();
+    tests.group("row")?;
+    tests.case("#1", Task::Row(1))?;
+    tests.reserve();
+    tests.case("#2", Task::Row(2))?;
+    tests.reserve();
+    Ok(())
+}
+
+/// Callbacks that fail where they come in another order.
+fn add_callbacks(tests: &mut TestTable<Task>) -> Result<(), TableFault> {
+    tests.class("Callbacks")?;
+    tests.share(Task::Count);
+    tests.tests_in_turn();
+    tests.before_all(Task::Step(0, 1))?;
+    tests.before_each(Task::Step(1, 2))?;
+    tests.before_each(Task::Step(2, 3))?;
+    tests.after_each(Task::Step(5, 1))?;
+    tests.after_each(Task::Step(4, 5))?;
+    tests.after_all(Task::Step(1, 9))?;
+    tests.test("one", Task::Step(3, 4))?;
+    tests.test("two", Task::Step(3, 4))?;
+    Ok(())
+}
+
+/// Tests and classes that do not pass.
+fn add_faults(tests: &mut TestTable<Task>) -> Result<(), TableFault> {
+    tests.class("Failing")?;
+    tests.test(
+        "lines",
+        Task::Fail("wanted <sum> 7, got:\nsum 6 & \"more\"\n\nthe end"),
+    )?;
+    tests.test("needs", Task::Abort("no network drive"))?;
+    tests.test("both", Task::Fail("first"))?;
+    tests.after_each(Task::Fail("second\nof two lines"))?;
+    tests.test("passes", Task::Pass)?;
+    tests.class("Broken")?;
+    tests.before_all(Task::Fail("no class"))?;
+    tests.test("never", Task::Pass)?;
+    tests.class("Unclosed")?;
+    tests.share(Task::Unclosable);
+    tests.test("passes", Task::Pass)?;
+    tests.class("Unmade")?;
+    tests.share(Task::Unmakable);
+    tests.test("one", Task::Pass)?;
+    tests.test("two", Task::Pass)?;
+    Ok(())
+}
+
+struct Trial;
+
+impl Engine for Trial {
+    type Given = Task;
+
+    type Shared = Shared;
+
+    fn make(&self, node: &Scope<Task, Shared>) -> Result<Shared, Stop> {
+        match node.given {
+            Task::Unclosable => Ok(Shared::Unclosable),
+            Task::Unmakable => Err(node.fail("nothing to be had")),
+            _ => Ok(Shared::Count(AtomicU64::new(0))),
+        }
+    }
+
+    fn close(&self, _rt: &HostRuntime, shared: &Shared) -> Result<(), Stop> {
+        match shared {
+            Shared::Count(_) => Ok(()),
+            Shared::Unclosable => Err(anyhow::anyhow!("it does not close").into()),
+        }
+    }
+
+    fn run_test(&self, test: &Scope<Task, Shared>) -> Result<(), Stop> {
+        act(test)
+    }
+
+    fn run_in_store<R: Wait>(
+        &self,
+        threads: &R,
+        test: &Scope<Task, Shared>,
+        lane: &mut LentLane<Kept<Shared>>,
+    ) -> Result<(), Stop> {
+        match test.given {
+            Task::Store => store(threads, test, lane),
+            _ => act(test),
+        }
+    }
+
+    fn call_back(&self, _kind: Kind, node: &Scope<Task, Shared>) -> Result<(), Stop> {
+        act(node)
+    }
+
+    fn comes(&self, given: &Task) -> bool {
+        matches!(given, Task::Row(1))
+    }
+}
+
+/// Does what a call is given.
+fn act(call: &Scope<Task, Shared>) -> Result<(), Stop> {
+    match call.given {
+        Task::Sleep(millis) => {
+            thread::sleep(call.rt, Duration::from_millis(*millis));
+            Ok(())
+        }
+        Task::Fail(why) => Err(call.fail(*why)),
+        Task::Abort(why) => Err(call.abort(*why)),
+        Task::PassAt(attempt) => pass_at(call, count(call)?, *attempt),
+        Task::Step(from, to) => step(call, count(call)?, *from, *to),
+        Task::Meet(others) => meet(call, count(call)?, *others),
+        _ => Ok(()),
+    }
+}
+
+/// The count that the nearest node on the path shares.
+fn count<'a>(call: &Scope<'a, Task, Shared>) -> Result<&'a AtomicU64, Stop> {
+    match call.nearest()? {
+        Shared::Count(count) => Ok(count),
+        Shared::Unclosable => Err(call.fail("no count is shared")),
+    }
+}
+
+fn pass_at(call: &Scope<Task, Shared>, count: &AtomicU64, attempt: u64) -> Result<(), Stop> {
+    if count.fetch_add(1, Ordering::SeqCst).saturating_add(1) < attempt {
+        return Err(call.fail("not yet"));
+    }
+    Ok(())
+}
+
+fn step(call: &Scope<Task, Shared>, count: &AtomicU64, from: u64, to: u64) -> Result<(), Stop> {
+    let stood = count.swap(to, Ordering::SeqCst);
+    if stood != from {
+        return Err(call.fail(format_args!("the count stood at {stood}, not at {from}")));
+    }
+    Ok(())
+}
+
+/// Finds the value of its own, or stores one and fails.
+fn store<R: Wait>(
+    threads: &R,
+    test: &Scope<Task, Shared>,
+    lane: &mut LentLane<Kept<Shared>>,
+) -> Result<(), Stop>
+    ensures { IsSame lane.old lane.new }
+{
+    let Ok(key) = Key::new(test.rt.alloc(), Namespace::global(), "own") else {
+        return Err(test.fail("no key"));
+    };
+    let make = |_key: &Key| -> Result<Kept<Shared>, Fault> {
+        Ok(Kept(Shared::Count(AtomicU64::new(0))))
+    };
+    let answer = lane.compute_wait(threads, test.node, &key, make);
+    match lane.found_or_made(answer) {
+        Ok(made) if made.is_new => Err(test.fail("nothing was found")),
+        Ok(_) => Ok(()),
+        Err(why) => Err(Stop::Failed(why)),
+    }
+}
+
+/// Waits a second at most until so many tests have come here.
+fn meet(call: &Scope<Task, Shared>, count: &AtomicU64, others: u64) -> Result<(), Stop> {
+    count.fetch_add(1, Ordering::SeqCst);
+    for _ in 0..1_000 {
+        if count.load(Ordering::SeqCst) >= others {
+            return Ok(());
+        }
+        thread::sleep(call.rt, Duration::from_millis(1));
+    }
+    count.fetch_sub(1, Ordering::SeqCst);
+    Err(call.fail("nobody came"))
+}
+
+fn main(rt: HostRuntime) -> ExitCode {
+    main_of(&rt, &rt, "trial", &Trial, tests(&rt))
+}

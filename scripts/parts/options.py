@@ -1,0 +1,215 @@
+"""Runs the proved trial engine, crates/trial_engine, with each option of the command line that engines have, and compares what comes out with what has to. Prints a line for each case.
+
+What a case says is written here, by docs/ENGINES.md. Times are compared as `T`. The XML is read by Python's own parser. A further word is another program to run; with
+`--write` the sessions at terminals are written to examples/sessions in place of being compared.
+"""
+import json
+import os
+import pathlib
+import pty
+import re
+import subprocess
+import tempfile
+import threading
+import xml.etree.ElementTree
+
+from parts.terminal import read_all
+
+TOP = pathlib.Path(__file__).resolve().parent.parent.parent
+PROGRAM = TOP / "crates" / "trial_engine" / "out" / "trial_engine"
+SESSIONS = TOP / "examples" / "sessions"
+MANY = 1000
+
+FAILING = "[engine:trial]/[class:Failing]"
+LINES = 'wanted <sum> 7, got:\nsum 6 & "more"\n\nthe end'
+LINES_TOLD = '    wanted <sum> 7, got:\n    sum 6 & "more"\n    \n    the end\n'
+BOTH = "first\nafter each: second\nof two lines"
+
+
+def masked(text):
+    """The text without its times."""
+    return re.sub(r"\d+\.\d{3} s", "T", text)
+
+
+class Ran:
+    """What a run of the program gave: the text of both streams, and the status."""
+
+    def __init__(self, program, words, many=0):
+        environment = {"PATH": os.environ["PATH"], "TERM": "xterm", "TRIAL_TESTS": str(many)}
+        ran = subprocess.run([program, *words], capture_output=True, text=True, stdin=subprocess.DEVNULL, env=environment, timeout=120)
+        self.out, self.err, self.status = masked(ran.stdout), masked(ran.stderr), ran.returncode
+
+    def tests(self):
+        """The ids of a list of tests."""
+        return self.out.splitlines()
+
+
+def at_terminal(program, words, columns):
+    """What a terminal of so many columns shows of a run, and the status: standard output and standard error are both it."""
+    parent, child = pty.openpty()
+    shown = []
+    reader = threading.Thread(target=read_all, args=(parent, shown))
+    environment = {"PATH": os.environ["PATH"], "TERM": "xterm", "NO_COLOR": "1", "TRIAL_TESTS": "0", "COLUMNS": str(columns)}
+    ran = subprocess.Popen([program, *words], stdin=child, stdout=child, stderr=child, env=environment)
+    os.close(child)
+    reader.start()
+    status = ran.wait(timeout=120)
+    reader.join()
+    os.close(parent)
+    lines = masked(b"".join(shown).decode().replace("\r\n", "\n")).splitlines()
+    return "".join(line[at : at + columns] + "\n" for line in lines for at in range(0, max(len(line), 1), columns)), status
+
+
+def selecting(program):
+    """Which tests the words select."""
+    everything = Ran(program, ["--list"]).tests()
+    failing = [it for it in everything if it.startswith(FAILING)]
+    callbacks = [it for it in everything if "[class:Callbacks]" in it]
+    nothing = Ran(program, ["Failing", "Nowhere", "--skip", "Failing"])
+    yield "--list has all tests in their order", len(everything) == 20 and everything[0] == "[engine:trial]/[class:Slow]/[test:sleeps]" and everything[-1].endswith("[class:Unmade]/[test:two]")
+    yield "a part of an id selects", Ran(program, ["--list", "Failing"]).tests() == failing and len(failing) == 4
+    yield "one of several parts selects", Ran(program, ["--list", "s:Failing", "lbacks]"]).tests() == callbacks + failing
+    yield "--skip leaves out", Ran(program, ["--list", "Failing", "--skip", "needs", "--skip", "both"]).tests() == [failing[0], failing[3]]
+    yield "--exact takes whole ids", Ran(program, ["--list", "--exact", failing[1]]).tests() == [failing[1]]
+    yield "--exact takes what stands in a class", Ran(program, ["--list", "--exact", FAILING]).tests() == failing
+    yield "--exact takes no part of an id", Ran(program, ["--list", "--exact", FAILING[:-1], "[class:Failing]"]).status == 4
+    yield "--exact holds for --skip, too", Ran(program, ["--list", "Failing", "--exact", "--skip", failing[0]]).status == 4
+    yield "no test selected is status 4, and said", (nothing.out, nothing.err, nothing.status) == ("", "trial: no test is selected\n", 4)
+
+
+def sharding(program):
+    """Shards of many tests part them, and are the same whatever else is there."""
+    everything = Ran(program, ["--list", "Many"], MANY).tests()
+    shards = [Ran(program, ["--list", "Many", "--shard", f"{part}/7"], MANY).tests() for part in range(1, 8)]
+    half = Ran(program, ["--list", "Many", "--shard", "3/7"], MANY // 2).tests()
+    yield "shards of 1,000 tests are disjoint and whole", len(everything) == MANY and sorted(sum(shards, [])) == sorted(everything)
+    yield "none of them is much larger than the others", all(MANY / 7 * 0.7 < len(it) < MANY / 7 * 1.3 for it in shards)
+    yield "tests of a shard stay in it when tests are added", set(half) == set(shards[2]) & set(Ran(program, ["--list", "Many"], MANY // 2).tests())
+    for words in ["0/2", "3/2", "1", "a/2", "1/0", "-1/2"]:
+        wrong = Ran(program, [f"--shard={words}"])
+        yield f"--shard {words} is refused", wrong.status == 2 and wrong.err.startswith("error: --shard takes K/N") and not wrong.out
+
+
+def failed_again(program, folder):
+    """The tests that failed in an earlier run are run again, and no others."""
+    earlier, wrong = str(folder / "earlier.json"), folder / "wrong.json"
+    first = Ran(program, ["Failing", "Unmade", "Unclosed", "--json", earlier])
+    again = Ran(program, ["--failed", earlier, "--list"])
+    rerun = Ran(program, ["--failed", earlier, "--report", "json"])
+    failed = [it for it in map(json.loads, rerun.out.splitlines()) if it.get("test")]
+    wrong.write_text('{"id":\n', encoding="utf-8")
+    refused, missing = Ran(program, ["--failed", str(wrong)]), Ran(program, ["--failed", str(folder / "none")])
+    wanted = [f"{FAILING}/[test:lines]", f"{FAILING}/[test:both]", "[engine:trial]/[class:Unmade]/[test:one]", "[engine:trial]/[class:Unmade]/[test:two]"]
+    yield "--failed selects what failed before", first.status == 1 and again.tests() == wanted
+    yield "and runs it again", [it["id"] for it in failed] == wanted and all(it["status"] == "failed" for it in failed)
+    yield "a file that is no report is told", refused.status == 3 and refused.err == f"trial: {wrong}: line 1 is no line of a report in JSON\n"
+    yield "so is one that is not there", missing.status == 3 and missing.err.startswith(f"trial: {folder}/none: ")
+
+
+def running(program):
+    """How tests are run."""
+    alone, together = Ran(program, ["Meeting", "--lanes", "1"]), Ran(program, ["Meeting", "--lanes", "2"])
+    locked = subprocess.run([program, "Locked", "--lanes", "2"], capture_output=True, text=True, env={})
+    seconds = float(re.search(r" in (\d+\.\d+) s", locked.stdout)[1])
+    flaky, twice = Ran(program, ["Flaky", "--retries", "2"]), Ran(program, ["Flaky", "--retries", "1"])
+    rows = Ran(program, ["Rows", "--report", "tree"])
+    storing = Ran(program, ["Storing", "--report", "text"])
+    callbacks = Ran(program, ["Callbacks", "--report", "text"])
+    yield "--lanes 2 runs two tests at once", together.out == "2 tests in T: 2 passed\n" and together.status == 0
+    yield "--lanes 1 does not", alone.out.count("    nobody came\n") == 2 and alone.status == 1
+    yield "without it there are as many lanes as processors", Ran(program, ["Meeting"]).status == (0 if os.cpu_count() > 1 else 1)
+    yield "tests with one lock are apart", seconds >= 0.2
+    yield "--retries runs a test again", flaky.out == "flaky   [engine:trial]/[class:Flaky]/[test:third]\n    not yet\n    not yet\n\n1 tests in T: 1 flaky\n" and flaky.status == 0
+    yield "no more often than it says", twice.out == "failed  [engine:trial]/[class:Flaky]/[test:third]\n    not yet\n\n1 tests in T: 1 failed\n" and twice.status == 1
+    yield "a test that may be run twice finds at its second attempt what it stored at the first", "[test:twice] successful closed 1 took T flaky, passed at attempt 2\n" in storing.out
+    yield "of rows in reserve those that come are run and told", "case:#1 successful" in rows.out and "case:#2" not in rows.out and "tests 1 successful 1" in rows.out
+    yield "callbacks come in JUnit's order", "tests 2 successful 2 " in callbacks.out and "[class:Callbacks] successful closed 1" in callbacks.out
+    for words, status in [(["--lanes", "0"], 2), (["--lanes", "33"], 2), (["--retries", "x"], 2), (["--fail-fast=0"], 2), (["--shuffle=x"], 2), (["--bogus"], 2), (["--help"], 0)]:
+        yield f"{' '.join(words)} is status {status}", Ran(program, words).status == status
+
+
+def stopping(program):
+    """What --fail-fast leaves out, and that nothing is made for it."""
+    one, two = (Ran(program, ["Failing", "Flaky", "Callbacks", "--lanes", "1", f"--fail-fast={it}", "--report", "text"]) for it in (1, 2))
+    told = Ran(program, ["Failing", "Flaky", "--lanes", "1", "--fail-fast"])
+    some = Ran(program, ["Callbacks", "Flaky", "--skip", "Flaky", "--report", "text"])
+    yield "--fail-fast begins no test after the first that fails", one.status == 1 and " failed 1 skipped 6\n" in one.out
+    yield "--fail-fast=2 after the second", " failed 2 skipped " in two.out
+    yield "why tests were skipped is told", told.out.endswith("skipped: so many had failed that no more were begun\n")
+    yield "what no selected test shares is not made", "computed 1 found" in some.out and "closed 1 close" in some.out and "Flaky" not in some.out
+
+
+def ordering(program):
+    """--shuffle gives each seed an order, the same each time; --repeat runs all again."""
+    listed = Ran(program, ["--list", "Many"], 50).tests()
+    orders = [Ran(program, ["--list", "Many", f"--shuffle={seed}"], 50) for seed in (1, 1, 2)]
+    seeded = Ran(program, ["--list", "Many", "--shuffle"], 50)
+    told = re.fullmatch(r"the order is that of --shuffle=(\d+)\n", seeded.err)
+    repeated, ended = Ran(program, ["Rows", "--repeat", "3"]), Ran(program, ["Flaky", "--repeat", "3"])
+    yield "--shuffle=SEED orders all tests anew", orders[0].out != orders[2].out != "" and all(sorted(it.tests()) == sorted(listed) != it.tests() for it in orders)
+    yield "the same seed gives the same order", orders[0].out == orders[1].out
+    yield "--shuffle tells its seed, which gives the order again", told and Ran(program, ["--list", "Many", f"--shuffle={told[1]}"], 50).out == seeded.out
+    yield "tests that run in turn keep their order", all(Ran(program, ["--list", "Callbacks", f"--shuffle={it}"]).out == Ran(program, ["--list", "Callbacks"]).out for it in range(4))
+    yield "--repeat runs all so often", repeated.out == "1 tests in T: 1 passed\n" * 3 and repeated.err == "run 1 of 3\nrun 2 of 3\nrun 3 of 3\n"
+    yield "and ends with a run that fails", ended.err == "run 1 of 3\n" and ended.status == 1
+
+
+def telling(program, folder):
+    """What is told of a run."""
+    xml, js = str(folder / "r.xml"), str(folder / "r.json")
+    people = Ran(program, ["Failing", "Broken", "Unclosed", "--lanes", "1"])
+    text = Ran(program, ["Failing", "--lanes", "1", "--report", "text", "--junit", xml, "--json", js, "--durations", "2"])
+    nodes = [json.loads(it) for it in pathlib.Path(js).read_text(encoding="utf-8").splitlines()]
+    cases = {it.get("name"): it for it in xml_of(xml).iter("testcase")}
+    slow = Ran(program, ["Slow", "--slow", "1", "--lanes", "1", "--durations", "1"])
+    colored, unwritten = Ran(program, ["Failing", "--color", "always"]), Ran(program, ["Rows", "--junit", "/nowhere/x.xml"])
+    yield "people are told what did not pass, whole", people.out == (
+        f"failed  {FAILING}/[test:lines]\n{LINES_TOLD}\n"
+        f"aborted {FAILING}/[test:needs]\n    no network drive\n\n"
+        f"failed  {FAILING}/[test:both]\n    first\n    after each: second\n    of two lines\n\n"
+        "failed  [engine:trial]/[class:Broken]\n    before all: no class\n\n"
+        "failed  [engine:trial]/[class:Unclosed]\n    close: it does not close\n\n"
+        "6 tests in T: 2 passed, 2 failed, 1 aborted, 1 skipped; 2 containers did not pass themselves\n"
+        "skipped: what they stand in did not pass before them\n"
+    )  # fmt: skip
+    yield "the text has times, and all lines of a message", f"{FAILING}/[test:lines] failed closed 0 took T: wanted <sum> 7, got:\n    sum 6 & \"more\"\n    \n    the end\n" in text.out
+    yield "JSON has messages whole, and all faults", [it["fault"] for it in nodes if it.get("test")] == [LINES, "no network drive", BOTH, None]
+    yield "JSON has times", all("millis" in it for it in nodes if it.get("test"))
+    yield "XML has messages whole, and all faults", "".join(cases["lines"].find("failure").itertext()) == LINES and "".join(cases["both"].find("failure").itertext()) == BOTH
+    yield "XML has times and class names", all(float(it.get("time")) >= 0 and it.get("classname") == "Failing" for it in cases.values()) and len(cases) == 4
+    yield "--durations tells the slowest tests alone", re.fullmatch(r"(took T  \[engine:trial\]/\[class:Failing\]/\[test:\w+\]\n){2}", text.err)
+    yield "--slow tells of a test that runs longer, once", slow.err.startswith("slow    > 1 s  [engine:trial]/[class:Slow]/[test:sleeps]\n") and slow.err.count("slow ") == 1
+    yield "and --durations how long it took", slow.err.endswith("took T  [engine:trial]/[class:Slow]/[test:sleeps]\n")
+    yield "--color always has colours", "\x1b[31mfailed \x1b[0m" in colored.out and "\x1b[" not in people.out
+    yield "a file that can't be written is status 3", unwritten.status == 3 and "trial: " in unwritten.err
+
+
+def xml_of(path):
+    return xml.etree.ElementTree.parse(path).getroot()
+
+
+def sessions(program, writing):
+    """What terminals of 80 and of 40 columns show is what the files of examples/sessions say."""
+    words = ["Failing", "Flaky", "Rows", "--lanes", "1", "--retries", "2"]
+    for columns in (80, 40):
+        shown, status = at_terminal(program, words, columns)
+        path = SESSIONS / f"{columns}.txt"
+        if writing:
+            path.parent.mkdir(exist_ok=True)
+            path.write_text(shown, encoding="utf-8")
+        yield f"a session at {columns} columns is that of examples/sessions", status == 1 and path.is_file() and shown == path.read_text(encoding="utf-8")
+
+
+def main(_program, words):
+    writing = "--write" in words
+    program = next((it for it in words if it != "--write"), PROGRAM)
+    with tempfile.TemporaryDirectory(prefix="options-") as name:
+        folder = pathlib.Path(name)
+        cases = [
+            *selecting(program), *sharding(program), *failed_again(program, folder), *running(program), *stopping(program),
+            *ordering(program), *telling(program, folder), *sessions(program, writing),
+        ]  # fmt: skip
+    for what, holds in cases:
+        print(f"options: {what}: {'yes' if holds else 'NO'}")
+    failed = sum(not holds for _, holds in cases)
+    return len(cases) - failed, failed
