@@ -95,7 +95,7 @@ def checks_of_mistake(folder):
     """Writes a mistake into the engine's source, and checks that it is compiled once and told."""
     source = folder / "crates" / NAME / "src" / "main.rt"
     text = source.read_text(encoding="utf-8")
-    source.write_text(text.replace("tests.share(0);", "tests.share(none);"), encoding="utf-8")
+    source.write_text(text.replace("tests.share(6);", "tests.share(none);"), encoding="utf-8")
     ran = run(folder / "run")
     source.write_text(text, encoding="utf-8")
     return {"a mistake is compiled once, and told": ran.returncode == 3 and ran.stderr.count("error[") == 1 and "main.rt:" in ran.stderr}

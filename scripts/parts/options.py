@@ -8,6 +8,7 @@ import os
 import pathlib
 import pty
 import re
+import signal
 import subprocess
 import tempfile
 import threading
@@ -115,6 +116,8 @@ def running(program):
     rows = Ran(program, ["Rows", "--report", "tree"])
     storing = Ran(program, ["Storing", "--report", "text"])
     callbacks = Ran(program, ["Callbacks", "--report", "text"])
+    interrupted = subprocess.Popen([program, "Slow"], stdout=subprocess.DEVNULL, stderr=subprocess.DEVNULL, env={})
+    interrupted.send_signal(signal.SIGINT)
     yield "--lanes 2 runs two tests at once", together.out == "2 tests in T: 2 passed\n" and together.status == 0
     yield "--lanes 1 does not", alone.out.count("    nobody came\n") == 2 and alone.status == 1
     yield "without it there are as many lanes as processors", Ran(program, ["Meeting"]).status == (0 if os.cpu_count() > 1 else 1)
@@ -124,6 +127,7 @@ def running(program):
     yield "a test that may be run twice finds at its second attempt what it stored at the first", "[test:twice] successful closed 1 took T flaky, passed at attempt 2\n" in storing.out
     yield "of rows in reserve those that come are run and told", "case:#1 successful" in rows.out and "case:#2" not in rows.out and "tests 1 successful 1" in rows.out
     yield "callbacks come in JUnit's order", "tests 2 successful 2 " in callbacks.out and "[class:Callbacks] successful closed 1" in callbacks.out
+    yield "Ctrl-C ends it", interrupted.wait(timeout=60) == -signal.SIGINT
     for words, status in [(["--lanes", "0"], 2), (["--lanes", "33"], 2), (["--retries", "x"], 2), (["--fail-fast=0"], 2), (["--shuffle=x"], 2), (["--bogus"], 2), (["--help"], 0)]:
         yield f"{' '.join(words)} is status {status}", Ran(program, words).status == status
 

@@ -15,16 +15,16 @@ abbrev pub node_of : {T : Type 0} → Row T → Node
 node_of row = record { is_test = is_some row.test; is_in_turn = not (is_concurrent row.mode); above = row.above }
 
 -- These are the chosen places, in their own order or in that of a seed.
-abbrev pub IsOrderOf : Option ℕ → List Id → List Node → List ℕ → List ℕ → Type 0
-IsOrderOf None ids nodes chosen places = places ≡ chosen
-IsOrderOf (Some seed) ids nodes chosen places = IsPermutation chosen places × IsOrder nodes (drawn_at seed ids) places
+abbrev pub AreOrdered : Option ℕ → List Id → List Node → List ℕ → List ℕ → Type 0
+AreOrdered None ids nodes chosen places = places ≡ chosen
+AreOrdered (Some seed) ids nodes chosen places = IsPermutation chosen places × IsOrder nodes (drawn_at seed ids) places
 
 -- The places of the selected nodes, in their order.
 pub record IsInOrder (selection : Selection) (seed : Option ℕ) (ids : List Id) (nodes : List Node) (places : List ℕ)
     : Type 0 where
   pub chosen : List ℕ
   pub are_chosen : AreChosen nodes (wanted_of selection ids) chosen
-  pub order : IsOrderOf seed ids nodes chosen places
+  pub order : AreOrdered seed ids nodes chosen places
 
 -- The table has the rows at these places, and no others.
 pub record IsSelected {T : Type 0} (selection : Selection) (seed : Option ℕ) (ids : List Id) (rows : List (Row T))

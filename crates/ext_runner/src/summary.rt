@@ -67,13 +67,13 @@ fn write_not_passed(
     text.push('\n')?;
     if let Some(fault) = &ran.fault {
         let fault = format!(in alloc; "{fault}")?;
-        write_indented(text, fault.as_str())?;
+        write_lines_indented(text, fault.as_str())?;
     }
     text.push('\n')
 }
 
 /// Writes the lines of a text, each indented.
-fn write_indented(text: &mut String, lines: &str) -> Result<(), AllocError> {
+fn write_lines_indented(text: &mut String, lines: &str) -> Result<(), AllocError> {
     for line in lines.lines() {
         text.push_str("    ")?;
         write_visible_lines(text, line)?;
@@ -94,7 +94,7 @@ fn write_flaky(
     write_visible(text, id)?;
     text.push('\n')?;
     for fault in earlier {
-        write_indented(text, fault.as_str())?;
+        write_lines_indented(text, fault.as_str())?;
     }
     text.push('\n')
 }

@@ -5,7 +5,8 @@ use Rattle.std.proofs.lemmas.List.{take_more, get_or_default, get_or_push, lengt
 use Rattle.std.proofs.lemmas.List.Elements.{All-cons, All-nil}
 use Rattle.std.proofs.lemmas.Bool.{cases_lt}
 use Rattle.std.proofs.lemmas.Option.{get_or_from_slice_get, slice_get-get_or, slice_get_within}
-use Rattle.ext_table.specs.Arranging.{ArePlaces, AreRenumbered, IsRenumbered}
+use Rattle.ext_selection.specs.Nodes.{ArePlaces}
+use Rattle.ext_table.specs.Arranging.{AreRenumbered, IsRenumbered}
 use Rattle.ext_table.specs.declared.row.Row.{Row}
 
 -- ---- slots

@@ -53,5 +53,5 @@ pub passed_by : (answer : Result (Unit {0}) Stop) (verdict : Verdict) → IsVerd
 passed_by (Ok done) verdict is other failed = failed
 passed_by (Err (stops.Failed why)) verdict is other failed = other why is
 passed_by (Err (stops.Aborted why)) verdict is other failed = failed
-passed_by (Err (stops.Error why)) verdict is other failed = other is.0 is.1
-passed_by (Err (stops.Io why)) verdict is other failed = other is.0 is.1
+passed_by (Err (stops.Error why)) verdict is other failed = other is.0 is.2
+passed_by (Err (stops.Io why)) verdict is other failed = other is.0 is.2

@@ -1,11 +1,6 @@
 -- Tables that have some nodes of another, in another order. An own rule.
-use Rattle.std.specs.Prelude.{◌≡◌, ◌≢◌, ℕ, ◌<◌, Option, Some, None, List, All, AllPairs, length, map, slice_get, slice_index_or}
+use Rattle.std.specs.Prelude.{◌≡◌, ◌≢◌, ℕ, ◌<◌, Option, Some, None, List, length, map, slice_get, slice_index_or}
 use Rattle.ext_table.specs.declared.row.Row.{Row}
-
--- Places of nodes among so many, each once.
-pub record ArePlaces (count : ℕ) (places : List ℕ) : Type 0 where
-  pub within : All (λ place. place < count) places
-  pub once : AllPairs (λ a b. a ≢ b) places
 
 -- What is in the slot at this place.
 abbrev pub taken_from : {X : Type 0} → List (Option X) → ℕ → Option X

@@ -1,7 +1,7 @@
 -- What the calls of a table add to it, and what they say of its last node. An own rule.
 use Rattle.std.specs.Prelude.{◌≡◌, ◌⊎◌, ℕ, zero, suc, ◌-◌, ◌++◌, ◌∷◌, Bool, Contains, true, false, Option, Some, None, Result, Ok, Err, List, [], codes, length, slice_get, slice_set, take}
 use Rattle.std.specs.declared.alloc.AllocError.{AllocError}
-use Rattle.ext_ids.specs.Making.{Makes}
+use Rattle.ext_ids.specs.Making.{parts_fault}
 use Rattle.ext_ids.specs.declared.making.PartFault.{PartFault}
 use Rattle.ext_tree.specs.Trees.{Id}
 use Rattle.ext_locks.specs.declared.event.LockMode.{LockMode}
@@ -36,6 +36,12 @@ pub record IsNewRow {T : Type 0} (test : Option T) (mode : Mode) (above : ℕ) (
 abbrev pub above_of : ℕ → List ℕ → Option ℕ
 above_of zero last = None
 above_of (suc level) last = slice_get last level
+
+-- Why there is no table of this engine.
+abbrev pub IsNoTable : List ℕ → TableFault → Type 0
+IsNoTable engine (table_faults.Part why) = parts_fault ((codes "engine", engine) ∷ []) ≡ Some why
+IsNoTable engine table_faults.NothingAbove = ⊥
+IsNoTable engine table_faults.Memory = Unit {0}
 
 module _ {T : Type 0} where
   -- The tables say the same.
@@ -83,7 +89,7 @@ module _ {T : Type 0} where
     pub above_is : above_of level before.last.items ≡ Some above
     pub outer_id : Id
     pub outer_id_is : slice_get before.ids.items above ≡ Some outer_id
-    pub fault : Makes (outer_id ++ (kind, name) ∷ []) (Err why)
+    pub fault : parts_fault (outer_id ++ (kind, name) ∷ []) ≡ Some why
 
   -- Why a node is not added.
   abbrev pub IsNotAdded : ℕ → List ℕ → List ℕ → TestTable T → TableFault → Type 0

@@ -15,7 +15,7 @@ use Rattle.ext_store.specs.Stores.{StoreLane, StoreView}
 use Rattle.ext_store.specs.Waiting.{ComputesAfterWaits}
 use Rattle.ext_store.specs.declared.computed.Compute.{Compute}
 use Rattle.ext_store.specs.declared.computed.Compute.TheVariants.{Refused}
-use Rattle.ext_table.specs.Stops.{IsTold}
+use Rattle.ext_table.specs.Stops.{StopsWith}
 use Rattle.ext_table.specs.declared.engine.Kept.{Kept}
 use Rattle.ext_table.specs.declared.row.Row.{Row}
 use Rattle.ext_table.specs.declared.stop.Stop.{Stop}
@@ -40,7 +40,7 @@ share_in (Some row) = row.share
 -- What is kept of what an engine made: the value, or the fault with which it stopped.
 abbrev pub IsKeptOf : {S : Type 0} → Result S Stop → Result (Kept S) Fault → Type 0
 IsKeptOf (Ok value) kept = kept ≡ Ok (record { 0 = value })
-IsKeptOf (Err stop) kept = (fault : Fault) × IsTold stop fault × (kept ≡ Err fault)
+IsKeptOf (Err stop) kept = (fault : Fault) × StopsWith stop fault × (kept ≡ Err fault)
 
 -- The engine made it. `Made` says what it may make.
 pub record IsMade {S : Type 0} (Made : Result S Stop → Type 0) (kept : Result (Kept S) Fault) : Type 0 where

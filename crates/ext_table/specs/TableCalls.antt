@@ -37,12 +37,18 @@ most_attempts attempts own = max (unwrap_or own attempts) 1
 
 -- ---- a callback
 
--- The verdict is that of some answer: what a callback answers is not said.
-pub record IsAnswered (verdict : Verdict) : Type 0 where
+-- A callback was made. `Gives` says what it may answer.
+pub record IsAnswered (Gives : Result (Unit {0}) Stop → Type 0) (verdict : Verdict) : Type 0 where
   pub answer : Result (Unit {0}) Stop
+  pub gives : Gives answer
   pub verdict_is : IsVerdictOf answer verdict
 
 -- ---- a call
+
+-- A callback is made with these values, if there is one.
+abbrev pub CallsBack : {T S : Type 0} → (T → List S → Result (Unit {0}) Stop → Type 0) → Option T → List S → Verdict → Type 0
+CallsBack Gives None values verdict = verdict ≡ verdicts.Successful
+CallsBack Gives (Some given) values verdict = IsAnswered (Gives given values) verdict
 
 module _ {T S : Type 0} (Gives : T → List S → Result (Unit {0}) Stop → Type 0) (attempts : ℕ) where
   -- The test of a row is run with these values, if the row has one.
@@ -54,24 +60,19 @@ module _ {T S : Type 0} (Gives : T → List S → Result (Unit {0}) Stop → Typ
   TriesRow None values verdict = verdict ≡ verdicts.Successful
   TriesRow (Some row) values verdict = TriesTest row.test row.attempts values verdict
 
--- A callback is made, if there is one.
-abbrev pub CallsBack : {T : Type 0} → Option T → Verdict → Type 0
-CallsBack None verdict = verdict ≡ verdicts.Successful
-CallsBack (Some given) verdict = IsAnswered verdict
-
 module _ {T S : Type 0} (Gives : T → List S → Result (Unit {0}) Stop → Type 0) (attempts : ℕ)
     (rows : List (Row T)) where
   -- The call with these values.
   abbrev pub CallsKind : Kind → ℕ → ℕ → List S → Verdict → Type 0
   CallsKind kinds.Test from index values verdict = TriesRow Gives attempts (slice_get rows from) values verdict
   CallsKind kinds.BeforeAll from index values verdict =
-      CallsBack (slice_get (callbacks_in kinds.BeforeAll (slice_get rows from)) index) verdict
+      CallsBack Gives (slice_get (callbacks_in kinds.BeforeAll (slice_get rows from)) index) values verdict
   CallsKind kinds.BeforeEach from index values verdict =
-      CallsBack (slice_get (callbacks_in kinds.BeforeEach (slice_get rows from)) index) verdict
+      CallsBack Gives (slice_get (callbacks_in kinds.BeforeEach (slice_get rows from)) index) values verdict
   CallsKind kinds.AfterEach from index values verdict =
-      CallsBack (slice_get (callbacks_in kinds.AfterEach (slice_get rows from)) index) verdict
+      CallsBack Gives (slice_get (callbacks_in kinds.AfterEach (slice_get rows from)) index) values verdict
   CallsKind kinds.AfterAll from index values verdict =
-      CallsBack (slice_get (callbacks_in kinds.AfterAll (slice_get rows from)) index) verdict
+      CallsBack Gives (slice_get (callbacks_in kinds.AfterAll (slice_get rows from)) index) values verdict
 
 -- The outcome of a call to which this was handed.
 abbrev pub outcome_of : {S : Type 0} → Verdict → Handed S → Outcome

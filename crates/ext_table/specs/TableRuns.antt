@@ -14,6 +14,7 @@ use Rattle.ext_engine.specs.Failing.{EndsEarly}
 use Rattle.ext_engine.specs.LeafRuns.{IsStoreFor}
 use Rattle.ext_engine.specs.Opening.{IsNotOpened}
 use Rattle.ext_engine.specs.TreeRun.{Ran, Lanes, TreeSetting, TreeRun, all_results}
+use Rattle.ext_table.specs.Stops.{IsClosed}
 use Rattle.ext_table.specs.TableCalls.{TableCall}
 use Rattle.ext_table.specs.Tables.{MayDisable, registered_in, table_view}
 use Rattle.ext_table.specs.declared.engine.Kept.{Kept}
@@ -26,10 +27,11 @@ use Rattle.ext_table.specs.declared.table_run.RunFault.TheVariants as run_faults
 -- ---- the setting
 
 -- What the suite of these rows does over a store with locks, where the table has locks of these names. `Gives` says what
--- the engine's tests answer, `Makes` what it makes, and `Moves` what its tests do to their lanes. What closes a value is some action, of which nothing is said.
-module _ {E L T S : Type 0} (Gives : T → List S → Result (Unit {0}) Stop → Type 0)
+-- the engine's tests and callbacks answer, `Makes` what it makes, `Moves` what its tests do to their lanes, and `Closes`
+-- what an engine's closes answer.
+module _ {E L T S : Type 0} (engine : E) (Gives : T → List S → Result (Unit {0}) Stop → Type 0)
     (Makes : T → List S → Result S Stop → Type 0) (Moves : ℕ → StoreLane (Kept S) → StoreLane (Kept S) → Type 0)
-    (rows : List (Row T)) (names : List (List ℕ)) (attempts : ℕ) (stop_after : ℕ) where
+    (Closes : E → S → Result (Unit {0}) Stop → Type 0) (rows : List (Row T)) (names : List (List ℕ)) (attempts : ℕ) (stop_after : ℕ) where
   abbrev pub table_setting : StoreView → LocksView → TreeSetting (Kept S) (Closing E L)
   table_setting store locks = record {
     store = store;
@@ -39,9 +41,9 @@ module _ {E L T S : Type 0} (Gives : T → List S → Result (Unit {0}) Stop →
     registered = λ kind node. registered_in rows kind node;
     call_gives = λ node call held before outcome after.
         TableCall Gives Makes Moves rows attempts store node call before outcome after;
-    action_gives = λ node action. Unit {0};
+    action_gives = λ node action. action.engine.now ≡ engine;
     is_closeable = λ value. true;
-    close_gives = λ before number value answer after. Unit {0};
+    close_gives = λ before number kept told after. (after ≡ before) × IsClosed (Closes before.engine.now kept.0) told;
   }
 
 -- ---- the run

@@ -1,6 +1,7 @@
 //! Tables that have some nodes of another, in another order.
 ghost use Rattle.std.specs.Prelude.{◌≡◌, IfOk, Some, None, length, map, slice_get, slice_index_or, slice_set};
-ghost use Rattle.ext_table.specs.Arranging.{ArePlaces, AreRenumbered, IsArranged, taken_from};
+ghost use Rattle.ext_selection.specs.Nodes.{ArePlaces};
+ghost use Rattle.ext_table.specs.Arranging.{AreRenumbered, IsArranged, taken_from};
 
 use crate::{Row, TestTable};
 use std::alloc::{AllocError, Global};

@@ -22,8 +22,8 @@ pub trait Engine {
     /// hand it over and share it.
     type Shared: Drop;
 
-    /// What a test may answer, by what it is given and what is shared with it: anything, unless the
-    /// engine says otherwise.
+    /// What a test or a callback may answer, by what it is given and what is shared with it: anything,
+    /// unless the engine says otherwise.
     ghost test_gives: { Self → Self.Given → List Self.Shared → Result (Unit {0}) Stop → Type 0 } = { λ engine given shared answer. Unit {0} };
 
     /// What a test may do to the lane that it is lent, in its context: anything, unless the engine says
@@ -40,12 +40,13 @@ pub trait Engine {
     fn make(&self, node: &Scope<Self::Given, Self::Shared>) -> Result<Self::Shared, Stop>
         ensures { make_gives self.now node.now.given.now (map (λ s. s.now) node.now.shared.now) result };
 
-    /// Ends what was shared, when the context of its node is closed. A fault makes the node fail.
-    /// Does nothing, unless the engine says otherwise. Javadoc
-    /// `ExtensionContext.Store.CloseableResource`.
-    fn close(&self, _rt: &HostRuntime, _shared: &Self::Shared) -> Result<(), Stop> {
-        Ok(())
-    }
+    /// What the end of a shared value may answer: anything, unless the engine says otherwise.
+    ghost close_gives: { Self → Self.Shared → Result (Unit {0}) Stop → Type 0 } = { λ engine shared answer. Unit {0} };
+
+    /// Ends what was shared, once, when the context of its node is closed. A fault makes the node
+    /// fail. Javadoc `ExtensionContext.Store.CloseableResource`.
+    fn close(&self, rt: &HostRuntime, shared: &Self::Shared) -> Result<(), Stop>
+        ensures { close_gives self.now shared.now result };
 
     /// Runs a test.
     fn run_test(&self, test: &Scope<Self::Given, Self::Shared>) -> Result<(), Stop>
@@ -90,11 +91,13 @@ pub trait Engine {
     }
 
     /// Makes a callback of this kind, which is never `Kind::Test`. It is handed what it was
-    /// registered with, and what the nodes on the path of the node that is called share. Does
-    /// nothing, unless the engine says otherwise. JUnit 5 User Guide, section "Test Lifecycle
-    /// Callbacks".
-    fn call_back(&self, _kind: Kind, _node: &Scope<Self::Given, Self::Shared>) -> Result<(), Stop> {
-        Ok(())
+    /// registered with, and what the nodes on the path of the node that is called share. Does what
+    /// `run_test` does of it, unless the engine says otherwise. JUnit 5 User Guide, section "Test
+    /// Lifecycle Callbacks".
+    fn call_back(&self, _kind: Kind, node: &Scope<Self::Given, Self::Shared>) -> Result<(), Stop>
+        ensures { test_gives self.now node.now.given.now (map (λ s. s.now) node.now.shared.now) result }
+    {
+        self.run_test(node)
     }
 
     /// Whether a test in reserve comes. It is asked when the run comes to the test. All come, unless

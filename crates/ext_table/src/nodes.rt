@@ -1,20 +1,22 @@
 //! The nodes that the calls of a table add.
-ghost use Rattle.std.specs.Prelude.{◌≡◌, ◌<◌, ◌++◌, [], ◌∷◌, None, Some, IfOk, IfSome, codes, length, take};
-ghost use Rattle.ext_table.specs.Building.{AddsAs, IsNewRow, IsNewTable, IsPushed, above_of};
+ghost use Rattle.std.specs.Prelude.{◌≡◌, ◌<◌, ◌++◌, [], ◌∷◌, None, Some, IfErr, IfOk, IfSome, codes, length, take};
+ghost use Rattle.ext_table.specs.Building.{AddsAs, IsNewRow, IsNewTable, IsNoTable, IsPushed, above_of};
 
 use crate::{Row, TableFault, TestTable};
 use ext_engine::Mode;
-use ext_ids::UniqueId;
+use ext_ids::{PartFault, UniqueId};
 use std::alloc::{AllocError, Global};
 
 impl<T: Drop> TestTable<T> {
     /// The table of an engine of this name, without tests. What is said before the first class is
     /// said of the engine. Takes memory. Refused as `Part`, and as `Memory`.
     pub fn new(alloc: Global, engine: &str) -> Result<TestTable<T>, TableFault>
-        ensures { IfOk result (IsNewTable engine.now) }
+        ensures made { IfOk result (IsNewTable engine.now) }
+        ensures refused { IfErr result (IsNoTable engine.now) }
     {
         let id = match UniqueId::from_parts(alloc, &[("engine", engine)]) {
             Ok(id) => id,
+            Err(PartFault::Memory) => return Err(TableFault::Memory),
             Err(why) => return Err(TableFault::Part(why)),
         };
         let mut table = TestTable {
@@ -80,6 +82,7 @@ impl<T: Drop> TestTable<T> {
         };
         let id = match self.ids[above].append(self.alloc, kind, name) {
             Ok(id) => id,
+            Err(PartFault::Memory) => return Err(TableFault::Memory),
             Err(why) => return Err(TableFault::Part(why)),
         };
         let row = new_row(self.alloc, test, self.rows[above].mode_below, above);

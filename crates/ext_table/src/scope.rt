@@ -1,5 +1,8 @@
 //! What a call of an engine is handed.
 ghost use Rattle.std.specs.Prelude.{◌≡◌, ◌-◌, IfOk, OnErr, Some, length, slice_get};
+ghost use Rattle.ext_model.specs.declared.look.Fault.{Fault};
+ghost use Rattle.ext_store.specs.FaultTexts.{IsToldBy};
+ghost use Rattle.ext_table.specs.declared.stop.Stop.TheVariants as stops;
 
 use crate::Stop;
 use ext_model::ContextNo;
@@ -35,14 +38,18 @@ impl<'a, T, S> Scope<'a, T, S> {
 
     /// That the call failed, with what is printed as its whole message. Takes memory for the
     /// message; without it the fault is `Fault::Memory`.
-    pub fn fail<D: Display + Drop>(&self, why: D) -> Stop {
+    pub fn fail<D: Display + Drop>(&self, why: D) -> Stop
+        ensures { (fault : Fault) × IsToldBy (D.output why) fault × (result ≡ stops.Failed fault) }
+    {
         Stop::Failed(fault_of(self.rt.alloc(), why))
     }
 
     /// That the call could not do its work, with what is printed as its whole message: a test is
     /// aborted, not failed. Takes memory for the message; without it the fault is `Fault::Memory`.
     /// Javadoc `Assumptions`, `abort`.
-    pub fn abort<D: Display + Drop>(&self, why: D) -> Stop {
+    pub fn abort<D: Display + Drop>(&self, why: D) -> Stop
+        ensures { (fault : Fault) × IsToldBy (D.output why) fault × (result ≡ stops.Aborted fault) }
+    {
         Stop::Aborted(fault_of(self.rt.alloc(), why))
     }
 }

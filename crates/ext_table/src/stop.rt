@@ -1,5 +1,5 @@
 //! Why a test does not pass.
-ghost use Rattle.ext_table.specs.Stops.{IsTold};
+ghost use Rattle.ext_table.specs.Stops.{StopsWith};
 
 use ext_model::Fault;
 use ext_store::fault_of;
@@ -21,7 +21,10 @@ pub enum Stop {
 }
 
 impl From<anyhow::Error> for Stop {
-    ghost from_gives = { λ why stop. Unit {0} };
+    ghost use Rattle.std.specs.Prelude.{◌≡◌};
+    ghost use Rattle.ext_table.specs.declared.stop.Stop.TheVariants as stops;
+
+    ghost from_gives = { λ why stop. stop ≡ stops.Error why };
 
     fn from(why: anyhow::Error) -> Stop {
         Stop::Error(why)
@@ -29,7 +32,10 @@ impl From<anyhow::Error> for Stop {
 }
 
 impl From<io::Error> for Stop {
-    ghost from_gives = { λ why stop. Unit {0} };
+    ghost use Rattle.std.specs.Prelude.{◌≡◌};
+    ghost use Rattle.ext_table.specs.declared.stop.Stop.TheVariants as stops;
+
+    ghost from_gives = { λ why stop. stop ≡ stops.Io why };
 
     fn from(why: io::Error) -> Stop {
         Stop::Io(why)
@@ -37,7 +43,11 @@ impl From<io::Error> for Stop {
 }
 
 impl From<AllocError> for Stop {
-    ghost from_gives = { λ why stop. Unit {0} };
+    ghost use Rattle.std.specs.Prelude.{◌≡◌};
+    ghost use Rattle.ext_model.specs.declared.look.Fault.TheVariants as faults;
+    ghost use Rattle.ext_table.specs.declared.stop.Stop.TheVariants as stops;
+
+    ghost from_gives = { λ why stop. stop ≡ stops.Failed faults.Memory };
 
     fn from(_why: AllocError) -> Stop {
         Stop::Failed(Fault::Memory)
@@ -47,7 +57,7 @@ impl From<AllocError> for Stop {
 impl Stop {
     /// The fault of it. Takes memory for the text of an error.
     pub(crate) fn fault(self, rt: &HostRuntime) -> Fault
-        ensures { IsTold self result }
+        ensures { StopsWith self result }
     {
         match self {
             Stop::Failed(fault) | Stop::Aborted(fault) => fault,

@@ -56,7 +56,10 @@ pub(crate) struct Closing<'a, E, L> {
 }
 
 impl<E: Engine, L: TableListener> CloseAction<Kept<E::Shared>> for Closing<'_, E, L> {
-    ghost close_gives = { λ before number value answer after. Unit {0} };
+    ghost use Rattle.std.specs.Prelude.{◌≡◌};
+    ghost use Rattle.ext_table.specs.Stops.{IsClosed};
+
+    ghost close_gives = { λ before number kept told after. (after ≡ before) × IsClosed (E.close_gives before.engine.now kept.0) told };
 
     fn close(&mut self, _number: u32, kept: &Kept<E::Shared>) -> Result<(), Fault> {
         match self.engine.close(self.rt, &kept.0) {
@@ -98,7 +101,7 @@ where
 
     ghost call_gives = { λ suite store node call held before outcome after. TableCall (E.test_gives suite.engine.now) (E.make_gives suite.engine.now) (E.lane_gives suite.engine.now) suite.rows.now suite.attempts store node call before outcome after };
 
-    ghost action_gives = { λ suite node action. Unit {0} };
+    ghost action_gives = { λ suite node action. action.engine.now ≡ suite.engine.now };
 
     ghost may_disable = { λ suite node. MayDisable suite.rows.now suite.stop_after node };
 
@@ -318,7 +321,7 @@ impl<E: Engine, L: TableListener> TableSuite<'_, E, L> {
 
     /// Makes a callback with what is shared.
     fn answer_of(&self, node: ContextNo, call: &Call, shared: &[&E::Shared]) -> Verdict
-        ensures { CallsBack (slice_get (callbacks_in call.now.kind (slice_get self.now.rows.now call.now.from)) call.now.index) result }
+        ensures { CallsBack (E.test_gives self.now.engine.now) (slice_get (callbacks_in call.now.kind (slice_get self.now.rows.now call.now.from)) call.now.index) (map (λ s. s.now) shared.now) result }
     {
         match self.callbacks(call.kind, call.from).get(call.index) {
             Some(given) => {

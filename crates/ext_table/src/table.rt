@@ -14,7 +14,8 @@ use thiserror::Error;
 pub enum TableFault {
     #[error("out of memory")]
     Memory,
-    /// The type or the name of the node is none that an id may have.
+    /// The type or the name of the node is none that an id may have, or the node would stand on a
+    /// level too many.
     #[error("{0}")]
     Part(PartFault),
     /// There is no node on the level above.
@@ -30,17 +31,6 @@ impl From<AllocError> for TableFault {
 
     fn from(_why: AllocError) -> TableFault {
         TableFault::Memory
-    }
-}
-
-impl From<PartFault> for TableFault {
-    ghost use Rattle.std.specs.Prelude.{◌≡◌};
-    ghost use Rattle.ext_table.specs.declared.table.TableFault.TheVariants.{Part};
-
-    ghost from_gives = { λ why fault. fault ≡ Part why };
-
-    fn from(why: PartFault) -> TableFault {
-        TableFault::Part(why)
     }
 }
 

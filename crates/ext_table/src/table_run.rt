@@ -92,11 +92,11 @@ where
     E::Given: Sync,
     E::Shared: Send + Sync,
     ensures run { IfOk result (λ done. IsTableRun
-        (table_setting {E = E} {L = L} (E.test_gives engine.now) (E.make_gives engine.now) (E.lane_gives engine.now) table.now.rows.items (texts_in table.now.lock_names.items) run.attempts run.stop_after)
+        (table_setting {L = L} engine.now (E.test_gives engine.now) (E.make_gives engine.now) (E.lane_gives engine.now) E.close_gives table.now.rows.items (texts_in table.now.lock_names.items) run.attempts run.stop_after)
         table.now.ids.items (texts_in table.now.lock_names.items) run.limits done.store (map told done.results.items)) }
     ensures nodes { IfOk result (λ done. All (λ r. r.node < length done.store.tree) done.results.items) }
     ensures fault { IfErr result (λ why. IsTableFault
-        (table_setting {E = E} {L = L} (E.test_gives engine.now) (E.make_gives engine.now) (E.lane_gives engine.now) table.now.rows.items (texts_in table.now.lock_names.items) run.attempts run.stop_after)
+        (table_setting {L = L} engine.now (E.test_gives engine.now) (E.make_gives engine.now) (E.lane_gives engine.now) E.close_gives table.now.rows.items (texts_in table.now.lock_names.items) run.attempts run.stop_after)
         table.now.ids.items (texts_in table.now.lock_names.items) run.limits why) }
 {
     let alloc = rt.alloc();
@@ -159,12 +159,12 @@ where
     requires known { AreKnown (length suite.now.names.now) suite.now.rows.now }
     requires names { IsPermutation (texts_of suite.now.names.now) locks.now.names }
     ensures run { IfOk result (λ results. (ran : List Ran)
-        × TreeRun (table_setting {E = E} {L = L} (E.test_gives suite.now.engine.now) (E.make_gives suite.now.engine.now) (E.lane_gives suite.now.engine.now) suite.now.rows.now (texts_of suite.now.names.now) suite.now.attempts suite.now.stop_after suite.now.store.now locks.now)
+        × TreeRun (table_setting {L = L} suite.now.engine.now (E.test_gives suite.now.engine.now) (E.make_gives suite.now.engine.now) (E.lane_gives suite.now.engine.now) E.close_gives suite.now.rows.now (texts_of suite.now.names.now) suite.now.attempts suite.now.stop_after suite.now.store.now locks.now)
         16 0 (record { first = lanes.old; second = lock_lanes.old }) ran (record { first = lanes.new; second = lock_lanes.new })
         × (map told results.items ≡ all_results (table_view suite.now.rows.now (texts_of suite.now.names.now) suite.now.store.now.tree) (length suite.now.store.now.tree) ran)) }
     ensures nodes { IfOk result (λ results. All (λ r. r.node < length suite.now.store.now.tree) results.items) }
     ensures early { IfErr result (λ why.
-        EndsEarly (table_setting {E = E} {L = L} (E.test_gives suite.now.engine.now) (E.make_gives suite.now.engine.now) (E.lane_gives suite.now.engine.now) suite.now.rows.now (texts_of suite.now.names.now) suite.now.attempts suite.now.stop_after suite.now.store.now locks.now)
+        EndsEarly (table_setting {L = L} suite.now.engine.now (E.test_gives suite.now.engine.now) (E.make_gives suite.now.engine.now) (E.lane_gives suite.now.engine.now) E.close_gives suite.now.rows.now (texts_of suite.now.names.now) suite.now.attempts suite.now.stop_after suite.now.store.now locks.now)
         16 0 (record { first = lanes.old; second = lock_lanes.old }) why (record { first = lanes.new; second = lock_lanes.new })) }
 {
     table_laws(suite, locks);

@@ -7,8 +7,8 @@
 ghost use Rattle.ext_lane.specs.Lent.{IsSame};
 
 use ext_runner::{
-    Engine, ExitCode, Fault, Kept, Key, Kind, LentLane, LockMode, Namespace, Scope, Stop,
-    TableFault, TestTable, main_of,
+    Engine, ExitCode, Fault, Kept, Key, LentLane, LockMode, Namespace, Scope, Stop, TableFault,
+    TestTable, main_of,
 };
 use std::sync::Wait;
 use std::sync::atomic::{AtomicU64, Ordering};
@@ -183,10 +183,6 @@ impl Engine for Trial {
         }
     }
 
-    fn call_back(&self, _kind: Kind, node: &Scope<Task, Shared>) -> Result<(), Stop> {
-        act(node)
-    }
-
     fn comes(&self, given: &Task) -> bool {
         matches!(given, Task::Row(1))
     }
@@ -204,6 +200,7 @@ fn act(call: &Scope<Task, Shared>) -> Result<(), Stop> {
         Task::PassAt(attempt) => pass_at(call, count(call)?, *attempt),
         Task::Step(from, to) => step(call, count(call)?, *from, *to),
         Task::Meet(others) => meet(call, count(call)?, *others),
+        Task::Row(2) => Err(call.fail("it should not have come")),
         _ => Ok(()),
     }
 }

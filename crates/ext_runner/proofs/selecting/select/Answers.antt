@@ -1,6 +1,6 @@
 use Rattle.std.proofs.Common.{◌≡◌, length, map, rules, subst, sym}
 use Rattle.std.proofs.lemmas.Result.{IfOk-weaker}
-use Rattle.ext_table.specs.Arranging.{ArePlaces}
+use Rattle.ext_selection.specs.Nodes.{ArePlaces}
 use Rattle.ext_runner.specs.Selecting.{node_of}
 use Rattle.ext_runner.proofs.Places.{in_order-same, selected-places}
 use Rattle.ext_runner.proofs.selecting.select.Goals as goal

@@ -1,6 +1,7 @@
 use Rattle.std.proofs.Common.{◌≡◌, ℕ, length, vec_len}
 use Rattle.std.specs.Prelude.{Some, slice_get}
-use Rattle.ext_table.specs.Arranging.{ArePlaces, IsRenumbered}
+use Rattle.ext_selection.specs.Nodes.{ArePlaces}
+use Rattle.ext_table.specs.Arranging.{IsRenumbered}
 use Rattle.ext_table.specs.declared.row.Row.{Row}
 use Rattle.ext_table.proofs.Arranging.{AreMoved}
 use Rattle.ext_table.proofs.arranged.renumbered.Given as goal

@@ -1,6 +1,6 @@
 use Rattle.std.proofs.Common.{◌≡◌, length, map, take}
 use Rattle.std.specs.Prelude.{Some, slice_get}
-use Rattle.ext_table.specs.Arranging.{ArePlaces}
+use Rattle.ext_selection.specs.Nodes.{ArePlaces}
 use Rattle.ext_table.proofs.Arranging.{AreLeft}
 use Rattle.ext_table.proofs.arranged.taken.Given as goal
 

@@ -13,7 +13,7 @@ returns-in-Ok-results_over-clause-run g c =
     let o = c.in-Ok-open_run.opened in
     let ran = c.in-Ok-results_over.ensures.run in
     let named : texts_of c.as_slice-names.result.now ≡ texts_in c.args.table.now.lock_names.items = ap texts_of c.as_slice-names.ensures.value ∙ c.in-Ok.ensures ∙ ap texts_in c.as_slice.ensures.value in
-    at_others (λ rows ids names. IsTableRun (table_setting {E = g.row.E.Denot} {L = g.row.L.Denot} (g.E.Engine.test_gives c.args.engine.now) (g.E.Engine.make_gives c.args.engine.now) (g.E.Engine.lane_gives c.args.engine.now) rows names c.args.run.attempts c.args.run.stop_after) ids names c.args.run.limits o.store (map told c.in-Ok-results_over.results.items))
+    at_others (λ rows ids names. IsTableRun (table_setting {L = g.row.L.Denot} c.args.engine.now (g.E.Engine.test_gives c.args.engine.now) (g.E.Engine.make_gives c.args.engine.now) (g.E.Engine.lane_gives c.args.engine.now) g.E.Engine.close_gives rows names c.args.run.attempts c.args.run.stop_after) ids names c.args.run.limits o.store (map told c.in-Ok-results_over.results.items))
     c.as_slice-rows.result.now c.args.table.now.rows.items c.as_slice-ids.result.now c.args.table.now.ids.items (texts_of c.as_slice-names.result.now) (texts_in c.args.table.now.lock_names.items)
     c.as_slice-rows.ensures.value c.as_slice-ids.ensures.value named
     (record {
@@ -44,7 +44,7 @@ returns-clause-fault g c =
     let e = c.in-Ok-open_run.ensures in
     let o = c.in-Ok-open_run.opened in
     let named : texts_of c.as_slice-names.result.now ≡ texts_in c.args.table.now.lock_names.items = ap texts_of c.as_slice-names.ensures.value ∙ c.in-Ok.ensures ∙ ap texts_in c.as_slice.ensures.value in
-    at_others (λ rows ids names. EndsTableRun (table_setting {E = g.row.E.Denot} {L = g.row.L.Denot} (g.E.Engine.test_gives c.args.engine.now) (g.E.Engine.make_gives c.args.engine.now) (g.E.Engine.lane_gives c.args.engine.now) rows names c.args.run.attempts c.args.run.stop_after) ids names c.args.run.limits c.in-Err-results_over.why)
+    at_others (λ rows ids names. EndsTableRun (table_setting {L = g.row.L.Denot} c.args.engine.now (g.E.Engine.test_gives c.args.engine.now) (g.E.Engine.make_gives c.args.engine.now) (g.E.Engine.lane_gives c.args.engine.now) g.E.Engine.close_gives rows names c.args.run.attempts c.args.run.stop_after) ids names c.args.run.limits c.in-Err-results_over.why)
     c.as_slice-rows.result.now c.args.table.now.rows.items c.as_slice-ids.result.now c.args.table.now.ids.items (texts_of c.as_slice-names.result.now) (texts_in c.args.table.now.lock_names.items)
     c.as_slice-rows.ensures.value c.as_slice-ids.ensures.value named
     (record {

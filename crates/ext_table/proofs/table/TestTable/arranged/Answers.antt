@@ -1,6 +1,6 @@
 use Rattle.std.proofs.Common.{◌≡◌, ◌∙◌, ◌<◌, length, ap, subst, sym, rules}
 use Rattle.std.specs.Prelude.{All}
-use Rattle.ext_table.specs.Arranging.{ArePlaces}
+use Rattle.ext_selection.specs.Nodes.{ArePlaces}
 use Rattle.ext_table.specs.declared.row.NamedLock.{NamedLock}
 use Rattle.ext_table.proofs.Arranging.{all_moved, all_renumbered, as_many}
 use Rattle.ext_table.proofs.table.TestTable.arranged.Goals as goal

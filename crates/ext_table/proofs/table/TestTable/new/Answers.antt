@@ -1,8 +1,8 @@
 use Rattle.std.proofs.Common.{◌∙◌, ◌++◌, [], ◌∷◌, ap, length}
 use Rattle.ext_table.proofs.table.TestTable.new.Goals as goal
 
-pub returns-in-Ok-push : goal.returns-in-Ok-push
-returns-in-Ok-push g c =
+pub returns-in-Ok-push-clause-made : goal.returns-in-Ok-push-clause-made
+returns-in-Ok-push-clause-made g c =
     let pushed = c.in-Ok-push.ensures in
     record {
       ids_are = pushed.ids_are ∙ ap (λ l. l ++ c.in-Ok.id ∷ []) c.new.ensures.items ∙ ap (λ id. id ∷ []) c.in-Ok.ensures.made.1;
