@@ -1,9 +1,17 @@
-"""Runs the proved program with `--progress`, and holds its run up until it tells how far it is: the report is longer than the pipe that it is written to, which is
-read only when the line of the progress has come. By then all nodes have ended. Both have to be as they have to be.
+"""Runs the program with `--progress`, and prints a line for each case.
+
+Some runs are held up at their end: the report is longer than the pipe that it is written to, which is read only when the line of the progress has come. By then all nodes
+have ended.
+
+Others, at terminals and with `--durations`, are stopped by a signal once a line names the tests that run. So what these took is known on each machine: at least as long.
 """
 import re
+import signal
 import subprocess
 import threading
+import time
+
+from parts.terminal import SLOWEST, TIME, ran
 
 # As many nodes as a plan may have, whose ids make the report longer than a pipe: it holds 65,536 bytes.
 IDS = ["[engine:x]"] + [f"[engine:x]/[test:{number}{'x' * 300}]" for number in range(255)]
@@ -20,6 +28,12 @@ LAST = b"256 of 256 nodes\n"
 
 # How many seconds a line may take: one comes after a second.
 PATIENCE = 60
+
+# How many seconds a run is stopped.
+STOPPED = 4
+
+# The nodes of a run that is stopped, but for the tests that are running then.
+OTHERS = ["[engine:x]", *(f"[engine:x]/[test:{number}]" for number in range(6)), "[engine:x]/[class:A]"]
 
 
 def told(program, words):
@@ -38,6 +52,55 @@ def told(program, words):
         return lines, others, report, run.wait()
 
 
+def slow_plan(names, steps):
+    """A plan whose last tests have these names and so many steps, each of which compares a key's long name. Their ids have a control character."""
+    plan = f'[[key]]\nlabel = "a"\nname = "{"n" * 4_000_000}"\n'
+    for id in OTHERS:
+        plan += f'[[node]]\nid = "{id}"\n' + ("test = []\n" if "test" in id else "")
+    for name in names:
+        plan += f'[[node]]\nid = "[engine:x]/[class:A]/[test:\\u001b{name}]"\nmode = "concurrent"\ntest = {["none a"] * steps}\n'
+    return plan
+
+
+def stopped_run(program, words, plan, lines):
+    """Runs the plan, and stops the run for a while once it has told one of these lines: its status, what it wrote, and how many seconds it took."""
+
+    def stop(child, told):
+        while child.poll() is None:
+            if any(line in b"".join(told[2]).decode().splitlines() for line in lines):
+                child.send_signal(signal.SIGSTOP)
+                time.sleep(STOPPED)
+                child.send_signal(signal.SIGCONT)
+                return
+            time.sleep(0.005)
+
+    begun = time.monotonic()
+    found = ran(program, ["run", "--large", "--progress", "--durations", *words], plan, {1, 2}, beside=stop)
+    return *found, time.monotonic() - begun
+
+
+def mistakes(program, words, names, steps):
+    """What is not as it has to be in a run that is stopped while tests of these names run: the line that names them comes once, on a lane each, and all times have the stop
+    in them, the longer ones of what lasted longer."""
+    tests = [f"[engine:x]/[class:A]/[test:\\u{{1b}}{name}]" for name in names]
+    count = len(OTHERS) + len(names)
+    orders = [range(len(names)), reversed(range(len(names)))]
+    lines = {f"6 of {count} nodes, running: " + "; ".join(f"{test} on lane {lane}" for test, lane in zip(tests, lanes)) for lanes in orders}
+    status, report, errors, seconds = stopped_run(program, words, slow_plan(names, steps), lines)
+    *progress, whole = errors.splitlines() or [""]
+    progress, slowest = progress[:-5], [*progress[-5:], whole]
+    times = [it for it in map(SLOWEST.fullmatch, slowest) if it]
+    ran_in = TIME.search(report)
+    if status != 0 or len(times) != 6 or not ran_in:
+        return f"status {status}, {report!r}, {errors!r}"
+    if sum(line in lines for line in progress) != 1:
+        return f"{progress}"
+    if [it[2] for it in times[:2]] + sorted(it[2] for it in times[2 : 2 + len(tests)]) != [OTHERS[0], OTHERS[-1], *tests] or times[5][2] != "the whole run":
+        return f"{slowest}"
+    took = [seconds, float(ran_in[1]), float(times[5][1]), *(float(it[1]) for it in times[: 2 + len(tests)])]
+    return "" if took == sorted(took, reverse=True) and took[-1] >= STOPPED else f"times of {took}"
+
+
 def main(program, _words):
     failed = 0
     cases = [["--lanes", "2"], ["--store", "plain"], ["--lanes", "2", "--failures"]]
@@ -46,4 +109,14 @@ def main(program, _words):
         right = (lines[-1], others, report, status) == (LAST, b"", REPORT.encode(), 0)
         failed += not right
         print(f"progress of run {' '.join(words)}: " + ("its line" if right else f"NOT as it has to be: status {status}, {lines + [others]}"))
-    return len(cases) - failed, failed
+    stopped = [(["--store", "plain"], ["m"], 150), (["--lanes", "2"], ["m", "n"], 2_000)]
+    for words, names, steps in stopped:
+        # A run that was over before it was stopped is made again with more steps.
+        wrong = ""
+        for times in (1, 2, 4):
+            wrong = mistakes(program, words, names, times * steps)
+            if not wrong:
+                break
+        failed += bool(wrong)
+        print(f"progress of run {' '.join(words)} that is stopped: " + ("as it has to be" if not wrong else f"NOT as it has to be: {wrong}"))
+    return len(cases) + len(stopped) - failed, failed

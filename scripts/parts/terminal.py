@@ -40,8 +40,8 @@ TOTALS = "tests 4 successful 1 aborted 1 failed 1 skipped 1\ncontainers failed 1
 
 COLORS = {"successful": "32", "aborted": "33", "failed": "31", "skipped": "2"}
 
-# The line of the time behind the report, without its digits.
-TIME = re.compile(r"^ran in \d+\.\d{3} s\n\Z", re.M)
+# The line of the time behind the report.
+TIME = re.compile(r"^ran in (\d+\.\d{3}) s\n\Z", re.M)
 
 REFUSED = ROOT + '[[node]]\nid = "[engine:x]/[test:a]"\ntest = [\n  "put a x",\n  "pot a x",\n]\n'
 
@@ -85,8 +85,9 @@ def read_all(end, told):
         told.append(more)
 
 
-def ran(program, words, plan, terminals, environment=None):
-    """Runs the program where these of its outputs (1 and 2) are terminals: its status, and what it wrote to each."""
+def ran(program, words, plan, terminals, environment=None, beside=None):
+    """Runs the program where these of its outputs (1 and 2) are terminals: its status, and what it wrote to each. What is to be done beside it is handed the process
+    and what it has written so far."""
     told, threads, ends = {1: [], 2: []}, [], {}
     for stream in (1, 2):
         reader, writer = pty.openpty() if stream in terminals else os.pipe()
@@ -102,6 +103,8 @@ def ran(program, words, plan, terminals, environment=None):
         os.close(end)
     for _, thread in threads:
         thread.start()
+    if beside:
+        threading.Thread(target=beside, args=(child, told)).start()
     child.communicate(plan.encode(), timeout=120)
     for reader, thread in threads:
         thread.join()
