@@ -63,42 +63,44 @@ def slow_plan(names, steps):
 
 
 def stopped_run(program, words, plan, lines):
-    """Runs the plan, and stops the run for a while once it has told one of these lines: its status, what it wrote, and how many seconds it took."""
+    """Runs the plan, and stops the run for a while once it has told one of these lines: its status, what it wrote, and how many seconds it took, with the stop and without."""
+    stops = []
 
     def stop(child, told):
-        while child.poll() is None:
+        while child.poll() is None and not stops:
             if any(line in b"".join(told[2]).decode().splitlines() for line in lines):
                 child.send_signal(signal.SIGSTOP)
                 time.sleep(STOPPED)
                 child.send_signal(signal.SIGCONT)
-                return
+                stops.append(STOPPED)
             time.sleep(0.005)
 
     begun = time.monotonic()
     found = ran(program, ["run", "--large", "--progress", "--durations", *words], plan, {1, 2}, beside=stop)
-    return *found, time.monotonic() - begun
+    measured = time.monotonic() - begun
+    return *found, measured, measured - sum(stops)
 
 
-def mistakes(program, words, names, steps):
-    """What is not as it has to be in a run that is stopped while tests of these names run: the line that names them comes once, on a lane each, and all times have the stop
-    in them, the longer ones of what lasted longer."""
+def differences(program, words, names, steps):
+    """What is not as it has to be in a run that is stopped while tests of these names run. The line that names them comes once, each on its lane. The times have the stop in
+    them: what is measured here is the most, then come what the report says, the whole run, the root, the class and its tests."""
     tests = [f"[engine:x]/[class:A]/[test:\\u{{1b}}{name}]" for name in names]
-    count = len(OTHERS) + len(names)
     orders = [range(len(names)), reversed(range(len(names)))]
-    lines = {f"6 of {count} nodes, running: " + "; ".join(f"{test} on lane {lane}" for test, lane in zip(tests, lanes)) for lanes in orders}
-    status, report, errors, seconds = stopped_run(program, words, slow_plan(names, steps), lines)
-    *progress, whole = errors.splitlines() or [""]
-    progress, slowest = progress[:-5], [*progress[-5:], whole]
-    times = [it for it in map(SLOWEST.fullmatch, slowest) if it]
-    ran_in = TIME.search(report)
-    if status != 0 or len(times) != 6 or not ran_in:
-        return f"status {status}, {report!r}, {errors!r}"
-    if sum(line in lines for line in progress) != 1:
-        return f"{progress}"
-    if [it[2] for it in times[:2]] + sorted(it[2] for it in times[2 : 2 + len(tests)]) != [OTHERS[0], OTHERS[-1], *tests] or times[5][2] != "the whole run":
-        return f"{slowest}"
-    took = [seconds, float(ran_in[1]), float(times[5][1]), *(float(it[1]) for it in times[: 2 + len(tests)])]
-    return "" if took == sorted(took, reverse=True) and took[-1] >= STOPPED else f"times of {took}"
+    named = {"; ".join(f"{test} on lane {lane}" for test, lane in zip(tests, lanes)) for lanes in orders}
+    lines = {f"6 of {len(OTHERS) + len(names)} nodes, running: {them}" for them in named}
+    status, report, errors, measured, unstopped = stopped_run(program, words, slow_plan(names, steps), lines)
+    said, ran_in = errors.splitlines(), TIME.search(report)
+    times = [it for it in map(SLOWEST.fullmatch, said[-6:]) if it]
+    if status == 0 and ran_in and len(times) == 6 and sum(line in lines for line in said[:-6]) == 1:
+        root, above, *below, whole = [*times[: 2 + len(tests)], times[5]]
+        took = [measured, *(float(it[1]) for it in (ran_in, whole, root, above, *below))]
+        right = [it[2] for it in (whole, root, above)] == ["the whole run", OTHERS[0], OTHERS[-1]] and sorted(it[2] for it in below) == tests
+        if right and took == sorted(took, reverse=True) and took[-1] >= STOPPED:
+            return ""
+    # A short run may have been over before it was stopped: it is made again with more steps.
+    if status == 0 and unstopped < STOPPED:
+        return differences(program, words, names, 2 * steps)
+    return f"status {status} after {measured} s, {report!r}, {errors!r}"
 
 
 def main(program, _words):
@@ -111,12 +113,7 @@ def main(program, _words):
         print(f"progress of run {' '.join(words)}: " + ("its line" if right else f"NOT as it has to be: status {status}, {lines + [others]}"))
     stopped = [(["--store", "plain"], ["m"], 150), (["--lanes", "2"], ["m", "n"], 2_000)]
     for words, names, steps in stopped:
-        # A run that was over before it was stopped is made again with more steps.
-        wrong = ""
-        for times in (1, 2, 4):
-            wrong = mistakes(program, words, names, times * steps)
-            if not wrong:
-                break
+        wrong = differences(program, words, names, steps)
         failed += bool(wrong)
         print(f"progress of run {' '.join(words)} that is stopped: " + ("as it has to be" if not wrong else f"NOT as it has to be: {wrong}"))
     return len(cases) + len(stopped) - failed, failed
