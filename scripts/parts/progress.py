@@ -3,7 +3,7 @@
 Some runs are held up at their end: the report is longer than the pipe that it is written to, which is read only when the line of the progress has come. By then all nodes
 have ended.
 
-Others, at terminals and with `--durations`, are stopped by a signal once a line names the tests that run. So what these took is known on each machine: at least as long.
+Others, at terminals and with `--durations`, are stopped by a signal once a line names the tests that run. So these took at least as long as the stop, on any machine.
 """
 import re
 import signal
