@@ -62,13 +62,13 @@ def slow_plan(names, steps):
     return plan
 
 
-def stopped_run(program, words, plan, lines):
-    """Runs the plan, and stops the run for a while once it has told one of these lines: its status, what it wrote, and how many seconds it took in all and from that line on."""
+def stopped_run(program, words, plan, sign):
+    """Runs the plan, and stops the run for a while once it has told this: its status, what it wrote, and how many seconds it took in all and from that line on."""
     seen = []
 
     def stop(child, told):
         while child.poll() is None and not seen:
-            if any(line in b"".join(told[2]).decode().splitlines() for line in lines):
+            if sign in b"".join(told[2]).decode():
                 seen.append(time.monotonic())
                 child.send_signal(signal.SIGSTOP)
                 time.sleep(STOPPED)
@@ -81,40 +81,49 @@ def stopped_run(program, words, plan, lines):
     return *found, ended - begun, ended - seen[0] if seen else 0
 
 
-def differences(program, words, names, steps):
-    """What is not as it has to be in a run that is stopped while tests of these names run. The line that names them comes once, each on its lane. What is measured here is the
-    most of the times, then come what the report says, the whole run, the root, the class and its tests. All have the stop in them. But for the tests, of which one may end long
-    before the other, none is much less than the time from the line on."""
+def are_right(slowest, ran_in, tests, measured, behind):
+    """Whether these times are those of a run that was stopped. What is measured here is the most, then come what the report says, the whole run, the root, the class and its
+    tests. All have the stop in them. But for the tests, of which one may end long before the other, none is much less than the time from the line on."""
+    times = [it for it in map(SLOWEST.fullmatch, slowest) if it]
+    if len(times) != 6 or not ran_in:
+        return False
+    root, above, *below, whole = [*times[: 2 + len(tests)], times[5]]
+    took = [measured, *(float(it[1]) for it in (ran_in, whole, root, above, *below))]
+    if [it[2] for it in (whole, root, above)] != ["the whole run", OTHERS[0], OTHERS[-1]] or sorted(it[2] for it in below) != tests:
+        return False
+    return took == sorted(took, reverse=True) and took[-1] >= STOPPED and took[4] >= 0.75 * behind
+
+
+def stopped(program, words, names, steps):
+    """A run that is stopped while tests of these names run: whether the line that names them comes once, each on its lane, whether the times are right, and what it wrote."""
     tests = [f"[engine:x]/[class:A]/[test:\\u{{1b}}{name}]" for name in names]
+    sign = f"6 of {len(OTHERS) + len(names)} nodes, running: "
     orders = [range(len(names)), reversed(range(len(names)))]
-    named = {"; ".join(f"{test} on lane {lane}" for test, lane in zip(tests, lanes)) for lanes in orders}
-    lines = {f"6 of {len(OTHERS) + len(names)} nodes, running: {them}" for them in named}
-    status, report, errors, measured, behind = stopped_run(program, words, slow_plan(names, steps), lines)
-    said, ran_in = errors.splitlines(), TIME.search(report)
-    times = [it for it in map(SLOWEST.fullmatch, said[-6:]) if it]
-    if status == 0 and ran_in and len(times) == 6 and sum(line in lines for line in said[:-6]) == 1:
-        root, above, *below, whole = [*times[: 2 + len(tests)], times[5]]
-        took = [measured, *(float(it[1]) for it in (ran_in, whole, root, above, *below))]
-        right = [it[2] for it in (whole, root, above)] == ["the whole run", OTHERS[0], OTHERS[-1]] and sorted(it[2] for it in below) == tests
-        if right and took == sorted(took, reverse=True) and took[-1] >= STOPPED and took[4] >= 0.75 * behind:
-            return ""
+    lines = {sign + "; ".join(f"{test} on lane {lane}" for test, lane in zip(tests, lanes)) for lanes in orders}
+    status, report, errors, measured, behind = stopped_run(program, words, slow_plan(names, steps), sign)
+    said = errors.splitlines()
+    right = [sum(line in lines for line in said[:-6]) == 1, status == 0 and are_right(said[-6:], TIME.search(report), tests, measured, behind)]
     # A short run may have been over before it was stopped: it is made again with more steps.
-    if status == 0 and measured < 2 * STOPPED:
-        return differences(program, words, names, 2 * steps)
-    return f"status {status} after {measured} s, {behind} s from the line on, {report!r}, {errors!r}"
+    if status == 0 and not all(right) and measured < 2 * STOPPED:
+        return stopped(program, words, names, 2 * steps)
+    return *right, f"status {status} after {measured} s, {behind} s from the line on, {report!r}, {errors!r}"
+
+
+def cases(program):
+    """What is looked at, whether it is right, and what came."""
+    for words in ["--lanes", "2"], ["--store", "plain"], ["--lanes", "2", "--failures"]:
+        lines, others, report, status = told(program, ["run", "--progress", *words])
+        right = (lines[-1], others, report, status) == (LAST, b"", REPORT.encode(), 0)
+        yield f"run {' '.join(words)}", right, f"status {status}, {lines + [others]}"
+    for words, names, steps in (["--store", "plain"], ["m"], 150), (["--lanes", "2"], ["m", "n"], 2_000):
+        line, times, said = stopped(program, words, names, steps)
+        yield f"run {' '.join(words)} that is stopped, its line", line, said
+        yield f"run {' '.join(words)} that is stopped, its times", times, said
 
 
 def main(program, _words):
-    failed = 0
-    cases = [["--lanes", "2"], ["--store", "plain"], ["--lanes", "2", "--failures"]]
-    for words in cases:
-        lines, others, report, status = told(program, ["run", "--progress", *words])
-        right = (lines[-1], others, report, status) == (LAST, b"", REPORT.encode(), 0)
-        failed += not right
-        print(f"progress of run {' '.join(words)}: " + ("its line" if right else f"NOT as it has to be: status {status}, {lines + [others]}"))
-    stopped = [(["--store", "plain"], ["m"], 150), (["--lanes", "2"], ["m", "n"], 2_000)]
-    for words, names, steps in stopped:
-        wrong = differences(program, words, names, steps)
-        failed += bool(wrong)
-        print(f"progress of run {' '.join(words)} that is stopped: " + ("as it has to be" if not wrong else f"NOT as it has to be: {wrong}"))
-    return len(cases) + len(stopped) - failed, failed
+    passed = failed = 0
+    for name, right, said in cases(program):
+        passed, failed = passed + right, failed + (not right)
+        print(f"progress of {name}: " + ("as it has to be" if right else f"NOT as it has to be: {said}"))
+    return passed, failed
