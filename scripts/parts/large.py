@@ -3,7 +3,7 @@ without the word. What has to come out is written here, by docs/PLANS.md. Prints
 """
 import xml.etree.ElementTree
 
-from parts.refused import CHAIN_IDS, ROOT, Cases, flat, nodes_of, nodes_report, numbers_full, puts
+from parts.refused import CHAIN_IDS, ROOT, Cases, failed_last, flat, nodes_of, nodes_report, numbers_full, puts
 
 LIMIT = 67_108_864
 
@@ -122,8 +122,7 @@ def main(program, _words):
     drawing = "a:b\n" + "".join(f"  c:{number}\n" for number in range(1, 257))
     cases.run("257 nodes, drawn", ["check", "--large", "--tree"], few, drawing)
     failing = few + 'test = ["fail why"]\n'
-    report = nodes_report(flat(257), 1).replace("[c:256] successful closed 0", "[c:256] failed closed 0: why").replace("successful 1 aborted 0 failed 0", "successful 0 aborted 0 failed 1")
-    cases.run("257 nodes, the last fails", ["run", "--large", "--failures"], failing, report, "[a:b]/[c:256]: why (test, step 0)\n")
+    cases.run("257 nodes, the last fails", ["run", "--large", "--failures"], failing, failed_last(flat(257), "why"), "[a:b]/[c:256]: why (test, step 0)\n")
     most = tests(65_535)
     for words in both:
         cases.run(f"65,536 nodes, {' '.join(words)}", ["run", *words], most, tests_report(65_535))

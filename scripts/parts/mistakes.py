@@ -16,9 +16,11 @@ DEEP = "".join(f'[[node]]\nid = "{"/".join(["[a:b]"] * depth)}"\n' for depth in 
 
 NAMES = ", ".join(f'"none k{number}"' for number in range(65))
 
+FULL = "the plan: its steps name 65 different keys, and there are places for 64. Write keys = 65 at the top of the plan"
+
 LABELS = "".join(f'[[key]]\nlabel = "k{number}"\n' for number in range(65))
 
-# Plans that are made, with the lines that have to come out.
+# Plans that are made, with the lines that have to come out and further words.
 MADE = [
     ("letters in Latin-1", ROOT.replace("x", "\xe9").encode("latin1"), ["plan: P1", "the plan: it is no UTF-8 at byte 23, in line 2"]),
     ("UTF-16", ROOT.encode("utf-16"), ["plan: P1", "the plan: it is no UTF-8 at byte 0, in line 1: it begins as UTF-16 does"]),
@@ -53,8 +55,20 @@ MADE = [
             "[engine:x] failed closed 0: none k64: directory full",
             "tests 1 successful 0 aborted 0 failed 1 skipped 0",
             "computed 0 found 0 closed 0 close faults 0",
-            "the plan: its steps name 65 different keys, and there are places for 64. Write keys = 65 at the top of the plan",
+            FULL,
         ],
+    ),
+    (
+        "a key too many in a large plan",
+        ROOT + f"before_all = [[{NAMES}]]\n" + TESTS,
+        [
+            "[engine:x] failed closed 0: none k64: directory full",
+            *(f"[engine:x]/[test:{number}] skipped closed 0" for number in range(256)),
+            "tests 256 successful 0 aborted 0 failed 0 skipped 256",
+            "computed 0 found 0 closed 0 close faults 0",
+            FULL,
+        ],
+        "--large",
     ),
     (
         "a byte too many",
@@ -84,9 +98,9 @@ def written():
 
 def main(program, _words):
     passed = failed = 0
-    for title, plan, lines in [*written(), *MADE]:
+    for title, plan, lines, *words in [*written(), *MADE]:
         bytes_of = plan if isinstance(plan, bytes) else plan.encode()
-        ran = subprocess.run([program, "run", "--explain"], input=bytes_of, capture_output=True, timeout=120)
+        ran = subprocess.run([program, "run", "--explain", *words], input=bytes_of, capture_output=True, timeout=120)
         status = 2 if lines[0].startswith("plan") else 1 if " failed closed " in lines[0] else 0
         right = (ran.returncode, (ran.stdout + ran.stderr).decode()) == (status, "".join(f"{line}\n" for line in lines))
         passed, failed = passed + right, failed + (not right)

@@ -40,8 +40,8 @@ TOTALS = "tests 4 successful 1 aborted 1 failed 1 skipped 1\ncontainers failed 1
 
 COLORS = {"successful": "32", "aborted": "33", "failed": "31", "skipped": "2"}
 
-# The line of the time behind the report, without its digits.
-TIME = re.compile(r"^ran in \d+\.\d{3} s\n\Z", re.M)
+# The line of the time behind the report.
+TIME = re.compile(r"^ran in (\d+\.\d{3}) s\n\Z", re.M)
 
 REFUSED = ROOT + '[[node]]\nid = "[engine:x]/[test:a]"\ntest = [\n  "put a x",\n  "pot a x",\n]\n'
 
@@ -85,8 +85,9 @@ def read_all(end, told):
         told.append(more)
 
 
-def ran(program, words, plan, terminals, environment=None):
-    """Runs the program where these of its outputs (1 and 2) are terminals: its status, and what it wrote to each."""
+def ran(program, words, plan, terminals, environment=None, beside=None):
+    """Runs the program where these of its outputs (1 and 2) are terminals: its status, and what it wrote to each. What is to be done beside it is handed the process
+    and what it has written so far."""
     told, threads, ends = {1: [], 2: []}, [], {}
     for stream in (1, 2):
         reader, writer = pty.openpty() if stream in terminals else os.pipe()
@@ -102,6 +103,8 @@ def ran(program, words, plan, terminals, environment=None):
         os.close(end)
     for _, thread in threads:
         thread.start()
+    if beside:
+        threading.Thread(target=beside, args=(child, told)).start()
     child.communicate(plan.encode(), timeout=120)
     for reader, thread in threads:
         thread.join()
@@ -169,21 +172,26 @@ def explanations(program):
 def unread(program):
     """Why a plan could not be read, at a terminal and in a pipe."""
     with tempfile.TemporaryDirectory() as folder:
-        locked, long = f"{folder}/locked.toml", f"{folder}/long.toml"
+        locked, long, huge = (f"{folder}/{name}.toml" for name in ("locked", "long", "huge"))
         for path, bytes_of in [(locked, b""), (long, b"#" * 1_048_577)]:
             with open(path, "wb") as file:
                 file.write(bytes_of)
         os.chmod(locked, 0)
+        with open(huge, "wb") as file:
+            file.truncate(67_108_864)
+        run = [program, "run"]
+        in_64_mib = ["bash", "-c", 'ulimit -v 65536 && exec "$0" "$@"', *run, "--large"]
         cases = [
-            (3, f"{folder}/none.toml", "read failed: \"{}\" can't be opened\n", 'the plan: "{}": No such file or directory (os error 2)\n'),
-            (3, folder, "read failed\n", 'the plan: "{}": Is a directory (os error 21)\n'),
-            (2, long, "plan too long\n", 'the plan: "{}" has more than 1048576 bytes. With the word --large a plan may have 67108864\n'),
+            (3, run, f"{folder}/none.toml", "read failed: \"{}\" can't be opened\n", 'the plan: "{}": No such file or directory (os error 2)\n'),
+            (3, run, folder, "read failed\n", 'the plan: "{}": Is a directory (os error 21)\n'),
+            (2, run, long, "plan too long\n", 'the plan: "{}" has more than 1048576 bytes. With the word --large a plan may have 67108864\n'),
+            (3, in_64_mib, huge, "run: no memory\n", "the run: memory was refused\n"),
         ]
         if os.geteuid() != 0:
-            cases.append((3, locked, "read failed: \"{}\" can't be opened\n", 'the plan: "{}": Permission denied (os error 13)\n'))
-        for wanted, path, line, why in cases:
+            cases.append((3, run, locked, "read failed: \"{}\" can't be opened\n", 'the plan: "{}": Permission denied (os error 13)\n'))
+        for wanted, command, path, line, why in cases:
             for terminals, words, is_there in [({2}, [], True), (set(), [], False), (set(), ["--explain"], True), ({2}, ["--brief"], False)]:
-                found = ran(program, ["run", *words, path], "", terminals)
+                found = ran(command[0], [*command[1:], *words, path], "", terminals)
                 right = found == (wanted, "", line.format(path) + (why.format(path) if is_there else ""))
                 yield f"run {' '.join(words)} of {path[len(folder):] or 'a folder'} at {sorted(terminals)}", right, repr(found)
 
