@@ -1,7 +1,7 @@
 """Makes a folder with an engine by scripts/new-engine, and runs the engine by the folder's `run`, unproved: it lists its tests as its template has to, all of them pass, and its
 status is 0. Until a source changes, `run` compiles nothing again; a source with a mistake is compiled once, and the mistake is told.
 
-So do the engines of scripts/parts/engine_listing, each in a folder of its own: ten shell commands, and the tests of a web server of Python's, which stand in docs/GUIDE.md. Where
+So do the other engines of examples/engines, each in a folder of its own: ten shell commands, and the tests of a web server of Python's, which stand in docs/GUIDE.md. Where
 a command does not end, the engine ends it. One test of the web server fails, with a whole message of several lines, one is aborted, and afterwards neither server nor folder is there.
 No file has more lines than it should, in the layout of `rt fmt`.
 
@@ -17,8 +17,8 @@ import tempfile
 
 TOP = pathlib.Path(__file__).resolve().parent.parent.parent
 NAME = "my_engine"
-TEMPLATE = TOP / "scripts" / "parts" / "engine_template"
-LISTING = TOP / "scripts" / "parts" / "engine_listing"
+ENGINES = TOP / "examples" / "engines"
+TEMPLATE = ENGINES / "template"
 HANDLES = "Handles allowed: Threads, Wait, Net, Processes.\n"
 # How many lines each engine has at most.
 MOST_LINES = {"template": 40, "shell": 75, "web": 160}
@@ -53,7 +53,7 @@ def made_of(folder, name):
     made = run(TOP / "scripts" / "new-engine", folder, name)
     if made.returncode != 0:
         return False
-    shutil.copy(LISTING / f"{name}.rt.in", folder / "crates" / name / "src" / "main.rt")
+    shutil.copy(ENGINES / f"{name}.rt.in", folder / "crates" / name / "src" / "main.rt")
     (folder / "HANDLES").write_text(HANDLES, encoding="utf-8")
     return True
 
