@@ -84,7 +84,7 @@ def files_of(blocks):
 
 
 def without_what_is_tested(text):
-    """A file without the lines above its tests that name the calls they test, which are for docs/PROMISES.md."""
+    """A file without the lines above its tests that name the calls they test, which are for scripts/promises."""
     return re.sub(r"^/// Tests `[^#]*(?=#\[test\])", "", text, flags=re.M)
 
 
