@@ -1,12 +1,14 @@
 -- How calls ended, one list after another, and with other faults.
 use Rattle.std.proofs.Common.{◌≡◌, ℕ, ◌+◌, ◌-◌, ◌≤◌, Bool, true, false, not, cond, List, [], ◌∷◌, ◌++◌, map, Option, Some, None, is_some, refl, ap, sym, subst, ◌∙◌, arith}
-use Rattle.std.specs.Prelude.{◌&&◌}
+use Rattle.std.specs.Prelude.{◌&&◌, ◌||◌}
+use Rattle.std.proofs.lemmas.List.Folds.{list_any-append}
 use Rattle.std.proofs.lemmas.List.Sums.{sum_by-append}
 use Rattle.ext_model.specs.Closed.{or_else, first_of, close_faults}
-use Rattle.ext_model.proofs.CountedCloses.{IsCountOf, close_faults-cons, close_weight, closes-counted, or_else-assoc, or_else-none}
+use Rattle.ext_model.specs.Lacks.{may_tell, one_tells}
+use Rattle.ext_model.proofs.CountedCloses.{IsCountOf, close_faults-cons, close_weight, closes-counted, or-false, or_else-assoc, or_else-none}
 use Rattle.ext_lifecycle.specs.declared.status.Status.{Status}
 use Rattle.ext_lifecycle.specs.declared.status.Status.TheVariants as statuses
-use Rattle.ext_lifecycle.specs.Endings.{Ending, successful, aborted, failed, Total, is_successful, all_successful, fault_in, abort_in, first_fault, first_abort, unsuccessful, total_by, total_of}
+use Rattle.ext_lifecycle.specs.Endings.{Ending, successful, aborted, failed, Total, is_successful, all_successful, fault_in, abort_in, first_fault, first_abort, unsuccessful, ending_tells, endings_tell, total_by, total_of}
 use Rattle.ext_lifecycle.specs.InnerTotals.{with_ending, with_closes}
 use Rattle.ext_lifecycle.specs.Results.{close_ending}
 
@@ -132,6 +134,23 @@ module _ {F : Type 0} where
       (first_abort-append es (map close_ending cs) ∙ ap (or_else (first_abort es)) (first_abort-closes cs) ∙ or_else-none (first_abort es))
       (unsuccessful-append es (map close_ending cs) ∙ ap (λ n. unsuccessful es + n) (unsuccessful-closes cs))
       ∙ total_by-closed (first_fault es) (first_abort es) (first_of cs) (unsuccessful es) (close_faults cs) (counted es) (closes-counted cs)
+
+  -- ---- whether one tells of a lack
+
+  module _ (tells : F → Bool) where
+    pub endings_tell-more : (es : List (Ending F)) (e : Ending F) → endings_tell tells (es ++ e ∷ []) ≡ (endings_tell tells es || ending_tells tells e)
+    endings_tell-more es e = list_any-append (ending_tells tells) es (e ∷ []) ∙ ap (λ b. endings_tell tells es || b) (or-false (ending_tells tells e))
+
+    close_tells : (c : Option F) → ending_tells tells (close_ending c) ≡ may_tell tells c
+    close_tells None = refl
+    close_tells (Some fault) = refl
+
+    closes_tell : (cs : List (Option F)) → endings_tell tells (map close_ending cs) ≡ one_tells tells cs
+    closes_tell [] = refl
+    closes_tell (c ∷ cs) = ap (λ b. b || endings_tell tells (map close_ending cs)) (close_tells c) ∙ ap (λ b. may_tell tells c || b) (closes_tell cs)
+
+    pub endings_tell-closed : (es : List (Ending F)) (cs : List (Option F)) → endings_tell tells (es ++ map close_ending cs) ≡ (endings_tell tells es || one_tells tells cs)
+    endings_tell-closed es cs = list_any-append (ending_tells tells) es (map close_ending cs) ∙ ap (λ b. endings_tell tells es || b) (closes_tell cs)
 
   -- ---- the status tells whether all were successful
 

@@ -1,10 +1,14 @@
 -- What calls and closes come to does not depend on what a fault is: with other faults, as with their texts, it is the same with other faults.
 use Rattle.std.proofs.Common.{◌≡◌, ℕ, ◌+◌, Bool, List, [], ◌∷◌, ◌++◌, length, Option, Some, None, refl, ap, sym, ◌∙◌}
-use Rattle.std.specs.Prelude.{map, option_map}
+use Rattle.std.specs.Prelude.{map, option_map, ◌||◌}
 use Rattle.std.proofs.lemmas.List.{length-map, map-append}
+use Rattle.ext_model.specs.declared.look.Fault.{Fault}
+use Rattle.ext_model.specs.declared.look.Fault.TheVariants as faults
 use Rattle.ext_model.specs.Closed.{close_faults, or_else}
-use Rattle.ext_lifecycle.specs.Endings.{Ending, successful, aborted, failed, is_successful, fault_in, abort_in, first_fault, first_abort, unsuccessful, total_by, total_of, with_fault, with_fault_in_total}
-use Rattle.ext_lifecycle.specs.Results.{close_ending, result_of, with_fault_told}
+use Rattle.ext_model.specs.Lacks.{fault_tells_lack, tells_lack}
+use Rattle.ext_lifecycle.specs.Endings.{Ending, successful, aborted, failed, is_successful, fault_in, abort_in, first_fault, first_abort, unsuccessful, ending_tells, endings_tell, total_by, total_of, with_fault, with_fault_in_total}
+use Rattle.ext_lifecycle.specs.FaultTexts.{fault_text}
+use Rattle.ext_lifecycle.specs.Results.{close_ending, result_by, result_of, with_fault_told}
 use Rattle.ext_lifecycle.proofs.EndingLaws.{weight, unsuccessful-cons, unsuccessful-closes}
 
 module _ {F G : Type 0} (to : F → G) where
@@ -73,10 +77,44 @@ module _ {F G : Type 0} (to : F → G) where
   pub close_faults-to : (cs : List (Option F)) → close_faults (map (option_map to) cs) ≡ close_faults cs
   close_faults-to cs = sym (unsuccessful-closes (map (option_map to) cs)) ∙ ap unsuccessful (closes-to cs) ∙ unsuccessful-to (map close_ending cs) ∙ unsuccessful-closes cs
 
-  pub result_of-to : (node : ℕ) (is_test : Bool) (es : List (Ending F)) (computed found : ℕ) (cs : List (Option F))
-      → result_of node is_test (map (with_fault to) es) computed found (map (option_map to) cs) ≡ with_fault_told to (result_of node is_test es computed found cs)
-  result_of-to node is_test es computed found cs =
-      let ends : map (with_fault to) es ++ map close_ending (map (option_map to) cs) ≡ map (with_fault to) (es ++ map close_ending cs) = ap (λ l. map (with_fault to) es ++ l) (closes-to cs) ∙ sym (map-append (with_fault to) es (map close_ending cs)) in
-      ap (λ t. record { node = node; is_test = is_test; status = t.status; fault = t.fault; more = t.more; computed = computed; found = found; closed = length (map (option_map to) cs); close_faults = close_faults (map (option_map to) cs) }) (ap total_of ends ∙ total_of-to (es ++ map close_ending cs))
-      ∙ ap (λ n. record { node = node; is_test = is_test; status = (total_of (es ++ map close_ending cs)).status; fault = option_map to (total_of (es ++ map close_ending cs)).fault; more = (total_of (es ++ map close_ending cs)).more; computed = computed; found = found; closed = n; close_faults = close_faults (map (option_map to) cs) }) (length-map cs (option_map to))
-      ∙ ap (λ n. record { node = node; is_test = is_test; status = (total_of (es ++ map close_ending cs)).status; fault = option_map to (total_of (es ++ map close_ending cs)).fault; more = (total_of (es ++ map close_ending cs)).more; computed = computed; found = found; closed = length cs; close_faults = n }) (close_faults-to cs)
+  -- ---- the whole result, where the other faults tell of the same lacks
+
+  module _ (tells : F → Bool) (others : G → Bool) (same : (fault : F) → tells fault ≡ others (to fault)) where
+    ending_tells-to : (e : Ending F) → ending_tells others (with_fault to e) ≡ ending_tells tells e
+    ending_tells-to successful = refl
+    ending_tells-to (aborted fault) = sym (same fault)
+    ending_tells-to (failed fault) = sym (same fault)
+
+    endings_tell-to : (es : List (Ending F)) → endings_tell others (map (with_fault to) es) ≡ endings_tell tells es
+    endings_tell-to [] = refl
+    endings_tell-to (e ∷ es) = λ i. ending_tells-to e i || endings_tell-to es i
+
+    pub result_by-to : (node : ℕ) (is_test : Bool) (es : List (Ending F)) (computed found : ℕ) (cs : List (Option F))
+        → result_by others node is_test (map (with_fault to) es) computed found (map (option_map to) cs) ≡ with_fault_told to (result_by tells node is_test es computed found cs)
+    result_by-to node is_test es computed found cs =
+        let ends : map (with_fault to) es ++ map close_ending (map (option_map to) cs) ≡ map (with_fault to) (es ++ map close_ending cs) = ap (λ l. map (with_fault to) es ++ l) (closes-to cs) ∙ sym (map-append (with_fault to) es (map close_ending cs)) in
+        let total = ap total_of ends ∙ total_of-to (es ++ map close_ending cs) in
+        let lacked = ap (endings_tell others) ends ∙ endings_tell-to (es ++ map close_ending cs) in
+        let closed = length-map cs (option_map to) in
+        let failed = close_faults-to cs in
+        λ i. record {
+          node = node;
+          is_test = is_test;
+          status = (total i).status;
+          fault = (total i).fault;
+          more = (total i).more;
+          computed = computed;
+          found = found;
+          closed = closed i;
+          close_faults = failed i;
+          lacked = lacked i;
+        }
+
+-- a fault tells of a lack as its text does
+pub text-tells : (fault : Fault) → fault_tells_lack fault ≡ tells_lack (fault_text fault)
+text-tells (faults.Text text) = refl
+text-tells faults.Memory = refl
+
+pub result_of-told : (node : ℕ) (is_test : Bool) (es : List (Ending Fault)) (computed found : ℕ) (cs : List (Option Fault))
+    → result_by tells_lack node is_test (map (with_fault fault_text) es) computed found (map (option_map fault_text) cs) ≡ with_fault_told fault_text (result_of node is_test es computed found cs)
+result_of-told = result_by-to fault_text fault_tells_lack tells_lack text-tells

@@ -1,10 +1,10 @@
 -- How a node's calls ended, and their total. A node with a failed call is failed, with the first fault; otherwise a
 -- node with an aborted call is aborted, with the first abort; otherwise it is successful. Each further fault or abort
--- is counted. Calls fail or abort as in Javadoc `TestExecutionResult`; which fault is reported and what is counted are
+-- is counted, and one of all may tell of a lack. Calls fail or abort as in Javadoc `TestExecutionResult`; which fault is reported and what is counted are
 -- chosen here. A fault is an `F`: a `Fault` of ext_model for a call that was made, a text where a definition says what
 -- a run gives.
 use Rattle.std.specs.Prelude.{ℕ, ◌-◌, Bool, true, false, not, ◌&&◌, List, [], ◌∷◌, Option, Some, None, option_map}
-use Rattle.std.specs.List.{count_by}
+use Rattle.std.specs.List.{count_by, list_any}
 use Rattle.ext_model.specs.Closed.{or_else}
 use Rattle.ext_lifecycle.specs.declared.status.Status.{Status}
 use Rattle.ext_lifecycle.specs.declared.status.Status.TheVariants as statuses
@@ -52,6 +52,15 @@ module _ {F : Type 0} where
   -- How many calls were not successful.
   abbrev pub unsuccessful : List (Ending F) → ℕ
   unsuccessful endings = count_by (λ e. not (is_successful e)) endings
+
+  -- Whether the fault of a call tells of a lack, where `tells` says which do.
+  abbrev pub ending_tells : (F → Bool) → Ending F → Bool
+  ending_tells tells successful = false
+  ending_tells tells (aborted fault) = tells fault
+  ending_tells tells (failed fault) = tells fault
+
+  abbrev pub endings_tell : (F → Bool) → List (Ending F) → Bool
+  endings_tell tells endings = list_any (ending_tells tells) endings
 
   -- The total, by the first fault, the first abort, and how many there are of both.
   abbrev pub total_by : Option F → Option F → ℕ → Total F

@@ -4,12 +4,13 @@
 use Rattle.std.specs.Prelude.{◌≡◌, ℕ, ◌+◌, ◌*◌, ◌<◌, ◌^◌, Bool, true, false, List, [], ◌∷◌, ◌++◌, map}
 use Rattle.std.specs.List.{sum_by}
 use Rattle.ext_model.specs.declared.look.Fault.{Fault}
+use Rattle.ext_model.specs.Lacks.{fault_tells_lack}
 use Rattle.ext_lifecycle.specs.declared.call.Call.{Call}
 use Rattle.ext_lifecycle.specs.declared.outcome.Outcome.{Outcome}
 use Rattle.ext_lifecycle.specs.declared.outcome.Verdict.{Verdict}
 use Rattle.ext_lifecycle.specs.declared.outcome.Verdict.TheVariants as verdicts
 use Rattle.ext_lifecycle.specs.declared.tally.Tally.{Tally}
-use Rattle.ext_lifecycle.specs.Endings.{Ending, successful, aborted, failed, is_successful, all_successful, total_of}
+use Rattle.ext_lifecycle.specs.Endings.{Ending, successful, aborted, failed, is_successful, all_successful, endings_tell, total_of}
 
 -- ---- outcomes
 
@@ -36,6 +37,7 @@ tally_of outcomes = record {
   more = (total_of (endings_of outcomes)).more;
   computed = computed_in outcomes;
   found = found_in outcomes;
+  lacked = endings_tell fault_tells_lack (endings_of outcomes);
 }
 
 -- The counts have room for `n` more outcomes, whatever these are.

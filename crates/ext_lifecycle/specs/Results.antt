@@ -1,13 +1,15 @@
 -- What a run reports about a node: how its calls ended and what they counted, and how the closes of its context ended,
 -- which come after them (JUnit 5 User Guide, "Keeping State in Extensions"). A close is successful or fails. The fault
--- of a close is reported if no call failed; each other fault and abort is counted. What is reported is chosen here.
-use Rattle.std.specs.Prelude.{ℕ, Bool, List, ◌++◌, length, map, Option, Some, None, option_map}
+-- of a close is reported if no call failed; each other fault and abort is counted. Whether one of all tells of a lack is
+-- told too (`Lacks` of ext_model). What is reported is chosen here.
+use Rattle.std.specs.Prelude.{ℕ, Bool, false, List, ◌++◌, length, map, Option, Some, None, option_map}
 use Rattle.ext_model.specs.declared.look.Fault.{Fault}
 use Rattle.ext_model.specs.Closed.{close_faults}
+use Rattle.ext_model.specs.Lacks.{fault_tells_lack}
 use Rattle.ext_lifecycle.specs.declared.node_result.NodeResult.{NodeResult}
 use Rattle.ext_lifecycle.specs.declared.status.Status.{Status}
 use Rattle.ext_lifecycle.specs.declared.status.Status.TheVariants as statuses
-use Rattle.ext_lifecycle.specs.Endings.{Ending, successful, failed, total_of}
+use Rattle.ext_lifecycle.specs.Endings.{Ending, successful, failed, endings_tell, total_of}
 
 -- A node's result, whose fault is an `F`.
 pub record ResultOf (F : Type 0) : Type 0 where
@@ -20,6 +22,7 @@ pub record ResultOf (F : Type 0) : Type 0 where
   pub found : ℕ
   pub closed : ℕ
   pub close_faults : ℕ
+  pub lacked : Bool
 
 -- What a result in memory says.
 abbrev pub told : NodeResult → ResultOf Fault
@@ -33,6 +36,7 @@ told r = record {
   found = r.found;
   closed = r.closed;
   close_faults = r.close_faults;
+  lacked = r.lacked;
 }
 
 -- The same with its fault converted, for instance to its text.
@@ -47,6 +51,7 @@ with_fault_told to r = record {
   found = r.found;
   closed = r.closed;
   close_faults = r.close_faults;
+  lacked = r.lacked;
 }
 
 module _ {F : Type 0} where
@@ -55,9 +60,10 @@ module _ {F : Type 0} where
   close_ending None = successful
   close_ending (Some fault) = failed fault
 
-  -- The result of a node that ran, by how its calls ended, how many values they computed and found, and its closes.
-  abbrev pub result_of : ℕ → Bool → List (Ending F) → ℕ → ℕ → List (Option F) → ResultOf F
-  result_of node is_test calls computed found closes = record {
+  -- The result of a node that ran, by which faults tell of a lack, how its calls ended, how many values they computed and
+  -- found, and its closes.
+  abbrev pub result_by : (F → Bool) → ℕ → Bool → List (Ending F) → ℕ → ℕ → List (Option F) → ResultOf F
+  result_by tells node is_test calls computed found closes = record {
     node = node;
     is_test = is_test;
     status = (total_of (calls ++ map close_ending closes)).status;
@@ -67,6 +73,7 @@ module _ {F : Type 0} where
     found = found;
     closed = length closes;
     close_faults = close_faults closes;
+    lacked = endings_tell tells (calls ++ map close_ending closes);
   }
 
   -- The result of a node that did not run.
@@ -81,4 +88,8 @@ module _ {F : Type 0} where
     found = 0;
     closed = 0;
     close_faults = 0;
+    lacked = false;
   }
+
+abbrev pub result_of : ℕ → Bool → List (Ending Fault) → ℕ → ℕ → List (Option Fault) → ResultOf Fault
+result_of = result_by fault_tells_lack

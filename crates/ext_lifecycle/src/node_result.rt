@@ -27,10 +27,12 @@ pub struct NodeResult {
     pub closed: u64,
     /// How many of these closes failed.
     pub close_faults: u64,
+    /// Whether one of all its faults and aborts tells of a lack (`Fault::tells_lack` of ext_model).
+    pub lacked: bool,
 }
 
 impl NodeResult {
-    /// The result of a node that did not run: skipped, with no fault and all counts 0.
+    /// The result of a node that did not run: skipped, with no fault, no lack and all counts 0.
     pub fn skipped(node: ContextNo, is_test: bool) -> NodeResult
         ensures { told result ≡ skipped_result node is_test }
     {
@@ -44,6 +46,7 @@ impl NodeResult {
             found: 0,
             closed: 0,
             close_faults: 0,
+            lacked: false,
         }
     }
 }

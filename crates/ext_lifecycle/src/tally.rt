@@ -1,5 +1,5 @@
 //! The combined outcomes of a node's calls.
-ghost use Rattle.std.specs.Prelude.{◌≡◌, ◌++◌, ◌∷◌, ◌+◌, ◌<◌, ◌^◌, ℕ, [], List, Option};
+ghost use Rattle.std.specs.Prelude.{◌≡◌, ◌||◌, ◌++◌, ◌∷◌, ◌+◌, ◌<◌, ◌^◌, ℕ, [], List, Option};
 ghost use Rattle.ext_model.specs.declared.look.Fault.{Fault};
 ghost use Rattle.ext_lifecycle.specs.declared.outcome.Outcome.{Outcome};
 ghost use Rattle.ext_lifecycle.specs.Endings.{aborted, all_successful, failed};
@@ -7,6 +7,7 @@ ghost use Rattle.ext_lifecycle.specs.Lifecycle.{IsRoomy, computed_in, endings_of
 ghost use Rattle.ext_lifecycle.specs.InnerTotals.{total_in, with_ending};
 ghost use Rattle.ext_lifecycle.specs.Results.{result_of, told};
 ghost use Rattle.ext_model.specs.Closed.{closed_of};
+ghost use Rattle.ext_model.specs.Lacks.{fault_tells_lack};
 
 use crate::{NodeResult, Outcome, Status, Verdict};
 use ext_model::{Closed, ContextNo, Fault};
@@ -24,6 +25,8 @@ pub struct Tally {
     pub computed: u64,
     /// How many values the calls found instead of computing one.
     pub found: u64,
+    /// Whether a fault or abort tells of a lack (`Fault::tells_lack` of ext_model).
+    pub lacked: bool,
 }
 
 impl Tally {
@@ -38,6 +41,7 @@ impl Tally {
             more: 0,
             computed: 0,
             found: 0,
+            lacked: false,
         }
     }
 
@@ -83,8 +87,10 @@ impl Tally {
             closed,
             first_fault,
             more_faults,
+            lacked,
         } = closes;
         let mut tally = self;
+        let lacked = tally.lacked | lacked;
         let mut close_faults = 0;
         if let Some(fault) = first_fault {
             close_faults = 1 + u64::from(more_faults);
@@ -101,6 +107,7 @@ impl Tally {
             found: tally.found,
             closed: u64::from(closed),
             close_faults,
+            lacked,
         }
     }
 
@@ -109,7 +116,9 @@ impl Tally {
         ensures total { total_in self.new ≡ with_ending (total_in self.old) (aborted fault) }
         ensures computed { self.new.computed ≡ self.old.computed }
         ensures found { self.new.found ≡ self.old.found }
+        ensures lacked { self.new.lacked ≡ (self.old.lacked || fault_tells_lack fault) }
     {
+        self.lacked |= fault.tells_lack();
         match self.status {
             Status::Successful => {
                 self.status = Status::Aborted;
@@ -124,7 +133,9 @@ impl Tally {
         ensures total { total_in self.new ≡ with_ending (total_in self.old) (failed fault) }
         ensures computed { self.new.computed ≡ self.old.computed }
         ensures found { self.new.found ≡ self.old.found }
+        ensures lacked { self.new.lacked ≡ (self.old.lacked || fault_tells_lack fault) }
     {
+        self.lacked |= fault.tells_lack();
         match self.status {
             Status::Successful => {
                 self.status = Status::Failed;

@@ -1,9 +1,12 @@
 -- Closes that are counted, one more at a time: the first that failed, and how many did.
 use Rattle.std.proofs.Common.{◌≡◌, ℕ, ◌+◌, ◌-◌, ◌≤◌, true, false, cond, List, [], ◌∷◌, ◌++◌, length, Option, Some, None, is_some, refl, ap, sym, subst, ◌∙◌, arith, length-append}
+use Rattle.std.specs.Prelude.{Bool, ◌||◌}
+use Rattle.std.proofs.lemmas.List.Folds.{list_any-append}
 use Rattle.std.proofs.lemmas.List.Sums.{sum_by-append}
 use Rattle.ext_model.specs.declared.closed.Closed.{Closed}
 use Rattle.ext_model.specs.declared.look.Fault.{Fault}
 use Rattle.ext_model.specs.Closed.{or_else, first_of, close_faults, closed_of}
+use Rattle.ext_model.specs.Lacks.{fault_tells_lack, may_tell, one_tells}
 
 module _ {F : Type 0} where
   -- ---- the first of two
@@ -74,13 +77,24 @@ module _ {F : Type 0} where
   pub first_of-more : (cs : List (Option F)) (c : Option F) → first_of (cs ++ c ∷ []) ≡ or_else (first_of cs) c
   first_of-more cs c = first_of-append cs (c ∷ []) ∙ ap (or_else (first_of cs)) (or_else-none c)
 
+-- ---- whether one tells of a lack
+
+pub or-false : (b : Bool) → (b || false) ≡ b
+or-false true = refl
+or-false false = refl
+
+pub one_tells-more : {F : Type 0} (tells : F → Bool) (cs : List (Option F)) (c : Option F) → one_tells tells (cs ++ c ∷ []) ≡ (one_tells tells cs || may_tell tells c)
+one_tells-more tells cs c = list_any-append (may_tell tells) cs (c ∷ []) ∙ ap (λ b. one_tells tells cs || b) (or-false (may_tell tells c))
+
 -- a further close, by what stood before
 pub closed_of-more : (old new : Closed) (cs : List (Option Fault)) (c : Option Fault) → old ≡ closed_of cs → new.closed ≡ old.closed + 1 → new.first_fault ≡ or_else old.first_fault c
-    → ((n : ℕ) → IsCountOf old.first_fault n → old.more_faults ≡ n - 1 → new.more_faults ≡ (n + close_weight c) - 1) → new ≡ closed_of (cs ++ c ∷ [])
-closed_of-more old new cs c is closed first more =
+    → new.lacked ≡ (old.lacked || may_tell fault_tells_lack c) → ((n : ℕ) → IsCountOf old.first_fault n → old.more_faults ≡ n - 1 → new.more_faults ≡ (n + close_weight c) - 1) → new ≡ closed_of (cs ++ c ∷ [])
+closed_of-more old new cs c is closed first lacked more =
     let counted : IsCountOf old.first_fault (close_faults cs) = subst (λ o. IsCountOf o.first_fault (close_faults cs)) (sym is) (closes-counted cs) in
     let count : length (cs ++ c ∷ []) ≡ length cs + 1 = rw length-append refl in
-    ap (λ n. record { closed = n; first_fault = new.first_fault; more_faults = new.more_faults }) (closed ∙ ap (λ o. o.closed + 1) is ∙ sym count)
-    ∙ ap (λ f. record { closed = length (cs ++ c ∷ []); first_fault = f; more_faults = new.more_faults }) (first ∙ ap (λ o. or_else o.first_fault c) is ∙ sym (first_of-more cs c))
-    ∙ ap (λ n. record { closed = length (cs ++ c ∷ []); first_fault = first_of (cs ++ c ∷ []); more_faults = n })
+    ap (λ n. record { closed = n; first_fault = new.first_fault; more_faults = new.more_faults; lacked = new.lacked }) (closed ∙ ap (λ o. o.closed + 1) is ∙ sym count)
+    ∙ ap (λ f. record { closed = length (cs ++ c ∷ []); first_fault = f; more_faults = new.more_faults; lacked = new.lacked }) (first ∙ ap (λ o. or_else o.first_fault c) is ∙ sym (first_of-more cs c))
+    ∙ ap (λ n. record { closed = length (cs ++ c ∷ []); first_fault = first_of (cs ++ c ∷ []); more_faults = n; lacked = new.lacked })
     (more (close_faults cs) counted (ap (λ o. o.more_faults) is) ∙ ap (λ n. n - 1) (sym (close_faults-more cs c)))
+    ∙ ap (λ b. record { closed = length (cs ++ c ∷ []); first_fault = first_of (cs ++ c ∷ []); more_faults = close_faults (cs ++ c ∷ []) - 1; lacked = b })
+    (lacked ∙ ap (λ o. o.lacked || may_tell fault_tells_lack c) is ∙ sym (one_tells-more fault_tells_lack cs c))

@@ -1,10 +1,11 @@
 -- How the closes of several values ended, in order: each is `None` or the fault with which it failed. A report says how
--- many there were, the first fault, and how many more faults there were.
+-- many there were, the first fault, how many more faults there were, and whether one of all tells of a lack (`Lacks`).
 -- JUnit closes values by Javadoc `ExtensionContext.Store.CloseableResource`; it doesn't count faults like this.
 use Rattle.std.specs.Prelude.{ℕ, ◌-◌, List, [], ◌∷◌, length, Option, Some, None, is_some}
 use Rattle.std.specs.List.{count_by}
 use Rattle.ext_model.specs.declared.closed.Closed.{Closed}
 use Rattle.ext_model.specs.declared.look.Fault.{Fault}
+use Rattle.ext_model.specs.Lacks.{fault_tells_lack, one_tells}
 
 module _ {F : Type 0} where
   -- The first fault of the two.
@@ -26,4 +27,5 @@ closed_of closes = record {
   closed = length closes;
   first_fault = first_of closes;
   more_faults = close_faults closes - 1;
+  lacked = one_tells fault_tells_lack closes;
 }

@@ -8,6 +8,7 @@ pub mod CellWords
 pub mod Allowed
 pub mod CallActs
 pub mod Closing
+pub mod Lacks
 pub mod Closed
 pub mod HistoryLaws
 pub mod WordLaws

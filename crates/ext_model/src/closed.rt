@@ -14,6 +14,8 @@ pub struct Closed {
     pub first_fault: Option<Fault>,
     /// How many closes failed after that one.
     pub more_faults: u32,
+    /// Whether the fault of a close tells of a lack (`Fault::tells_lack`).
+    pub lacked: bool,
 }
 
 impl Closed {
@@ -25,6 +27,7 @@ impl Closed {
             closed: 0,
             first_fault: None,
             more_faults: 0,
+            lacked: false,
         }
     }
 
@@ -40,6 +43,7 @@ impl Closed {
         let Some(fault) = close else {
             return;
         };
+        self.lacked |= fault.tells_lack();
         if self.first_fault.is_some() {
             self.more_faults += 1;
         } else {

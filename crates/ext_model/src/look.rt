@@ -1,4 +1,7 @@
 //! What a look-up answers, and why a factory or an action failed.
+ghost use Rattle.std.specs.Prelude.{◌≡◌};
+ghost use Rattle.ext_model.specs.Lacks.{fault_tells_lack, tells_lack};
+
 use crate::ContextNo;
 use thiserror::Error;
 
@@ -31,4 +34,35 @@ pub enum Fault {
     /// An allocation failed.
     #[error("no memory")]
     Memory,
+}
+
+impl Fault {
+    /// Tests whether it tells that a call of a store lacked something: memory, a number, a key, a
+    /// place, or being shown what stood in its place. That is so of `Memory`, of the text `no
+    /// memory`, and of a text that ends with `: exhausted`, `: numbers full`, `: directory full`, `:
+    /// unplaced` or `: not shown`, as that of a step of a plan does.
+    ///
+    /// A caller's own text may end so though nothing was lacking. JUnit has no counterpart.
+    pub fn tells_lack(&self) -> bool
+        ensures { result ≡ fault_tells_lack self.now }
+    {
+        match self {
+            Fault::Memory => true,
+            Fault::Text(text) => tells_lack(text.as_str()),
+        }
+    }
+}
+
+/// Tests whether a text is `no memory`, or ends like the fault of a step that lacked something
+/// else.
+fn tells_lack(text: &str) -> bool
+    ensures { result ≡ tells_lack text.now }
+{
+    let bytes = text.as_bytes();
+    text == "no memory"
+        || bytes.ends_with(b": exhausted")
+        || bytes.ends_with(b": numbers full")
+        || bytes.ends_with(b": directory full")
+        || bytes.ends_with(b": unplaced")
+        || bytes.ends_with(b": not shown")
 }

@@ -3,14 +3,15 @@ use Rattle.std.proofs.Common.{◌≡◌, ℕ, inl, inr, Bool, true, false, List,
 use Rattle.std.specs.Prelude.{Option, option_map, ◌&&◌, if◌then◌else◌}
 use Rattle.ext_history.proofs.Lists.{bools}
 use Rattle.ext_model.specs.declared.look.Fault.{Fault}
+use Rattle.ext_model.specs.Lacks.{tells_lack}
 use Rattle.ext_tree.specs.Trees.{IsPathOf}
 use Rattle.ext_lifecycle.specs.declared.call.Call.{Call}
 use Rattle.ext_lifecycle.specs.declared.outcome.Outcome.{Outcome}
 use Rattle.ext_lifecycle.specs.Endings.{all_successful, is_successful}
 use Rattle.ext_lifecycle.specs.FaultTexts.{VerdictText, fault_text}
 use Rattle.ext_lifecycle.specs.Lifecycle.{MakesAll, MakesBefores, computed_in, ending_of, endings_of, found_in}
-use Rattle.ext_lifecycle.specs.Results.{result_of, with_fault_told}
-use Rattle.ext_lifecycle.proofs.OtherFaults.{result_of-to}
+use Rattle.ext_lifecycle.specs.Results.{result_by, result_of, with_fault_told}
+use Rattle.ext_lifecycle.proofs.OtherFaults.{result_of-told}
 use Rattle.ext_plan.specs.Plans.{PlanText}
 use Rattle.ext_plan.specs.PlanCalls.{steps_of_call}
 use Rattle.ext_engine.specs.Order.{LaneGoesOn}
@@ -72,5 +73,5 @@ pub told_alike : (run : RunView) (places : Places) (node : ℕ) (is_test : Bool)
     → with_fault_told fault_text (result_of node is_test (endings_of outcomes) (computed_in outcomes) (found_in outcomes) faults) ≡ outcome_of node is_test end (map (option_map fault_text) faults)
 told_alike run places node is_test outcomes after end faults alike =
     let closed = map (option_map fault_text) faults in
-    sym (result_of-to fault_text node is_test (endings_of outcomes) (computed_in outcomes) (found_in outcomes) faults)
-    ∙ (λ i. result_of node is_test (alike.says i) (alike.computed i) (alike.found i) closed)
+    sym (result_of-told node is_test (endings_of outcomes) (computed_in outcomes) (found_in outcomes) faults)
+    ∙ (λ i. result_by tells_lack node is_test (alike.says i) (alike.computed i) (alike.found i) closed)

@@ -9,6 +9,7 @@ use Rattle.ext_history.specs.Histories.{seen_by}
 use Rattle.ext_model.specs.declared.look.Fault.{Fault}
 use Rattle.ext_model.specs.Closed.{first_of}
 use Rattle.ext_model.specs.Closing.{remaining}
+use Rattle.ext_model.specs.Lacks.{tells_lack}
 use Rattle.ext_model.specs.History.{History, slots_in, IsLegal}
 use Rattle.ext_model.specs.Plain.{Place}
 use Rattle.ext_one_report.proofs.Numbers.{enough_numbers}
@@ -260,6 +261,6 @@ module _ (plan : PlanText) (run : RunView) (locks : LocksView) (h : History) (to
       record {
         level = level_besides node places (seen_by lane.cells.view) (first_seen after) s t (plain_seals_places node s) lanes level (seals_of (plan_leaves plan) s.places node s level.of_plan);
         told = told_alike run places node is_test outcomes lane end faults alike
-            ∙ sym (results_tell_no_order node is_test end.calls end.computed end.found plain (map (option_map fault_text) faults)
+            ∙ sym (results_tell_no_order tells_lack node is_test end.calls end.computed end.found plain (map (option_map fault_text) faults)
             (IsPermutation-sym (map (option_map fault_text) faults) plain texts) (λ a b first second. sym (same_told node places lane rest faults after close s level ordered b a second first)));
       }

@@ -1,11 +1,11 @@
 -- The result of a node does not tell in which order the closes of its context came, but for the first that fails.
 use Rattle.std.proofs.Common.{◌≡◌, ℕ, inl, inr, Bool, List, [], ◌∷◌, ◌++◌, map, Contains, Option, None, Some, refl, ap, sym, subst, ◌∙◌}
 use Rattle.std.specs.Prelude.{IsPermutation, cond, is_some, not}
-use Rattle.std.proofs.lemmas.List.Sorted.{Contains-permutation, IsPermutation-sym, IsPermutation-append_right, IsPermutation-map, length_permutation, sum_by-IsPermutation}
+use Rattle.std.proofs.lemmas.List.Sorted.{Contains-permutation, IsPermutation-sym, IsPermutation-append_right, IsPermutation-map, length_permutation, list_any-IsPermutation, sum_by-IsPermutation}
 use Rattle.ext_history.proofs.Lists.{contains_cons, contains_here, contains_later, contains_none}
 use Rattle.ext_model.specs.Closed.{close_faults, first_of, or_else}
-use Rattle.ext_lifecycle.specs.Endings.{Ending, abort_in, fault_in, first_abort, first_fault, is_successful, total_by, total_of, unsuccessful}
-use Rattle.ext_lifecycle.specs.Results.{close_ending, result_of}
+use Rattle.ext_lifecycle.specs.Endings.{Ending, abort_in, ending_tells, endings_tell, fault_in, first_abort, first_fault, is_successful, total_by, total_of, unsuccessful}
+use Rattle.ext_lifecycle.specs.Results.{close_ending, result_by}
 
 -- ---- the first fault and the first abort
 
@@ -62,7 +62,7 @@ module _ {F : Type 0} where
 
   -- ---- results
 
-  module _ (node : ℕ) (is_test : Bool) (calls : List (Ending F)) (computed found : ℕ) (closes others : List (Option F)) (moved : IsPermutation closes others)
+  module _ (tells : F → Bool) (node : ℕ) (is_test : Bool) (calls : List (Ending F)) (computed found : ℕ) (closes others : List (Option F)) (moved : IsPermutation closes others)
       (one : (a b : F) → first_of closes ≡ Some a → first_of others ≡ Some b → a ≡ b) where
     fault_is : first_fault (calls ++ map close_ending closes) ≡ first_fault (calls ++ map close_ending others)
     fault_is =
@@ -86,7 +86,12 @@ module _ {F : Type 0} where
     faults_are : close_faults closes ≡ close_faults others
     faults_are = sym (sum_by-IsPermutation (λ (o : Option F). cond (is_some o) 1 0) closes others moved)
 
-    pub results_tell_no_order : result_of node is_test calls computed found closes ≡ result_of node is_test calls computed found others
+    lacked_is : endings_tell tells (calls ++ map close_ending closes) ≡ endings_tell tells (calls ++ map close_ending others)
+    lacked_is =
+        list_any-IsPermutation (ending_tells tells) (calls ++ map close_ending closes) (calls ++ map close_ending others)
+        (IsPermutation-append_right calls (map close_ending closes) (map close_ending others) (IsPermutation-map close_ending closes others moved))
+
+    pub results_tell_no_order : result_by tells node is_test calls computed found closes ≡ result_by tells node is_test calls computed found others
     results_tell_no_order = λ i. record {
       node = node;
       is_test = is_test;
@@ -97,4 +102,5 @@ module _ {F : Type 0} where
       found = found;
       closed = sym (length_permutation closes others moved) i;
       close_faults = faults_are i;
+      lacked = lacked_is i;
     }

@@ -18,6 +18,7 @@ use Rattle.ext_locks.specs.Sets.{HeldView}
 use Rattle.ext_plan.specs.LockNames.{lock_names}
 use Rattle.ext_plan.specs.Plans.{PlanText}
 use Rattle.ext_plan.specs.ReadPlans.{IsReadPlan}
+use Rattle.ext_plain.proofs.Spared.{neither}
 use Rattle.ext_store.specs.Stores.{StoreView}
 use Rattle.ext_closing.specs.Closing.{CallIf, Closing, ClosesOne}
 use Rattle.ext_crew.specs.Dealing.{RunByDealing}
@@ -28,7 +29,7 @@ use Rattle.ext_engine.proofs.Grown.{Entry}
 use Rattle.ext_engine.proofs.RunLaws.{one_result_each}
 use Rattle.ext_engine.proofs.Told.{grown}
 use Rattle.ext_parallel.specs.declared.steps.stored_value.StoredValue.{StoredValue}
-use Rattle.ext_parallel.specs.Lacking.{may_have_lacked, may_lack}
+use Rattle.ext_parallel.specs.Lacking.{may_have_lacked}
 use Rattle.ext_parallel.specs.ParallelRun.{ClosesValue, ParallelRun, setting_of_plan}
 use Rattle.ext_parallel.specs.PlanSuites.{suite_of}
 use Rattle.ext_parallel.specs.StoreCalls.{PlanLane, stored_view}
@@ -273,17 +274,13 @@ module _ (plan : PlanText) (store : StoreView) (locks : LocksView) where
 
 -- ---- the results of a run
 
-neither : (a b : Bool) → (a || b) ≡ false → (a ≡ false) × (b ≡ false)
-neither true b is = absurd cc
-neither false b is = (refl, is)
-
 one-spared : (results : List (ResultOf Fault)) (node : ℕ) (r : ResultOf Fault) → may_have_lacked (map (with_fault_told fault_text) results) ≡ false → slice_get results node ≡ Some r → NodeSpared r
 one-spared [] node r spared is = absurd cc
 one-spared (x ∷ results) zero r spared is =
     let same : x ≡ r = cc is in
-    subst NodeSpared same (neither (may_lack x.status (option_map fault_text x.fault) x.more) (may_have_lacked (map (with_fault_told fault_text) results)) spared).0
+    subst NodeSpared same (neither x.lacked (may_have_lacked (map (with_fault_told fault_text) results)) spared).0
 one-spared (x ∷ results) (suc node) r spared is =
-    one-spared results node r (neither (may_lack x.status (option_map fault_text x.fault) x.more) (may_have_lacked (map (with_fault_told fault_text) results)) spared).1 is
+    one-spared results node r (neither x.lacked (may_have_lacked (map (with_fault_told fault_text) results)) spared).1 is
 
 module _ (plan : PlanText) (lanes : ℕ) (results : List (ResultOf Fault)) (read : IsReadPlan plan) (run : ParallelRun plan lanes results) where
   one_each : IsOneEach (suite_of plan) (λ node. ⊥) (length plan.nodes) run.ran results

@@ -7,13 +7,15 @@ use Rattle.std.proofs.lemmas.Bool.Decides.{Decides-eqb}
 use Rattle.std.proofs.lemmas.Slice.Eq.{ends_is}
 use Rattle.ext_model.specs.declared.look.Fault.{Fault}
 use Rattle.ext_model.specs.declared.look.Fault.TheVariants as faults
+use Rattle.ext_model.specs.Lacks.{ends_as_refused, fault_tells_lack, tells_lack}
 use Rattle.ext_lifecycle.specs.declared.call.Call.{Call}
 use Rattle.ext_lifecycle.specs.declared.outcome.Outcome.{Outcome}
 use Rattle.ext_lifecycle.specs.declared.outcome.Verdict.{Verdict}
-use Rattle.ext_lifecycle.specs.Endings.{Ending, first_abort, first_fault, successful, aborted, failed, total_by, unsuccessful, with_fault}
+use Rattle.ext_lifecycle.specs.Endings.{Ending, successful, aborted, failed, ending_tells, endings_tell, with_fault}
 use Rattle.ext_lifecycle.specs.FaultTexts.{fault_text}
 use Rattle.ext_lifecycle.specs.Lifecycle.{ending_of}
 use Rattle.ext_lifecycle.specs.Results.{ResultOf, close_ending, result_of}
+use Rattle.ext_lifecycle.proofs.OtherFaults.{text-tells}
 use Rattle.ext_locks.specs.Sets.{HeldView}
 use Rattle.ext_plan.specs.declared.reason.Reason.{Reason}
 use Rattle.ext_plan.specs.declared.reason.Reason.TheVariants as reasons
@@ -23,10 +25,9 @@ use Rattle.ext_plan.specs.StepCalls.{label_of}
 use Rattle.ext_plan.specs.Steps.{step_key}
 use Rattle.ext_plan.specs.StepTexts.{refused_text, words}
 use Rattle.ext_plan.specs.Verdicts.{refused}
-use Rattle.ext_plain.proofs.FaultsTold.{TellsFault, either-true, fault-told, some-more}
+use Rattle.ext_plain.proofs.Spared.{neither}
 use Rattle.ext_store.specs.Stores.{StoreView}
 use Rattle.ext_closing.specs.Closing.{Answer, fault_in}
-use Rattle.ext_parallel.specs.Lacking.{ends_as_refused, may_lack, tells_lack}
 use Rattle.ext_parallel.specs.ParallelRun.{MakesCall}
 use Rattle.ext_parallel.specs.PlanActions.{AnswersClose}
 use Rattle.ext_parallel.specs.Saying.{no_memory}
@@ -34,9 +35,6 @@ use Rattle.ext_parallel.specs.StoreCalls.{PlanLane}
 use Rattle.ext_one_report.specs.FullRuns.{AnswersText, CallsFully, FindsAll, IsForRoom, StepFinds, name_of}
 
 -- ---- texts
-
-abbrev pub tells : Fault → Bool
-tells fault = tells_lack (fault_text fault)
 
 -- one of six is true
 second-of : (a b c d e f : Bool) → b ≡ true → (a || b || c || d || e || f) ≡ true
@@ -73,7 +71,7 @@ last-of false false false true e f is = refl
 last-of false false false false true f is = refl
 last-of false false false false false f is = is
 
-ends-so : (name label : List ℕ) (why : Reason) → ends_as_refused (refused_text name label (words why)) why ≡ true
+ends-so : (name label : List ℕ) (why : Reason) → ends_as_refused (refused_text name label (words why)) (words why) ≡ true
 unfolding refused_text
 ends-so name label why =
     let front = name ++ codes " " ++ label in
@@ -85,34 +83,32 @@ refusal-tells name label reasons.Busy for_room = absurd for_room
 refusal-tells name label reasons.Closed for_room = absurd for_room
 refusal-tells name label reasons.Exhausted for_room =
     let t = refused_text name label (words reasons.Exhausted) in
-    second-of (bytes_eq t (codes "no memory")) (ends_as_refused t reasons.Exhausted) (ends_as_refused t reasons.NumbersFull) (ends_as_refused t reasons.DirectoryFull) (ends_as_refused t reasons.Unplaced)
-    (ends_as_refused t reasons.NotShown) (ends-so name label reasons.Exhausted)
+    second-of (bytes_eq t (codes "no memory")) (ends_as_refused t (words reasons.Exhausted)) (ends_as_refused t (words reasons.NumbersFull)) (ends_as_refused t (words reasons.DirectoryFull)) (ends_as_refused t (words reasons.Unplaced))
+    (ends_as_refused t (words reasons.NotShown)) (ends-so name label reasons.Exhausted)
 refusal-tells name label reasons.NumbersFull for_room =
     let t = refused_text name label (words reasons.NumbersFull) in
-    third-of (bytes_eq t (codes "no memory")) (ends_as_refused t reasons.Exhausted) (ends_as_refused t reasons.NumbersFull) (ends_as_refused t reasons.DirectoryFull) (ends_as_refused t reasons.Unplaced)
-    (ends_as_refused t reasons.NotShown) (ends-so name label reasons.NumbersFull)
+    third-of (bytes_eq t (codes "no memory")) (ends_as_refused t (words reasons.Exhausted)) (ends_as_refused t (words reasons.NumbersFull)) (ends_as_refused t (words reasons.DirectoryFull)) (ends_as_refused t (words reasons.Unplaced))
+    (ends_as_refused t (words reasons.NotShown)) (ends-so name label reasons.NumbersFull)
 refusal-tells name label reasons.DirectoryFull for_room =
     let t = refused_text name label (words reasons.DirectoryFull) in
-    fourth-of (bytes_eq t (codes "no memory")) (ends_as_refused t reasons.Exhausted) (ends_as_refused t reasons.NumbersFull) (ends_as_refused t reasons.DirectoryFull) (ends_as_refused t reasons.Unplaced)
-    (ends_as_refused t reasons.NotShown) (ends-so name label reasons.DirectoryFull)
+    fourth-of (bytes_eq t (codes "no memory")) (ends_as_refused t (words reasons.Exhausted)) (ends_as_refused t (words reasons.NumbersFull)) (ends_as_refused t (words reasons.DirectoryFull)) (ends_as_refused t (words reasons.Unplaced))
+    (ends_as_refused t (words reasons.NotShown)) (ends-so name label reasons.DirectoryFull)
 refusal-tells name label reasons.Unplaced for_room =
     let t = refused_text name label (words reasons.Unplaced) in
-    fifth-of (bytes_eq t (codes "no memory")) (ends_as_refused t reasons.Exhausted) (ends_as_refused t reasons.NumbersFull) (ends_as_refused t reasons.DirectoryFull) (ends_as_refused t reasons.Unplaced)
-    (ends_as_refused t reasons.NotShown) (ends-so name label reasons.Unplaced)
+    fifth-of (bytes_eq t (codes "no memory")) (ends_as_refused t (words reasons.Exhausted)) (ends_as_refused t (words reasons.NumbersFull)) (ends_as_refused t (words reasons.DirectoryFull)) (ends_as_refused t (words reasons.Unplaced))
+    (ends_as_refused t (words reasons.NotShown)) (ends-so name label reasons.Unplaced)
 refusal-tells name label reasons.NotShown for_room =
     let t = refused_text name label (words reasons.NotShown) in
-    last-of (bytes_eq t (codes "no memory")) (ends_as_refused t reasons.Exhausted) (ends_as_refused t reasons.NumbersFull) (ends_as_refused t reasons.DirectoryFull) (ends_as_refused t reasons.Unplaced)
-    (ends_as_refused t reasons.NotShown) (ends-so name label reasons.NotShown)
+    last-of (bytes_eq t (codes "no memory")) (ends_as_refused t (words reasons.Exhausted)) (ends_as_refused t (words reasons.NumbersFull)) (ends_as_refused t (words reasons.DirectoryFull)) (ends_as_refused t (words reasons.Unplaced))
+    (ends_as_refused t (words reasons.NotShown)) (ends-so name label reasons.NotShown)
 
-memory-tells : tells faults.Memory ≡ true
+memory-tells : fault_tells_lack faults.Memory ≡ true
 memory-tells = refl
 
 -- ---- endings that tell of no lack
 
 abbrev pub IsSpared : Ending Fault → Type 0
-IsSpared successful = Unit {0}
-IsSpared (aborted fault) = Unit {0}
-IsSpared (failed fault) = tells fault ≡ false
+IsSpared ending = ending_tells fault_tells_lack ending ≡ false
 
 abbrev pub AllSpared : List (Ending Fault) → Type 0
 AllSpared endings = AllByRecursion IsSpared endings
@@ -123,43 +119,17 @@ spared-append (x ∷ xs) ys all = let rest = spared-append xs ys all.1 in ((all.
 
 -- ---- what is told of a node
 
-abbrev TotalSpared : List (Ending Fault) → Type 0
-TotalSpared all = let t = total_by (first_fault all) (first_abort all) (unsuccessful all) in may_lack t.status (option_map fault_text t.fault) t.more ≡ false
-
-told-by : (fault abort : Option Fault) (count : ℕ) → TellsFault tells fault count → (let t = total_by fault abort count in may_lack t.status (option_map fault_text t.fault) t.more ≡ true)
-told-by None abort count tells_one = absurd (let bad = tells_one.fault_is in cc)
-told-by (Some fault) abort count tells_one =
-    let is : Some fault ≡ Some tells_one.one = tells_one.fault_is in
-    let same : fault ≡ tells_one.one = cc is in
-    either-true (tells fault) (nat_lt 0 (count - 1)) (⊎_elim (λ says. inl (ap tells same ∙ says)) (λ more. inr (some-more count more)) tells_one.why)
-
-never-told : (before after : List (Ending Fault)) (fault : Fault) → TotalSpared (before ++ failed fault ∷ after) → tells fault ≡ true → ⊥
-never-told before after fault spared is =
-    let all = before ++ failed fault ∷ after in
-    let told = told-by (first_fault all) (first_abort all) (unsuccessful all) (fault-told tells fault is before after) in
-    let bad : true ≡ false = sym told ∙ spared in
-    absurd cc
-
-not-true : (b : Bool) → (b ≡ true → ⊥) → b ≡ false
-not-true true never = absurd (never refl)
-not-true false never = refl
-
-one-spared : (before after : List (Ending Fault)) (e : Ending Fault) → TotalSpared (before ++ e ∷ after) → IsSpared e
-one-spared before after successful spared = tt
-one-spared before after (aborted fault) spared = tt
-one-spared before after (failed fault) spared = not-true (tells fault) (never-told before after fault spared)
-
-each-spared : (before all : List (Ending Fault)) → TotalSpared (before ++ all) → AllSpared all
-each-spared before [] spared = tt
-each-spared before (e ∷ all) spared = (one-spared before all e spared, each-spared (before ++ e ∷ []) all (subst TotalSpared (sym (append_assoc before (e ∷ []) all)) spared))
+each-spared : (all : List (Ending Fault)) → endings_tell fault_tells_lack all ≡ false → AllSpared all
+each-spared [] spared = tt
+each-spared (e ∷ all) spared = let both = neither (ending_tells fault_tells_lack e) (endings_tell fault_tells_lack all) spared in (both.0, each-spared all both.1)
 
 -- a node that does not tell that it may have lacked something
 abbrev pub NodeSpared : ResultOf Fault → Type 0
-NodeSpared r = may_lack r.status (option_map fault_text r.fault) r.more ≡ false
+NodeSpared r = r.lacked ≡ false
 
 pub endings-spared : (node : ℕ) (is_test : Bool) (calls : List (Ending Fault)) (computed found : ℕ) (closes : List (Option Fault)) → NodeSpared (result_of node is_test calls computed found closes)
     → AllSpared calls × AllSpared (map close_ending closes)
-endings-spared node is_test calls computed found closes spared = spared-append calls (map close_ending closes) (each-spared [] (calls ++ map close_ending closes) spared)
+endings-spared node is_test calls computed found closes spared = spared-append calls (map close_ending closes) (each-spared (calls ++ map close_ending closes) spared)
 
 -- ---- calls
 
@@ -171,7 +141,7 @@ room-by successful name label why spared for_room is = absurd cc
 room-by (aborted fault) name label why spared for_room is = absurd cc
 room-by (failed fault) name label why spared for_room is =
     let same : fault_text fault ≡ refused_text name label (words why) = cc is in
-    let bad : true ≡ false = sym (refusal-tells name label why for_room) ∙ ap tells_lack (sym same) ∙ spared in
+    let bad : true ≡ false = sym (refusal-tells name label why for_room) ∙ ap tells_lack (sym same) ∙ sym (text-tells fault) ∙ spared in
     absurd cc
 
 finds-all : (name label : List ℕ) (outcome : Outcome) → IsSpared (ending_of outcome.verdict) → FindsAll name label outcome
@@ -192,7 +162,7 @@ call-fully plan store node call held a o b made spared = record { made = made; f
 
 abbrev pub AnswerSpared : Answer → Type 0
 AnswerSpared (Ok done) = Unit {0}
-AnswerSpared (Err fault) = tells fault ≡ false
+AnswerSpared (Err fault) = fault_tells_lack fault ≡ false
 
 pub answers-spared : (answers : List Answer) → AllSpared (map close_ending (map fault_in answers)) → AllByRecursion AnswerSpared answers
 answers-spared [] all = tt
@@ -202,7 +172,7 @@ answers-spared (Err fault ∷ answers) all = (all.0, answers-spared answers all.
 close-says : (text : List ℕ) (answer : Answer) (fault : Fault) → answer ≡ Err fault → (fault_text fault ≡ text) ⊎ (fault ≡ faults.Memory) → AnswerSpared answer → fault_text fault ≡ text
 close-says text answer fault is (inl same) spared = same
 close-says text answer fault is (inr memory) spared =
-    let bad : true ≡ false = sym memory-tells ∙ ap tells (sym memory) ∙ subst AnswerSpared is spared in
+    let bad : true ≡ false = sym memory-tells ∙ ap fault_tells_lack (sym memory) ∙ subst AnswerSpared is spared in
     absurd cc
 
 pub close-answers : (fails : Option (List ℕ)) (answer : Answer) → AnswersClose fails answer → AnswerSpared answer → AnswersText fails answer

@@ -1,10 +1,11 @@
 -- Where a call of a node ended for want of memory its result tells so, or tells of further faults: so calls of a node that is spared did not end so.
 use Rattle.std.proofs.Common.{◌≡◌, ◌≢◌, ◌<◌, ◌-◌, ◌∙◌, ℕ, zero, suc, Bool, true, false, codes, List, [], ◌∷◌, ◌++◌, length, map, Option, Some, None, refl, ap, sym, subst, arith, append_assoc, inl, inr, ⊎_elim}
-use Rattle.std.specs.Prelude.{nat_lt, slice_get, IsSomeAnd, ◌||◌}
+use Rattle.std.specs.Prelude.{nat_lt, slice_get, IsSomeAnd, ◌||◌, ◌&&◌}
 use Rattle.std.specs.List.{AllByRecursion, list_any}
 use Rattle.ext_model.specs.declared.look.Fault.{Fault}
+use Rattle.ext_model.specs.Lacks.{tells_lack}
 use Rattle.ext_lifecycle.specs.declared.outcome.Outcome.{Outcome}
-use Rattle.ext_lifecycle.specs.Endings.{Ending, first_abort, first_fault, successful, aborted, failed, is_successful, total_by, unsuccessful, with_fault}
+use Rattle.ext_lifecycle.specs.Endings.{Ending, ending_tells, endings_tell, first_abort, first_fault, successful, aborted, failed, is_successful, total_by, unsuccessful, with_fault}
 use Rattle.ext_lifecycle.specs.FaultTexts.{NodeOutcome, VerdictText, fault_text, verdict_text}
 use Rattle.ext_lifecycle.specs.Lifecycle.{endings_of}
 use Rattle.ext_lifecycle.specs.Results.{close_ending}
@@ -54,8 +55,21 @@ told-by (Some fault) abort count tells =
     let is : Some fault ≡ Some tells.one = tells.fault_is in
     either-true (says_no_memory (Some fault)) (nat_lt 0 (count - 1)) (⊎_elim (λ says. inl (ap says_no_memory is ∙ says)) (λ more. inr (some-more count more)) tells.why)
 
+-- and one of all tells of a lack
+either-way : (b : Bool) → (b || true) ≡ true
+either-way true = refl
+either-way false = refl
+
+lack-told : (before after : List VerdictText) → endings_tell tells_lack (before ++ no_memory ∷ after) ≡ true
+lack-told [] after = refl
+lack-told (v ∷ before) after = ap (λ b. ending_tells tells_lack v || b) (lack-told before after) ∙ either-way (ending_tells tells_lack v)
+
+both-true : (a b : Bool) → a ≡ true → b ≡ true → (a && b) ≡ true
+both-true true b one two = two
+both-true false b one two = absurd cc
+
 abbrev IsSpared-total : List VerdictText → Type 0
-IsSpared-total all = let t = total_by (first_fault all) (first_abort all) (unsuccessful all) in may_lack t.status t.fault t.more ≡ false
+IsSpared-total all = let t = total_by (first_fault all) (first_abort all) (unsuccessful all) in (endings_tell tells_lack all && may_lack t.status t.fault t.more) ≡ false
 
 spared-after : (before calls closes : List VerdictText) → IsSpared-total (before ++ (calls ++ closes)) → Spares calls
 spared-after before [] closes spared = tt
@@ -64,8 +78,9 @@ spared-after before (v ∷ calls) closes spared = (
       let other = before ++ no_memory ∷ (calls ++ closes) in
       let is : before ++ v ∷ (calls ++ closes) ≡ other = ap (λ w. before ++ w ∷ (calls ++ closes)) lacks in
       let told = told-by (first_fault other) (first_abort other) (unsuccessful other) (fault-told says_lack (codes "no memory") refl before (calls ++ closes)) in
+      let lacked = lack-told before (calls ++ closes) in
       let unspared = subst IsSpared-total is spared in
-      let bad : true ≡ false = sym told ∙ unspared in
+      let bad : true ≡ false = sym (both-true (endings_tell tells_lack other) _ lacked told) ∙ unspared in
       absurd cc,
   spared-after (before ++ v ∷ []) calls closes (subst IsSpared-total (sym (append_assoc before (v ∷ []) (calls ++ closes))) spared),
 )
@@ -76,7 +91,7 @@ calls-spared at is_test end closed spared = spared-after [] end.calls (map close
 
 -- ---- all nodes of a run
 
-neither : (a b : Bool) → (a || b) ≡ false → (a ≡ false) × (b ≡ false)
+pub neither : (a b : Bool) → (a || b) ≡ false → (a ≡ false) × (b ≡ false)
 neither true b is = absurd cc
 neither false b is = (refl, is)
 

@@ -5,16 +5,17 @@
 -- Guide, "Relative Execution Order of User Code and Extensions" and "Keeping State in Extensions"). Chosen here: the
 -- statuses; that nodes below a skipped body run nothing, aren't closed and are skipped; and that a container's status
 -- does not depend on its children's.
-use Rattle.std.specs.Prelude.{◌≡◌, ◌≢◌, ℕ, zero, suc, ◌+◌, codes, nat_lt, Bool, true, false, ◌||◌, List, [], ◌∷◌, length, fold, Option, Some, None, is_some, slice_set, All, if◌then◌else◌}
+use Rattle.std.specs.Prelude.{◌≡◌, ◌≢◌, ℕ, zero, suc, ◌+◌, codes, nat_lt, Bool, true, false, ◌||◌, ◌&&◌, List, [], ◌∷◌, length, fold, Option, Some, None, is_some, slice_set, All, if◌then◌else◌}
 use Rattle.std.specs.List.{list_any}
 use Rattle.std.specs.Str.{bytes_eq}
+use Rattle.ext_model.specs.Lacks.{tells_lack}
 use Rattle.ext_model.specs.Sizes.{most_numbers}
 use Rattle.ext_lifecycle.specs.declared.status.Status.{Status}
 use Rattle.ext_lifecycle.specs.declared.status.Status.TheVariants as statuses
 use Rattle.ext_lifecycle.specs.Endings.{all_successful}
 use Rattle.ext_lifecycle.specs.FaultTexts.{NodeOutcome}
 use Rattle.ext_lifecycle.specs.Modes.{in_run_order}
-use Rattle.ext_lifecycle.specs.Results.{result_of, skipped_result}
+use Rattle.ext_lifecycle.specs.Results.{result_by, skipped_result}
 use Rattle.ext_plan.specs.Plans.{NodeText, PlanText}
 use Rattle.ext_plan.specs.ReadPlans.{ids_of_nodes}
 use Rattle.ext_plan.specs.StepCalls.{start_of}
@@ -33,7 +34,7 @@ pub record RunState : Type 0 where
 
 -- The result of a node, by how its calls and the closes of its context ended.
 abbrev pub outcome_of : ℕ → Bool → CallsEnd → List (Option (List ℕ)) → NodeOutcome
-outcome_of at is_test end closed = result_of at is_test end.calls end.computed end.found closed
+outcome_of at is_test end closed = result_by tells_lack at is_test end.calls end.computed end.found closed
 
 -- The results with this one in its node's place.
 abbrev pub with_result : NodeOutcome → List NodeOutcome → List NodeOutcome
@@ -125,13 +126,14 @@ may_lack statuses.Aborted fault more = false
 may_lack statuses.Failed fault more = says_no_memory fault || nat_lt 0 more
 may_lack statuses.Skipped fault more = false
 
+-- The same of a node that tells of a lack, as one that lacked memory does.
 abbrev pub may_lack_memory : NodeOutcome → Bool
-may_lack_memory r = may_lack r.status r.fault r.more
+may_lack_memory r = r.lacked && may_lack r.status r.fault r.more
 
 -- The results are those of a plain run of the plan: for each step that was made there is one answer to what memory it
 -- found, and all the rest follows from the plan. If no node failed, no step lacked memory, and they are those of the
 -- one run that the plan has. They are also that if no step is reported to have lacked any. If one is, a node failed
--- with `no memory`, or with more faults than the one it reports.
+-- with `no memory`, or with more faults than the one it reports, of which one tells of a lack.
 pub record ArePlain (plan : PlanText) (results : List NodeOutcome) (lacked : Bool) : Type 0 where
   pub memory : List Memory
   pub exact : results ≡ plain_run_by memory plan

@@ -134,6 +134,7 @@ fn with_text(ran: NodeResult, text: String) -> NodeResult
         found,
         closed,
         close_faults,
+        lacked,
     } = ran;
     NodeResult {
         node,
@@ -145,6 +146,7 @@ fn with_text(ran: NodeResult, text: String) -> NodeResult
         found,
         closed,
         close_faults,
+        lacked,
     }
 }
 
@@ -240,6 +242,7 @@ fn with_indented_fault(alloc: Global, ran: &NodeResult) -> Result<NodeResult, Al
         found: ran.found,
         closed: ran.closed,
         close_faults: ran.close_faults,
+        lacked: ran.lacked,
     })
 }
 

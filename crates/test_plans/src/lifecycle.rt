@@ -155,6 +155,7 @@ fn close_fault_is_told_before_an_abort(rt: HostRuntime) -> Result<(), Fail> {
     let mut closes = Closed::new();
     closes.add(None);
     closes.add(Some(Fault::Memory));
+    same(&rt, closes.lacked, true, "whether a close lacked something");
     let wanted = NodeResult {
         node: 1,
         is_test: false,
@@ -165,6 +166,7 @@ fn close_fault_is_told_before_an_abort(rt: HostRuntime) -> Result<(), Fail> {
         found: 2,
         closed: 2,
         close_faults: 1,
+        lacked: true,
     };
     same(&rt, tally.result(1, false, closes), wanted, "the result");
     Ok(())

@@ -45,7 +45,7 @@ fn keys_need_no_declaration(rt: HostRuntime) -> Result<(), Fail> {
 }
 
 /// Writes the steps `none k0` to `none k63`, each with a comma behind it.
-fn write_64_looks(text: &mut String) -> Result<(), AllocError> {
+pub(crate) fn write_64_looks(text: &mut String) -> Result<(), AllocError> {
     for i in 0..64 {
         write!(text, "\"none k{i}\", ")?;
     }

@@ -70,6 +70,7 @@ fn results_of(alloc: Global, rows: &[Ended]) -> Result<Vec<NodeResult>, AllocErr
             found: row.found,
             closed: row.closed,
             close_faults: row.close_faults,
+            lacked: false,
         })?;
     }
     Ok(results)

@@ -1,8 +1,9 @@
 //! A plan that is run, plans that are refused, and what other tests of whole runs need. Further
-//! worked rows are files: examples/rows has the plans with their reports, which the program is run
+//! worked rows are files: examples/cases/rows has the plans with their reports, which the program is run
 //! on (scripts/examples).
 ghost use Rattle.std.specs.Prelude.{◌≡◌, ◌≤◌, false};
 
+use crate::plain_runs::write_64_looks;
 use crate::same::same;
 use ext_run::{Options, ReportForm, RunFault, Size, Summary, run};
 use std::alloc::Global;
@@ -163,11 +164,35 @@ fn large_plans_draw_more_numbers(rt: HostRuntime) -> Result<(), Fail> {
 const TWO_FAULTS: &str =
     "[[node]]\nid = \"[engine:x]\"\nbefore_all = [[\"fail f\"]]\nafter_all = [[\"fail g\"]]\n";
 
-/// Tests `may_have_lacked`.
+/// Two faults of one node that tell of no lack are no lack: so the plan's one report is promised of
+/// its runs on lanes too. Tests `may_have_lacked`.
 #[test]
-fn container_may_have_lacked(rt: HostRuntime) -> Result<(), Fail> {
-    let (summary, _) = report(&rt, rt.alloc(), TWO_FAULTS, FOUR_LANES)?;
-    same(&rt, summary.lacked, true, "whether a step may have lacked");
+fn further_faults_are_no_lack(rt: HostRuntime) -> Result<(), Fail> {
+    let wanted =
+        "[engine:x] failed closed 0: f (+1)\ntests 0 successful 0 aborted 0 failed 0 skipped 0\ncomputed 0 found 0 closed 0 close faults 0\n";
+    reports(&rt, rt.alloc(), TWO_FAULTS, true, wanted)
+}
+
+/// An engine whose second fault, which is not reported, is that of a 65th key.
+fn plan_of_a_lack_behind_a_fault(alloc: Global) -> Result<String, AllocError> {
+    let mut text = String::new(alloc);
+    text.push_str("[[node]]\nid = \"[engine:x]\"\nbefore_all = [[\"fail f\"]]\nafter_all = [[")?;
+    write_64_looks(&mut text)?;
+    text.push_str("\"none z\"]]\n")?;
+    Ok(text)
+}
+
+/// A lack is told of a container whose report tells another fault. Tests `may_have_lacked`,
+/// `Tally::add` and `Fault::tells_lack`.
+#[test]
+fn lack_behind_another_fault_is_told(rt: HostRuntime) -> Result<(), Fail> {
+    let plan = plan_of_a_lack_behind_a_fault(rt.alloc())?;
+    let (summary, text) = report(&rt, rt.alloc(), plan.as_str(), FOUR_LANES)?;
+    same(&rt, summary.lacked, true, "whether a step lacked something");
+    let told = text
+        .as_str()
+        .starts_with("[engine:x] failed closed 0: f (+1)\n");
+    same(&rt, told, true, "the fault that is reported");
     Ok(())
 }
 
