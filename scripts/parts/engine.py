@@ -13,7 +13,7 @@ import tempfile
 TOP = pathlib.Path(__file__).resolve().parent.parent.parent
 CRATE = TOP / "crates" / "demo_engine"
 PROGRAM = CRATE / "out" / "demo_engine"
-EXAMPLE = TOP / "examples" / "engine.report"
+EXAMPLE = TOP / "examples" / "cases" / "engine.report"
 LINE = re.compile(r"(\[engine:demo\]\S*\[(?:test|row):([a-z]+|#\d)\]) +\|(\.*)(([0-3])\5*)(\.*)\|")
 TESTS = ["gift", "loan", "letter", "parcel", "lease", "alone", "sum", "eve", "#1", "#2"]
 

@@ -1,4 +1,4 @@
-"""Runs the program with `--failures --report json` on each plan of examples/rows and examples/outside and on a few others, as a plain run, and reads what it writes
+"""Runs the program with `--failures --report json` on each plan of examples/cases/rows and examples/cases/outside and on a few others, as a plain run, and reads what it writes
 with Python's own JSON parser. The objects of faults have to be the lines that the same run has as text, one by one, and the faults of each node as many as its
 object in the report counts, with the one that it tells. Prints a line for each plan.
 """
@@ -48,9 +48,9 @@ def check(program, plan):
 
 
 def main(program, _words):
-    others = [TOP / f"examples/{name}.toml" for name in ("callbacks", "closes", "failures", "failures_json", "json", "server")]
+    others = [TOP / f"examples/{name}.toml" for name in ("callbacks", "closes", "cases/failures", "cases/failures_json", "cases/json", "server")]
     right = []
-    for file in [*others, *sorted((TOP / "examples/rows").glob("*.toml")), *sorted((TOP / "examples/outside").glob("*.toml"))]:
+    for file in [*others, *sorted((TOP / "examples/cases/rows").glob("*.toml")), *sorted((TOP / "examples/cases/outside").glob("*.toml"))]:
         try:
             print(f"{file.parent.name}/{file.stem}: {check(program, file.read_bytes())} faults")
             right.append(True)

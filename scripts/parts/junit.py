@@ -1,4 +1,4 @@
-"""Runs the program with `--report junit` on each plan of examples/rows and examples/outside and on examples/junit.toml, as a plain run, and reads what it
+"""Runs the program with `--report junit` on each plan of examples/cases/rows and examples/cases/outside and on examples/cases/junit.toml, as a plain run, and reads what it
 writes with Python's own XML parser. Each suite and each case has to be what the same run says in JSON, with the same message, and the numbers of cases its totals
 there: a container that failed or aborted itself is one case more. The totals in JSON have to be those of the report's text. Prints a line for each plan.
 
@@ -176,7 +176,7 @@ def is_right(name, what, count):
 
 
 def main(program, _words):
-    files = [TOP / "examples/junit.toml", *sorted((TOP / "examples/rows").glob("*.toml")), *sorted((TOP / "examples/outside").glob("*.toml"))]
+    files = [TOP / "examples/cases/junit.toml", *sorted((TOP / "examples/cases/rows").glob("*.toml")), *sorted((TOP / "examples/cases/outside").glob("*.toml"))]
     right = [is_right("times and attempts", "times and attempts in XML", check_timed)]
     right += [is_right(f"{file.parent.name}/{file.stem}", "cases in XML", lambda: check(program, file.read_bytes())) for file in files]  # noqa: B023
     return sum(right), len(right) - sum(right)

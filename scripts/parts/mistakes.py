@@ -1,6 +1,6 @@
 """Runs the program with `--explain` on plans with mistakes that people make, and compares what it says with what helps them.
 
-The plans stand in examples/mistakes.txt: behind a line `# TITLE` each, and behind it, after `> `, the lines that the program has to write to standard output and
+The plans stand in examples/cases/mistakes.txt: behind a line `# TITLE` each, and behind it, after `> `, the lines that the program has to write to standard output and
 then to standard error. Those that are no text, or are too long for a file, are written here. Prints a line for each case.
 """
 import pathlib
@@ -84,7 +84,7 @@ MADE = [
 def written():
     """The plans of the file."""
     title, plan, lines = None, "", []
-    for line in (TOP / "examples" / "mistakes.txt").read_text(encoding="utf-8").splitlines():
+    for line in (TOP / "examples" / "cases" / "mistakes.txt").read_text(encoding="utf-8").splitlines():
         if line.startswith("# ") and (title is None or lines):
             if title is not None:
                 yield title, plan, lines

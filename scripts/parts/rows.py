@@ -1,4 +1,4 @@
-"""Runs the proved program on each plan of examples/rows and examples/outside, as a plain run and on 1, 2, 4, 8 and 16 lanes, and compares what it writes
+"""Runs the proved program on each plan of examples/cases/rows and examples/cases/outside, as a plain run and on 1, 2, 4, 8 and 16 lanes, and compares what it writes
 with the plan's report, byte by byte, and its exit status with whether a node failed there. A plan some of whose nodes may run beside others is run 20 times
 on each of these numbers of lanes, and `check --races` has to find it free of races, but for factories that fail. Prints a line for each plan.
 
@@ -43,7 +43,7 @@ def races(program, plan):
 
 def main(program, _words):
     passed = failed = 0
-    for file in [*sorted((TOP / "examples/rows").glob("*.toml")), *sorted((TOP / "examples/outside").glob("*.toml"))]:
+    for file in [*sorted((TOP / "examples/cases/rows").glob("*.toml")), *sorted((TOP / "examples/cases/outside").glob("*.toml"))]:
         plan, report = file.read_bytes(), file.with_suffix(".report").read_bytes()
         runs = words_of(plan)
         wrong = next(filter(None, (difference(program, words, plan, report) for words in runs)), None) or races(program, plan)

@@ -1,6 +1,6 @@
-"""Runs the program on each of examples/, and compares its report, what it says on standard error and its exit status with the example's files.
+"""Runs the program on each of examples/ and of examples/cases, and compares its report, what it says on standard error and its exit status with the example's files.
 
-A line of examples/statuses has the example's name, its exit status and, where they are none of its files, what its standard output (- where it is one) and its standard
+A line of examples/cases/statuses has the example's name, its exit status and, where they are none of its files, what its standard output (- where it is one) and its standard
 input are. Where a file is not there (`.args` of its words, `.report`, `.errors`) it is as if it were empty. Prints a line for each example.
 """
 import os
@@ -15,11 +15,17 @@ def read(path):
     return path.read_bytes() if path.is_file() else b""
 
 
+def example_of(top, name):
+    """Where the files of the example with this name stand, without their endings: beside its plan, if that is one of the first examples."""
+    first = top / "examples" / name
+    return first if first.with_name(first.name + ".toml").is_file() else top / "examples" / "cases" / name
+
+
 def differences(program, name, status, output="-", given=None):
     """What is not as the example's files have it."""
-    example = TOP / "examples" / name
+    example = example_of(TOP, name)
     words = read(example.with_name(example.name + ".args")).decode().splitlines()
-    file = TOP / (given or f"examples/{name}.toml")
+    file = TOP / given if given else example.with_name(example.name + ".toml")
     # (a directory can be opened so, and not by `open`)
     given = os.open(file if file.exists() else os.devnull, os.O_RDONLY)
     with open(output, "wb") if output != "-" else tempfile.TemporaryFile() as written:
@@ -39,7 +45,7 @@ def differences(program, name, status, output="-", given=None):
 
 def main(program, _words):
     passed = failed = 0
-    for line in (TOP / "examples" / "statuses").read_text(encoding="utf-8").splitlines():
+    for line in (TOP / "examples" / "cases" / "statuses").read_text(encoding="utf-8").splitlines():
         if line.strip():
             told = differences(program, *line.split())
             passed, failed = passed + (not told), failed + bool(told)
