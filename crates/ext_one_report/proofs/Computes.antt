@@ -264,7 +264,7 @@ pub record InVain (run : RunView) (places : Places) (a m : LaneView) (t : ValueS
 pub vains : (run : RunView) (places : Places) (view : IsRunView run) (tree : IsTree run.store.tree) (context : ℕ) (ancestors : List ℕ) (key : KeyValue) (number : ℕ)
     (is_path : IsPathOf run.store.tree context (context ∷ ancestors)) (has : HasNumberIn run key number) (within : All (λ c. places c key ≡ true) (context ∷ ancestors)) (t : ValueState)
     (there : is_there t.keys key ≡ true) (a b : LaneView) (alone : IsAlone run places a b) (matches : Matches run places (seen_by a) t)
-    → (attempts : ℕ) (m : LaneView) → IsPrefix (seen_by m) (seen_by b) → VainAttempts (context_cells run.store) context number attempts a m → InVain run places a m t
+    → (attempts : ℕ) (m : LaneView) → IsPrefix (seen_by m) (seen_by b) → VainAttempts (claiming.ClaimsMissing (context_cells run.store) context number) attempts a m → InVain run places a m t
 vains run places view tree context ancestors key number is_path has within t there a b alone matches zero m until same =
     record { goes = subst (λ (l : LaneView). IsPrefix (seen_by a) (seen_by l)) (sym same) (prefix_refl (seen_by a)); number = ap (λ (l : LaneView). l.number) same; matches = subst (λ (l : LaneView). Matches run places (seen_by l) t) (sym same) matches }
 vains run places view tree context ancestors key number is_path has within t there a b alone matches (suc attempts) m until more =
@@ -299,7 +299,7 @@ module _ (run : RunView) (places : Places) (view : IsRunView run) (tree : IsTree
   value_unkept keep_fault.Contended ends = ends
   value_unkept keep_fault.Unplaced ends = has_room name label reasons.Unplaced o tt finds ends
 
-  module _ (limits : Limits) (attempts : ℕ) (mid : LaneView) (in_vain : VainAttempts (context_cells run.store) context number attempts a.cells.view mid) where
+  module _ (limits : Limits) (attempts : ℕ) (mid : LaneView) (in_vain : VainAttempts (claiming.ClaimsMissing (context_cells run.store) context number) attempts a.cells.view mid) where
     -- what is so of the last attempt, which goes on to the end
     vain_end : IsPrefix (seen_by mid) (seen_by b.cells.view) → InVain run places a.cells.view mid t
     vain_end goes = vains run places view tree context ancestors key number is_path has within t there a.cells.view b.cells.view alone matches attempts mid goes in_vain

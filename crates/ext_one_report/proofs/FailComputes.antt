@@ -133,7 +133,7 @@ module _ (run : RunView) (places : Places) (view : IsRunView run) (tree : IsTree
   fault_unkept keep_fault.Contended ends = ends
   fault_unkept keep_fault.Unplaced ends = has_room name label reasons.Unplaced o tt finds ends
 
-  module _ (limits : Limits) (attempts : ℕ) (mid : LaneView) (in_vain : VainAttempts (context_cells run.store) context number attempts a.cells.view mid) where
+  module _ (limits : Limits) (attempts : ℕ) (mid : LaneView) (in_vain : VainAttempts (claiming.ClaimsMissing (context_cells run.store) context number) attempts a.cells.view mid) where
     -- what is so of the last attempt, which goes on to the end
     vain_end : IsPrefix (seen_by mid) (seen_by b.cells.view) → InVain run places a.cells.view mid t
     vain_end goes = vains run places view tree context ancestors key number is_path has within t there a.cells.view b.cells.view alone matches attempts mid goes in_vain

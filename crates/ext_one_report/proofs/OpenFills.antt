@@ -101,7 +101,7 @@ module _ (store : StoreView) (context number : ℕ) where
   refused limits ancestors a b refusal.Unplaced undecided refused_so = absurd (undecided tt)
   refused limits ancestors a b refusal.Memory undecided refused_so = absurd (undecided tt)
 
-  pub vain_nothing : (attempts : ℕ) (a m : LaneView) → VainAttempts (context_cells store) context number attempts a m → FillsNothing a m
+  pub vain_nothing : (attempts : ℕ) (a m : LaneView) → VainAttempts (claiming.ClaimsMissing (context_cells store) context number) attempts a m → FillsNothing a m
   vain_nothing zero a m same = nothing_same a m same
   vain_nothing (suc attempts) a m more =
       let last = more.2 in

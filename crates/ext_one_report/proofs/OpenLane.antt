@@ -176,7 +176,7 @@ module _ (run : RunView) (places : Places) (open_at : Open) (view : IsRunView ru
     stands_then : Stands run.meaning v (slots_in (cell_of run number) p context) → Stands run.meaning v (slots_in (cell_of run number) (seen_by b.cells.view) context)
     stands_then = stands_on run open_at a.cells.view b.cells.view computed context key number v is_open has p since until run.store.id.cells.limits legal
 
-  module _ (limits : Limits) (attempts : ℕ) (mid : LaneView) (in_vain : VainAttempts (context_cells run.store) context number attempts a.cells.view mid) where
+  module _ (limits : Limits) (attempts : ℕ) (mid : LaneView) (in_vain : VainAttempts (claiming.ClaimsMissing (context_cells run.store) context number) attempts a.cells.view mid) where
     vain : ActsOn (cell_of run number context) a.cells.view mid
     vain = vain_acts run.store context number attempts a.cells.view mid in_vain
 

@@ -221,7 +221,7 @@ module _ (limits : Limits) (store : StoreView) (context : ℕ) (ancestors : List
   from_tries a b (computes.Unkept value cause) r = unkept_tries a b cause r.1
   from_tries a b (computes.Refused why unused) r = refused_tries a b why r
 
-vain_tries : (store : StoreView) (context key attempts : ℕ) (a b : LaneView) → VainAttempts (context_cells store) context key attempts a b → Tries a b
+vain_tries : (store : StoreView) (context key attempts : ℕ) (a b : LaneView) → VainAttempts (claiming.ClaimsMissing (context_cells store) context key) attempts a b → Tries a b
 vain_tries store context key zero a b same = subst (λ (l : LaneView). Tries a l) (sym same) (tries_same a)
 vain_tries store context key (suc attempts) a b more =
     tries_then a more.0 b (vain_tries store context key attempts a more.0 more.1) (refused_tries store.id.cells.limits store context more.2.refused.0 key more.0 b more.2.why more.2.refused.2)

@@ -83,7 +83,7 @@ module _ (store : StoreView) (context number : ℕ) where
   refused_acts limits ancestors a b refusal.Unplaced undecided refused_so = absurd (undecided tt)
   refused_acts limits ancestors a b refusal.Memory undecided refused_so = absurd (undecided tt)
 
-  pub vain_acts : (attempts : ℕ) (a m : LaneView) → VainAttempts (context_cells store) context number attempts a m → ActsOn (cell_in store number context) a m
+  pub vain_acts : (attempts : ℕ) (a m : LaneView) → VainAttempts (claiming.ClaimsMissing (context_cells store) context number) attempts a m → ActsOn (cell_in store number context) a m
   vain_acts zero a m same = acts_none (cell_in store number context) a m same
   vain_acts (suc attempts) a m more =
       let last = more.2 in

@@ -336,7 +336,7 @@ module _ (run : RunView) (h g : History) (tree : IsTree run.store.tree) (number 
   refused_goes limits ancestors path_is a b why r = (refused run (seen_by b) [] tree number context v limits ancestors path_is a b (seen_by a, refl) (prefix_refl (seen_by b)) why r).begins
 
   -- attempts in vain
-  vain : (attempts : ℕ) (a b : LaneView) → IsPrefix g (seen_by a) → IsPrefix (seen_by b) h → VainAttempts (context_cells run.store) context number attempts a b → Does At a b
+  vain : (attempts : ℕ) (a b : LaneView) → IsPrefix g (seen_by a) → IsPrefix (seen_by b) h → VainAttempts (claiming.ClaimsMissing (context_cells run.store) context number) attempts a b → Does At a b
   vain zero a b low high same = subst (λ (l : LaneView). Does At a l) (sym same) (does_same At a)
   vain (suc attempts) a b low high more =
       let m = more.0 in

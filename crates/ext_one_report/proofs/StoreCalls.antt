@@ -224,7 +224,7 @@ module _ (limits : Limits) (store : StoreView) (context : ℕ) (ancestors : List
   computes_from a b (computes.Unkept value cause) r = unkept_only a b cause r.1
   computes_from a b (computes.Refused why unused) r = refused_only a b why r
 
-vain_only : (store : StoreView) (context key attempts : ℕ) (a b : LaneView) → VainAttempts (context_cells store) context key attempts a b → Only (cell_in store key context ∷ []) a b
+vain_only : (store : StoreView) (context key attempts : ℕ) (a b : LaneView) → VainAttempts (claiming.ClaimsMissing (context_cells store) context key) attempts a b → Only (cell_in store key context ∷ []) a b
 vain_only store context key zero a b same = subst (λ (l : LaneView). Only (cell_in store key context ∷ []) a l) (sym same) (only_same (cell_in store key context ∷ []) a)
 vain_only store context key (suc attempts) a b more =
     only_then (cell_in store key context ∷ []) a more.0 b (vain_only store context key attempts a more.0 more.1)

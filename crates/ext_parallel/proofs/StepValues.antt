@@ -67,7 +67,7 @@ refused_quiet limits store context ancestors key a b refusal.Unplaced r = absurd
 refused_quiet limits store context ancestors key a b refusal.Memory r = absurd r
 refused_quiet limits store context ancestors key a b refusal.Exhausted r = calls_quiet a b [] r.0.calls refl
 
-vain_quiet : (store : StoreView) (context key attempts : ℕ) (a b : LaneView) → VainAttempts (context_cells store) context key attempts a b → own_stored b ≡ own_stored a
+vain_quiet : (store : StoreView) (context key attempts : ℕ) (a b : LaneView) → VainAttempts (claiming.ClaimsMissing (context_cells store) context key) attempts a b → own_stored b ≡ own_stored a
 vain_quiet store context key zero a b same = ap own_stored same
 vain_quiet store context key (suc attempts) a b more =
     refused_quiet store.id.cells.limits store context more.2.refused.0 key more.0 b more.2.why more.2.refused.2 ∙ vain_quiet store context key attempts a more.0 more.1

@@ -131,10 +131,6 @@ handed_faultless {V} {F} factory unused r is none = subst IsFaultless (sym is) (
     faultless (FaultStands at number) n = n
     faultless (Refused why) n = tt
 
-pub unused_faultless : {V F : Type 0} (store : StoreView) (context : ℕ) (ancestors : List ℕ) (key : ℕ) (a b : LaneView) (factory : F) (unused : Unused) (r : Compute V F) → r ≡ with_factory factory unused
-    → IsLegal store.id.cells.limits (seen_by b) → ClaimsFrom (context_cells store) context ancestors key a b (Err unused) → IsFalse store.id.cells.limits.keep_faults → IsFaultless r
-unused_faultless store context ancestors key a b factory unused r is lawful from off = handed_faultless factory unused r is (none_stands (context_cells store) context ancestors key a b unused lawful from off)
-
 -- ---- what a begun compute says, whether the claim is won or not
 
 pub along_held : (store : StoreView) (path : List ℕ) (key : ℕ) (a b : LaneView) (r : Result ℕ Unused) → ClaimsAlong store path key a b r → IfOk r (IsHeld b)

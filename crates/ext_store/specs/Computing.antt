@@ -187,6 +187,12 @@ Computes store context key before after result =
     (ancestors : List ℕ) × IsPathOf store.tree context (context ∷ ancestors)
     × ComputesFrom before.cells.limits store context ancestors key before.view after.view result
 
+-- The same along a path: the context that it begins with, and its ancestors.
+unfoldable pub ComputesAlong : {V : Type 0} → StoreView → List ℕ → ℕ → Lane → Lane → Compute V (Unit {0}) → Type 0
+ComputesAlong store [] key before after result = ⊥
+ComputesAlong store (context ∷ ancestors) key before after result =
+    ComputesFrom before.cells.limits store context ancestors key before.view after.view result
+
 -- What the factory answered, if it was called, and what the lane knows of values and faults afterwards. `Gives` says
 -- what the factory may answer for the key.
 abbrev pub Uses : {V : Type 0} → (Result V Fault → Type 0) → StoreLane V → StoreLane V → Compute V (Unit {0}) → Type 0

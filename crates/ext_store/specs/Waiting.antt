@@ -1,29 +1,15 @@
 -- What waiting forms promise beyond their plain forms: what they never answer, and what `compute_wait` may do before it
 -- answers. JUnit waits for a running factory, too. That a compute claims its cell and gives the claim up before it
 -- waits is not from JUnit.
-use Rattle.std.specs.Prelude.{ℕ, Result}
+use Rattle.std.specs.Prelude.{ℕ, List}
 use Rattle.ext_cells.specs.Lanes.{Lane}
 use Rattle.ext_store.specs.declared.fault.KeepFault.{KeepFault}
 use Rattle.ext_store.specs.declared.fault.KeepFault.TheVariants as fault
 use Rattle.ext_store.specs.declared.computed.Compute.{Compute}
 use Rattle.ext_store.specs.declared.computed.Compute.TheVariants.{Computed, Found, Failed, FaultKept, FaultUnkept, FaultStands, Unkept, Refused}
-use Rattle.ext_model.specs.CallActs.{LaneView}
-use Rattle.ext_store_core.specs.declared.claim.Unused.{Unused}
-use Rattle.ext_store.specs.Stores.{StoreView, context_cells}
-use Rattle.ext_store.specs.Computing.{Computes}
-use Rattle.ext_store_core.specs.Waiting as waiting
-pub use Rattle.ext_store_core.specs.Waiting.{IsDecidedLook, IsDecided, IsDecidedUnused}
-
--- ---- what may come before the answer of a waiting claim, in the words of ext_store_core
-
--- The call first made some attempts in vain, and `Then` is said of the lane as it was after them.
-abbrev pub Waits : StoreView → ℕ → ℕ → LaneView → (LaneView → Type 0) → Type 0
-Waits store context key before Then = waiting.Waits (context_cells store) context key before Then
-
--- The last attempt is the claim of a missing value.
-abbrev pub ClaimsAfterWaits : StoreView → ℕ → ℕ → LaneView → LaneView → Result ℕ Unused → Type 0
-ClaimsAfterWaits store context key before after result =
-    waiting.ClaimsAfterWaits (context_cells store) context key before after result
+use Rattle.ext_store.specs.Stores.{StoreView}
+use Rattle.ext_store.specs.Computing.{ClaimsAlong, ClaimsMissing, Computes, ComputesAlong}
+pub use Rattle.ext_store_core.specs.Waiting.{IsDecidedLook, IsDecided, IsDecidedUnused, Waits}
 
 -- ---- what a waiting form never answers
 
@@ -48,5 +34,12 @@ IsDecidedCompute (Refused why unused) = IsDecided why
 -- running factory or because other lanes were in the way. The last attempt is a compute, with its events and points.
 unfoldable pub ComputesAfterWaits : {V : Type 0} → StoreView → ℕ → ℕ → Lane → Lane → Compute V (Unit {0}) → Type 0
 ComputesAfterWaits store context key before after result =
-    Waits store context key before.view
+    Waits (ClaimsMissing store context key) before.view
     (λ between. Computes store context key (record { cells = before.cells; view = between }) after result)
+
+-- The same along a path.
+unfoldable pub ComputesAlongAfterWaits : {V : Type 0} → StoreView → List ℕ → ℕ → Lane → Lane → Compute V (Unit {0})
+    → Type 0
+ComputesAlongAfterWaits store path key before after result =
+    Waits (ClaimsAlong store path key) before.view
+    (λ between. ComputesAlong store path key (record { cells = before.cells; view = between }) after result)

@@ -3,12 +3,12 @@ ghost use Rattle.std.specs.Prelude.{ℕ, ◌≡◌, ◌≢◌, ◌+◌, ◌*◌,
 ghost use Rattle.ext_model.specs.CallActs.{IsHeld};
 ghost use Rattle.ext_tree.specs.Keys.{PlacesOnly, KeyValue, key_at};
 ghost use Rattle.ext_store.specs.Stores.{IsKeptBy, IsLaneOf};
-ghost use Rattle.ext_store.specs.LaneCalls.{Frame, OfKey, steps_of, Grows};
+ghost use Rattle.ext_store.specs.LaneCalls.{Frame, IsTrail, OfKey, steps_of, Grows};
 ghost use Rattle.ext_store_core.specs.declared.claim.Unused.TheVariants as unused;
 ghost use Rattle.ext_store.specs.Computing.{Computes, EndsFailed, HandsBack, IfComputed, IsFaultless, Uses, without_factory};
 ghost use Rattle.std.specs.Fn.{FnOnceReturnsAt};
 ghost use Rattle.ext_store.specs.declared.computed.Compute.TheVariants.{Refused};
-ghost use Rattle.ext_store.specs.Waiting.{ComputesAfterWaits, IsDecidedCompute};
+ghost use Rattle.ext_store.specs.Waiting.{ComputesAfterWaits, ComputesAlongAfterWaits, IsDecidedCompute};
 
 use crate::computed::{hand_back, run_factory};
 use crate::{Compute, Lane, Store, StoreValue};
@@ -239,8 +239,37 @@ impl<V: StoreValue + Drop> Store<V> {
         ensures apart { IfComputed result (λ number. (m : ℕ) → IsKeptBy lane.old m → m ≢ number) }
         ensures keys { lane.new.keys ≡ lane.old.keys }
     {
+        let path = self.shared.tree().path(context);
+        self.compute_along_wait_named(rt, lane, path.as_slice(), key, name, factory)
+    }
+
+    // The same along a path.
+    #[tactic(auto, unfolding(crate::specs::LaneCalls::Frame))]
+    pub(crate) fn compute_along_wait_named<R: Wait, F: FnOnce(&Key) -> Result<V, Fault>>(
+        &self,
+        rt: &R,
+        lane: &mut Lane<V>,
+        path: &[ContextNo],
+        key: KeyNo,
+        name: &Key,
+        factory: F,
+    ) -> Compute<V, F>
+        requires lane { IsLaneOf self.now.id lane.old }
+        requires some { 1 ≤ length path.now }
+        requires path { IsTrail self.now path.now }
+        requires key { key < length self.now.id.keys }
+        requires factory { F.IsAlwaysCallable factory }
+        ensures answer { ComputesAlongAfterWaits self.now path.now key lane.old.cells lane.new.cells (without_factory result) }
+        ensures decided { IsDecidedCompute result }
+        ensures factory { Uses (λ answer. FnOnceReturnsAt F.FnOnce factory name.now answer) lane.old lane.new (without_factory result) }
+        ensures handed_back { HandsBack factory result }
+        ensures no_faults { IsFalse self.now.id.cells.limits.keep_faults → IsFaultless result }
+        ensures grows { Grows self.now.id lane.old lane.new }
+        ensures apart { IfComputed result (λ number. (m : ℕ) → IsKeptBy lane.old m → m ≢ number) }
+        ensures keys { lane.new.keys ≡ lane.old.keys }
+    {
         self.shared.recall();
-        let claim = match self.shared.claim_wait(rt, &mut lane.cells, context, key) {
+        let claim = match self.shared.claim_along_wait(rt, &mut lane.cells, path, key) {
             Ok(claim) => claim,
             Err(why) => {
                 lane.cells.recall();

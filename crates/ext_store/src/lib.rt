@@ -7,14 +7,16 @@
 //! is several such parts. A value is kept first, which gives it a number, and the number is then
 //! stored under a key in a context; or it is computed where none is found.
 //!
-//! No key is declared: a key gets its number, 0 to 63, when a lane first names it, without a lock
-//! and the same in all lanes. A call by a key does so itself; its numbered form takes the number
-//! that `Store::number` gave. A call may take memory for a key that is new to its lane, and is
-//! refused for the key as `DirectoryFull` or `Memory`, before anything else.
+//! No key is declared: a key gets its number, below `Store::key_count`, when a lane first names it,
+//! without a lock and the same in all lanes. A store has 64 keys, or by choice up to 1,024. A call
+//! by a key numbers it itself; its numbered form takes the number that `Store::number` gave. A call
+//! may take memory for a key that is new to its lane, and is refused for the key as `DirectoryFull`
+//! or `Memory`, before anything else.
 //!
 //! Each operation has a file of its own, with all its forms: `get`, `put`, `remove`, `keep` and
-//! `compute`; `begin` and `end` have a compute in two calls, and `made` what an author makes of its
-//! answer. `store` has the store itself.
+//! `compute`; `along` has look-ups and computes along a path that is not the tree's; `begin` and
+//! `end` have a compute in two calls, and `made` what an author makes of its answer. `store` has the
+//! store itself.
 //!
 //! `specs/Stores`, `specs/ContextCalls`, `specs/LaneCalls` and `specs/Computing` have the words of
 //! the contracts, `specs/Waiting` those of the waiting forms, and `specs/FoundOrMade` and

@@ -23,8 +23,10 @@ use Rattle.ext_store_core.specs.declared.claim.Unused.{Unused}
 use Rattle.ext_store_core.specs.declared.claim.Unused.TheVariants.{Found, FaultStands, Refused}
 use Rattle.ext_store_core.specs.ContextCalls.{ContextCells, cell_in, Puts, Removes, with_kept, result_at, put_acts, remove_acts}
 use Rattle.ext_store_core.specs.InnerLooking.{Looks, LooksAt}
-use Rattle.ext_store_core.specs.Claiming.{given_up_events, Meets, IsRefused, ClaimsFrom}
-use Rattle.ext_store_core.specs.Waiting.{IsDecided, IsDecidedLook, busy_refused, VainAttempts}
+use Rattle.ext_tree.specs.Trees.{IsPathOf}
+use Rattle.ext_store_core.specs.Claiming.{given_up_events, Meets, IsRefused, ClaimsFrom, ClaimsAlong, ClaimsMissing}
+use Rattle.ext_store_core.specs.Waiting.{Attempt, IsDecided, IsDecidedLook, busy_refused, ClaimsAfterWaits, ClaimsAlongAfterWaits, VainAttempts}
+use Rattle.ext_store_core.proofs.Missing.{missing_along}
 
 -- ---- a lane that made no event yet
 
@@ -167,10 +169,28 @@ unclaimed store context ancestors key a b (Refused refusal.Memory) m = absurd m
 unclaimed store context ancestors key a b (Refused refusal.Exhausted) m = inl m.0.calls
 
 -- these are all events of attempts in vain
-pub gave_up : (store : ContextCells) (context key attempts : ℕ) (a b : LaneView) → VainAttempts store context key attempts a b → GaveUp store context key a b
-gave_up store context key zero a b same = (0, subst (λ x. Calls store.cells.limits x b []) same (calls_none lane_of b))
-gave_up store context key (suc attempts) a b made =
+pub gave_up : (store : ContextCells) (context : ℕ) (ancestors : List ℕ) (key attempts : ℕ) (a b : LaneView) → VainAttempts (ClaimsFrom store context ancestors key) attempts a b → GaveUp store context key a b
+gave_up store context ancestors key zero a b same = (0, subst (λ x. Calls store.cells.limits x b []) same (calls_none lane_of b))
+gave_up store context ancestors key (suc attempts) a b made =
     let between = made.0 in
-    let last = made.2.refused in
-    gave_up_more store context key a between b (gave_up store context key attempts a between made.1)
-    (unclaimed store context last.0 key between b (Refused made.2.why) last.2)
+    gave_up_more store context key a between b (gave_up store context ancestors key attempts a between made.1)
+    (unclaimed store context ancestors key between b (Refused made.2.why) made.2.refused)
+
+-- ---- a path that is a context's in the tree
+
+-- attempts in vain, said in other words
+pub vain_in_words : (Claims Others : Attempt) → ((a b : LaneView) (r : Result ℕ Unused) → Claims a b r → Others a b r) → (attempts : ℕ) (a b : LaneView) → VainAttempts Claims attempts a b → VainAttempts Others attempts a b
+vain_in_words Claims Others says zero a b same = same
+vain_in_words Claims Others says (suc attempts) a b made = (
+  made.0,
+  vain_in_words Claims Others says attempts a made.0 made.1,
+  record { why = made.2.why; undecided = made.2.undecided; refused = says made.0 b (Err (Refused made.2.why)) made.2.refused },
+)
+
+pub missing_after_waits : (store : ContextCells) (context key : ℕ) (path : List ℕ) (a b : LaneView) (r : Result ℕ Unused) → IsPathOf store.tree context path → ClaimsAlongAfterWaits store path key a b r → ClaimsAfterWaits store context key a b r
+missing_after_waits store context key path a b r is w = record {
+  attempts = w.attempts;
+  between = w.between;
+  in_vain = vain_in_words (ClaimsAlong store path key) (ClaimsMissing store context key) (λ x y s. missing_along store context key path x y s is) w.attempts a w.between w.in_vain;
+  then_is = missing_along store context key path w.between b r is w.then_is;
+}

@@ -1,7 +1,7 @@
 -- What waiting forms promise beyond their plain forms: what they never answer, and what a waiting claim may do before
 -- it answers. JUnit waits for a running factory, too. That a compute claims its cell and gives the claim up before it
 -- waits is not from JUnit.
-use Rattle.std.specs.Prelude.{ℕ, zero, suc, ◌≡◌, Bool, not, Result, Ok, Err}
+use Rattle.std.specs.Prelude.{ℕ, zero, suc, ◌≡◌, Bool, not, List, Result, Ok, Err}
 use Rattle.ext_model.specs.declared.look.Look.{Look}
 use Rattle.ext_model.specs.declared.look.Look.TheVariants as look
 use Rattle.ext_model.specs.CallActs.{LaneView}
@@ -10,7 +10,7 @@ use Rattle.ext_store_core.specs.declared.fault.Refusal.TheVariants as refusal
 use Rattle.ext_store_core.specs.declared.claim.Unused.{Unused}
 use Rattle.ext_store_core.specs.declared.claim.Unused.TheVariants as unused
 use Rattle.ext_store_core.specs.ContextCalls.{ContextCells}
-use Rattle.ext_store_core.specs.Claiming.{ClaimsMissing}
+use Rattle.ext_store_core.specs.Claiming.{ClaimsAlong, ClaimsMissing}
 
 -- ---- what a waiting form never answers
 
@@ -62,28 +62,37 @@ announced_after refusal.Exhausted announced = announced
 
 -- ---- what may come before the answer of a claim that waits
 
+-- What one attempt says of the lane before and after it, and of its result.
+abbrev pub Attempt : Type 1
+Attempt = LaneView → LaneView → Result ℕ Unused → Type 0
+
 -- An attempt in vain: the claim was refused for a running factory, or because other lanes were in the way, and the lane
 -- gave up what it had claimed.
-pub record VainAttempt (store : ContextCells) (context key : ℕ) (before after : LaneView) : Type 0 where
+pub record VainAttempt (Claims : Attempt) (before after : LaneView) : Type 0 where
   pub why : Refusal
   pub undecided : IsDecided why → ⊥
-  pub refused : ClaimsMissing store context key before after (Err (unused.Refused why))
+  pub refused : Claims before after (Err (unused.Refused why))
 
 -- `attempts` of these, one directly after the other, and nothing else.
-abbrev pub VainAttempts : ContextCells → ℕ → ℕ → ℕ → LaneView → LaneView → Type 0
-VainAttempts store context key zero before after = after ≡ before
-VainAttempts store context key (suc attempts) before after = (between : LaneView)
-    × VainAttempts store context key attempts before between × VainAttempt store context key between after
+abbrev pub VainAttempts : Attempt → ℕ → LaneView → LaneView → Type 0
+VainAttempts Claims zero before after = after ≡ before
+VainAttempts Claims (suc attempts) before after = (between : LaneView)
+    × VainAttempts Claims attempts before between × VainAttempt Claims between after
 
 -- The call first made some attempts in vain, and `Then` is said of the lane as it was after them.
-pub record Waits (store : ContextCells) (context key : ℕ) (before : LaneView) (Then : LaneView → Type 0) : Type 0 where
+pub record Waits (Claims : Attempt) (before : LaneView) (Then : LaneView → Type 0) : Type 0 where
   pub attempts : ℕ
   pub between : LaneView
-  pub in_vain : VainAttempts store context key attempts before between
+  pub in_vain : VainAttempts Claims attempts before between
   pub then_is : Then between
 
 -- Before its last attempt the lane may have claimed the context's cell and given it up several times. The last attempt
 -- is the claim of a missing value.
 abbrev pub ClaimsAfterWaits : ContextCells → ℕ → ℕ → LaneView → LaneView → Result ℕ Unused → Type 0
 ClaimsAfterWaits store context key before after result =
-    Waits store context key before (λ between. ClaimsMissing store context key between after result)
+    Waits (ClaimsMissing store context key) before (λ between. ClaimsMissing store context key between after result)
+
+-- The same along a path.
+abbrev pub ClaimsAlongAfterWaits : ContextCells → List ℕ → ℕ → LaneView → LaneView → Result ℕ Unused → Type 0
+ClaimsAlongAfterWaits store path key before after result =
+    Waits (ClaimsAlong store path key) before (λ between. ClaimsAlong store path key between after result)

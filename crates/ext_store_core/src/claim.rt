@@ -66,7 +66,27 @@ impl StoreCore {
         ensures claim { ClaimsMissing self.now context key lane.old.view lane.new.view result }
         ensures steps { MatchResult result (λ _. steps_of lane.old lane.new ≤ 33 * (self.now.tries + 1)) (λ _. steps_of lane.old lane.new ≤ 33 * (self.now.tries + 1) + 2) }
     {
-        let claimed = self.claim_quietly(lane, context, key);
+        let path = self.tree.path(context);
+        self.claim_along(lane, path.as_slice(), key)
+    }
+
+    /// Claims as `claim` does, for the first context of the path, with the others as its ancestors.
+    /// The path has at least one context, and `is_trail` tests the rest. Refused as `claim` is.
+    pub fn claim_along(
+        &self,
+        lane: &mut CellLane,
+        path: &[ContextNo],
+        key: KeyNo,
+    ) -> Result<Claim, Unused>
+        requires lane { lane.old.cells ≡ self.now.cells }
+        requires some { 1 ≤ length path.now }
+        requires path { IsTrail self.now path.now }
+        requires key { key < length self.now.keys }
+        ensures lane { lane.new.cells ≡ lane.old.cells }
+        ensures claim { ClaimsAlong self.now path.now key lane.old.view lane.new.view result }
+        ensures steps { MatchResult result (λ _. steps_of lane.old lane.new ≤ 33 * (self.now.tries + 1)) (λ _. steps_of lane.old lane.new ≤ 33 * (self.now.tries + 1) + 2) }
+    {
+        let claimed = self.claim_along_quietly(lane, path, key);
         if claimed.is_err() {
             self.wake();
         }

@@ -17,7 +17,8 @@ use thiserror::Error;
 pub enum Refusal {
     /// A lane computes a value for this context, which decides the answer.
     Busy(ContextNo),
-    /// This context, which decides the answer, is closed.
+    /// The place in this context, which decides the answer, is sealed: the context is closed or is
+    /// being closed.
     Closed(ContextNo),
     /// Other lanes were in the way: they made at least as many events as a call has tries. For a
     /// put, a remove, a seal and a claim these are events on its own cell; for a look-up, on the
@@ -26,7 +27,7 @@ pub enum Refusal {
     /// There were too many events in this context under this key: more than 2^40 - 3 for a put or a
     /// remove, and more than 2^40 - 4 for the claim of a compute, which leaves one for its end.
     Exhausted,
-    /// The key has no number and never gets one: all 64 places hold other keys.
+    /// The key has no number and never gets one: all places hold other keys.
     DirectoryFull,
     /// A place neither took a copy of the key nor showed one. It is proved of `KeyPlaces::number`
     /// that this does not happen.

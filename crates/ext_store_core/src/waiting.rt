@@ -1,12 +1,12 @@
 //! The waiting forms of the calls. What met a running factory is tried again once a claim has
 //! ended, and what other lanes were in the way of at once.
-ghost use Rattle.std.specs.Prelude.{◌≡◌, ◌≢◌, ◌<◌, Err, IfErr, IfOk, IsFalse, Ok, length};
+ghost use Rattle.std.specs.Prelude.{◌≡◌, ◌≢◌, ◌<◌, ◌≤◌, Err, IfErr, IfOk, IsFalse, Ok, length};
 ghost use Rattle.ext_model.specs.CallActs.{MayStoreNow};
 ghost use Rattle.ext_cells.specs.declared.refusal.CellRefusal.TheVariants as cell_refusal;
 ghost use Rattle.ext_cells.specs.CellCalls as cells;
-ghost use Rattle.ext_store_core.specs.ContextCalls.{Gets, IsFaultlessLook, IsTrail, Puts, Removes, with_kept};
+ghost use Rattle.ext_store_core.specs.ContextCalls.{Gets, GetsAlong, IsFaultlessLook, IsTrail, Puts, Removes, with_kept};
 ghost use Rattle.ext_store_core.specs.InnerLooking.{LooksAt};
-ghost use Rattle.ext_store_core.specs.Waiting.{announced_after, ClaimsAfterWaits, IsDecided, IsDecidedLook, IsDecidedUnused};
+ghost use Rattle.ext_store_core.specs.Waiting.{announced_after, ClaimsAfterWaits, ClaimsAlongAfterWaits, IsDecided, IsDecidedLook, IsDecidedUnused};
 
 use crate::found::unless_busy;
 use crate::{Refusal, StoreCore, Unused};
@@ -48,7 +48,29 @@ impl StoreCore {
         ensures decided { IsDecidedLook result }
     {
         let path = self.tree.path(context);
-        let looked = self.wait_along(rt, lane, path.as_slice(), key);
+        self.get_along_wait(rt, lane, path.as_slice(), key)
+    }
+
+    /// Looks for the key in the contexts of the path as `get_along` does, and looks again as
+    /// `get_wait` does. The path has at least one context, and `is_trail` tests the rest. Never
+    /// refused. It may wait.
+    pub fn get_along_wait<R: Wait>(
+        &self,
+        rt: &R,
+        lane: &mut CellLane,
+        path: &[ContextNo],
+        key: KeyNo,
+    ) -> Look
+        requires lane { lane.old.cells ≡ self.now.cells }
+        requires some { 1 ≤ length path.now }
+        requires path { IsTrail self.now path.now }
+        requires key { key < length self.now.keys }
+        ensures lane { lane.new.cells ≡ lane.old.cells }
+        ensures answer { GetsAlong self.now path.now key lane.old lane.new (Ok result) }
+        ensures no_faults { IsFalse self.now.cells.limits.keep_faults → IsFaultlessLook result }
+        ensures decided { IsDecidedLook result }
+    {
+        let looked = self.wait_along(rt, lane, path, key);
         lane.recall();
         looked
     }
@@ -170,9 +192,31 @@ impl StoreCore {
         ensures claim { ClaimsAfterWaits self.now context key lane.old.view lane.new.view result }
         ensures decided { IfErr result IsDecidedUnused }
     {
+        let path = self.tree.path(context);
+        self.claim_along_wait(rt, lane, path.as_slice(), key)
+    }
+
+    /// Claims as `claim_wait` does, for the first context of the path, with the others as its
+    /// ancestors. The path has at least one context, and `is_trail` tests the rest. Refused as
+    /// `claim_wait` is. It may wait.
+    pub fn claim_along_wait<R: Wait>(
+        &self,
+        rt: &R,
+        lane: &mut CellLane,
+        path: &[ContextNo],
+        key: KeyNo,
+    ) -> Result<Claim, Unused>
+        requires lane { lane.old.cells ≡ self.now.cells }
+        requires some { 1 ≤ length path.now }
+        requires path { IsTrail self.now path.now }
+        requires key { key < length self.now.keys }
+        ensures lane { lane.new.cells ≡ lane.old.cells }
+        ensures claim { ClaimsAlongAfterWaits self.now path.now key lane.old.view lane.new.view result }
+        ensures decided { IfErr result IsDecidedUnused }
+    {
         let mut waiting = self.waiters.begin();
         for _ in rt.forever() {
-            let met = match self.claim(lane, context, key) {
+            let met = match self.claim_along(lane, path, key) {
                 Ok(claim) => return Ok(claim),
                 Err(Unused::Found { at, number }) => return Err(Unused::Found { at, number }),
                 Err(Unused::FaultStands { at, number }) => {

@@ -1,11 +1,14 @@
-//! Tests of the store's waiting forms: alone, beside a factory that is held, beside a claim that is
-//! given up, by keys that come late, and of sixteen lanes at once. And tests of resource locks.
+//! Tests of the store's waiting forms: alone, beside a factory that is held, along a path, beside a
+//! claim that is given up, by keys that come late, and of sixteen lanes at once. And tests of
+//! resource locks.
 //!
 //! `scripts/soak waits` runs those that wait over many more rounds.
 #![tactic(auto)]
 
 #[cfg(test)]
 mod alone;
+#[cfg(test)]
+mod along;
 #[cfg(test)]
 mod beside;
 #[cfg(test)]

@@ -1,23 +1,13 @@
-use Rattle.std.proofs.Common.{rules, ◌≤◌, ap, subst, arith, length}
-use Rattle.std.specs.Prelude.{Ok}
-use Rattle.ext_history.specs.Histories.{seen_by}
-use Rattle.ext_model.specs.History.{IsLegal}
-use Rattle.ext_cells.specs.Lanes.{CellsId}
+use Rattle.std.proofs.Common.{rules, ◌≤◌, ap, arith, length}
 use Rattle.ext_tree.specs.Trees.{IsPathOf}
 use Rattle.ext_store_core.specs.ContextCalls.{Gets}
-use Rattle.ext_store_core.proofs.LookUps.{looks_answer}
-use Rattle.ext_store_core.proofs.Faultless.{look_faultless}
 use Rattle.ext_store_core.proofs.store_core.StoreCore.get_wait.Goals as goal
 
 pub returns-clause-answer : goal.returns-clause-answer
 unfolding Gets
 returns-clause-answer g c =
-    let some : 1 ≤ length c.as_slice.result.now = (let l = ap length c.as_slice.ensures.contexts in let s = c.path-path.ensures.some in omega (arith, l, s)) in
     let path : IsPathOf c.args.self.now.tree c.args.context c.as_slice.result.now = search rules in
-    (c.as_slice.result.now, path, record { looked = looks_answer c.args.self.now c.as_slice.result.now c.args.key c.args.lane.now c.wait_along-looked.new.lane (Ok c.wait_along-looked.result) some c.wait_along-looked.ensures.look; in_the_way = λ e. absurd (cc e) })
+    (c.as_slice.result.now, path, c.get_along_wait.ensures.answer)
 
-pub returns-clause-lane : goal.returns-clause-lane
-returns-clause-lane g c = c.wait_along-looked.ensures.lane
-
-pub returns-clause-no_faults : goal.returns-clause-no_faults
-returns-clause-no_faults g c off = look_faultless c.args.self.now c.as_slice.result.now c.args.key c.args.lane.now c.wait_along-looked.new.lane c.requires.lane off (subst (λ (z : CellsId). IsLegal z.limits (seen_by c.wait_along-looked.new.lane.view)) c.wait_along-looked.ensures.lane c.recall.ensures.legal) c.wait_along-looked.result c.wait_along-looked.ensures.look
+pub get_along_wait-requires-clause-some : goal.get_along_wait-requires-clause-some
+get_along_wait-requires-clause-some g c = let l = ap length c.as_slice.ensures.contexts in let s = c.path-path.ensures.some in omega (arith, l, s)
