@@ -12,7 +12,7 @@ pub record CellsId : Type 0 where
   pub table : TableId
   pub limits : Limits
 
--- The cells, and how many exchanges a call makes at most.
+-- The cells, and how many exchanges of a cell's word, or of the count of numbers, a call makes at most.
 pub record CellsView : Type 0 where
   pub id : CellsId
   pub tries : ℕ

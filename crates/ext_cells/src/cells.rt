@@ -31,9 +31,13 @@ use std::marker::{Brand, Model};
 /// between the threads that own its lanes.
 ///
 /// A lane is used only with the cells that it was opened with. A refused call makes no event. A
-/// change first loads its cell's word, and then makes at most `tries` exchanges. If one fails, it
-/// decides anew by the word that it found, also after the last: so `Contended` comes after every
-/// other refusal, and means at least `tries` events on that cell.
+/// change first loads its cell's word, and then makes at most `tries` exchanges of it. If one
+/// fails, it decides anew by the word that it found, also after the last: so `Contended` comes
+/// after every other refusal, and means at least `tries` events on that cell.
+///
+/// A cell that has no mark yet gets it before its first event, by at most 32 exchanges of its row's
+/// word: each that fails, but for the last, found a further cell of the row marked. The clauses
+/// `steps` count neither these nor the load of a row's word before that of a cell's.
 #[derive(Drop)]
 pub struct Cells {
     table: CellSteps,
@@ -136,7 +140,8 @@ impl Cells {
         let _tries = self.tries;
     }
 
-    /// The greatest number of exchanges of a call, from 1 to 64.
+    /// The greatest number of exchanges that a call makes of a cell's word, or of the count of
+    /// numbers: from 1 to 64.
     pub fn tries(&self) -> u32
         ensures tries { result ≡ self.now.tries }
         ensures within { (1 ≤ self.now.tries) × (self.now.tries ≤ 64) }

@@ -7,9 +7,9 @@ use Rattle.ext_cells.specs.Lanes.{Lane}
 use Rattle.ext_closing.specs.declared.fault.CloseFault.{CloseFault}
 use Rattle.ext_closing.specs.declared.fault.CloseFault.TheVariants.{Busy, Contended, Unjoined}
 use Rattle.ext_closing.specs.Lanes.{first_lane, with_first, OnlyFirstSteps}
-use Rattle.ext_closing.specs.Sealing.{numbers_left}
+use Rattle.ext_closing.specs.Sealing.{SealsInOrder, numbers_left}
 use Rattle.ext_closing.specs.Closing.{NamesUnjoined}
-use Rattle.ext_closing.specs.InnerSteps.{BeginsAt, Begun, IsOfKey, SealedSoFar, SealingEnds}
+use Rattle.ext_closing.specs.InnerSteps.{BeginsAt, Begun, BlockBegun, IsOfKey, SealedSoFar, SealingEnds}
 use Rattle.ext_closing.specs.declared.seals.Marked.{Marked}
 use Rattle.std.specs.Prelude.{◌+◌, ◌*◌}
 use Rattle.ext_store.specs.LaneCalls.{steps_of}
@@ -80,6 +80,18 @@ module _ {V : Type 0} (lanes new : List (StoreLane V)) (after d : StoreLane V) (
     pub left_from : (numbers all : List ℕ) → all ≡ numbers → ((before : Lane) → SealedSoFar store context keys before (get_or lanes 0 d).cells [] → numbers ≡ numbers_left store context after.cells) → all ≡ numbers_left store context (first_lane store new)
     left_from numbers all same left = same ∙ first_left store context numbers (left begun so_far_first)
 
+  -- and so is the order
+  pub first_order : (store : StoreView) (context : ℕ) → SealsInOrder store context (get_or lanes 0 d).cells after.cells → SealsInOrder store context (first_lane store lanes) (first_lane store new)
+  first_order store context ordered =
+      subst (λ (lane : Lane). SealsInOrder store context lane (first_lane store new)) (sym (first_is store lanes d some))
+      (subst (λ (lane : Lane). SealsInOrder store context (get_or lanes 0 d).cells lane) (sym (first_after store)) ordered)
+
+  pub order_from : (store : StoreView) (context block marks : ℕ) (begun : Lane) → BlockBegun store context block marks begun (first_lane store lanes)
+      → ((before : Lane) → BlockBegun store context block marks before (get_or lanes 0 d).cells → SealsInOrder store context before after.cells) → SealsInOrder store context begun (first_lane store new)
+  order_from store context block marks begun is ordered =
+      subst (λ (lane : Lane). SealsInOrder store context begun lane) (sym (first_after store))
+      (ordered begun (subst (λ (lane : Lane). BlockBegun store context block marks begun lane) (first_is store lanes d some) is))
+
   -- and as many steps
   pub first_steps : (store : StoreView) (n : ℕ) → length after.cells.view.fronts ≤ length (get_or lanes 0 d).cells.view.fronts + n → steps_of (first_lane store lanes) (first_lane store new) ≤ n
   first_steps store n within =
@@ -92,6 +104,9 @@ module _ {V : Type 0} (lanes new : List (StoreLane V)) (after d : StoreLane V) (
     so_far =
         subst (λ (lane : Lane). SealedSoFar store context (marked.block * 32) lane (first_lane store new) []) (sym (first_is store lanes d some))
         (subst (λ (lane : Lane). SealedSoFar store context (marked.block * 32) (get_or lanes 0 d).cells lane []) (sym (first_after store)) begins.so_far);
+    begun =
+        subst (λ (lane : Lane). BlockBegun store context marked.block marked.marks lane (first_lane store new)) (sym (first_is store lanes d some))
+        (subst (λ (lane : Lane). BlockBegun store context marked.block marked.marks (get_or lanes 0 d).cells lane) (sym (first_after store)) begins.begun);
     lanes = lanes_are;
     kept = kept;
   }

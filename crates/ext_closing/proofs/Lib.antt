@@ -4,6 +4,7 @@ pub mod Joining
 pub mod Calling
 pub mod Sealing
 pub mod Counting
+pub mod Ordering
 pub mod InHand
 pub mod Again
 pub mod Logging

@@ -32,11 +32,12 @@ use Rattle.ext_cells.specs.Lanes.{CellsId, Lane}
 use Rattle.ext_cells.specs.CellCalls.{IsUnmarked}
 use Rattle.ext_store.specs.Stores.{StoreView, StoreLane, IsLaneOf, StillKeeps, cell_in}
 use Rattle.ext_store.specs.ContextCalls.{SealsCell, SealsUnused, IsBusyThere, seals_of}
-use Rattle.ext_closing.specs.Sealing.{numbers_left, slots_seen, AreSealed, IsUnused, SealOvertaken, MakesSeals, StopsAt}
+use Rattle.ext_closing.specs.Sealing.{numbers_left, slots_seen, AreSealed, IsUnused, SealOvertaken, SealsMarked, MakesSeals, StopsAt}
 use Rattle.ext_closing.specs.declared.fault.CloseFault.{CloseFault}
 use Rattle.ext_closing.specs.declared.fault.CloseFault.TheVariants.{Busy, Contended, Unjoined}
-use Rattle.ext_closing.specs.InnerSteps.{AreUnused, SealsNext, SealsOn, SealedSoFar, SealingEnds}
+use Rattle.ext_closing.specs.InnerSteps.{AreUnused, SealsNext, SealsOn, SealsRest, SealedSoFar, SealingEnds}
 use Rattle.ext_closing.proofs.Counting.{one_more_within}
+use Rattle.ext_closing.proofs.Ordering.{alone_of, place_passed, place_sealed}
 
 -- ---- one seal
 
@@ -330,6 +331,9 @@ pub record BlockSoFar {V : Type 0} (store : StoreView) (context block marks left
   pub bits : (i : ℕ) → bit_at left i ≡ bit_at marks (place + i)
   pub few : length numbers ≤ block * 32 + place
   pub steps : length lane.cells.view.fronts ≤ length first.cells.view.fronts + place * (store.tries + 1)
+  pub alone : ℕ
+  pub in_order : SealsMarked store context block marks place alone first.cells lane.cells
+  pub costs : length lane.cells.view.fronts ≤ length first.cells.view.fronts + alone * (store.tries + 1)
   pub known : lane.known ≡ first.known
   pub faults : lane.faults ≡ first.faults
   pub keys : lane.keys ≡ first.keys
@@ -350,6 +354,9 @@ module _ {V : Type 0} (store : StoreView) (context block marks : ℕ) (below : b
         bits = λ i. ap (bit_at marks) (let e : i ≡ 0 + i = omega arith in e);
         few = omega (arith, few);
         steps = omega arith;
+        alone = 0;
+        in_order = (refl, refl);
+        costs = omega arith;
         known = refl;
         faults = refl;
         keys = refl;
@@ -367,14 +374,17 @@ module _ {V : Type 0} (store : StoreView) (context block marks : ℕ) (below : b
     pub key_within : block * 32 + place < length store.id.keys
     key_within = omega (arith, below, less)
 
+    bit_is : left % 2 ≡ bit_at marks place
+    bit_is =
+        let low = bit_at_lowest left in
+        let lowest : bit_at left 0 ≡ bit_at marks place = h.bits 0 ∙ ap (bit_at marks) (let e : place + 0 ≡ place = omega arith in e) in
+        omega (arith, low, lowest)
+
     -- a place without a mark
     pub block_passed : left % 2 ≢ 1 → BlockSoFar store context block marks (left / 2) (place + 1) first lane old numbers
     block_passed even =
-        let low = bit_at_lowest left in
-        let lowest = h.bits 0 in
-        let at : place + 0 ≡ place = omega arith in
-        let zero_is : bit_at marks (place + 0) ≡ 0 = omega (arith, low, lowest, even) in
-        let none : IsUnmarked block marks (block * 32 + place) = unmarked_at block marks place less (subst (λ k. bit_at marks k ≡ 0) at zero_is) in
+        let zero_is : bit_at marks place ≡ 0 = omega (arith, bit_is, even) in
+        let none : IsUnmarked block marks (block * 32 + place) = unmarked_at block marks place less zero_is in
         record {
           so_far = λ before so_far. subst (λ n. SealedSoFar store context n before lane.cells numbers) up
               (one_unused store context before lane.cells numbers (block * 32 + place) (h.unused (block * 32 + place) none) (h.so_far before so_far));
@@ -382,6 +392,9 @@ module _ {V : Type 0} (store : StoreView) (context block marks : ℕ) (below : b
           bits = next_bits;
           few = let few = h.few in omega (arith, few);
           steps = one_more_within _ _ _ place (store.tries + 1) h.steps (omega arith);
+          alone = h.alone;
+          in_order = place_passed store context block marks place h.alone first.cells lane.cells h.in_order zero_is;
+          costs = h.costs;
           known = h.known;
           faults = h.faults;
           keys = h.keys;
@@ -396,11 +409,28 @@ module _ {V : Type 0} (store : StoreView) (context block marks : ℕ) (below : b
       legal_now : IsLegal lane.cells.cells.limits (seen_by next.cells.view)
       legal_now = legal_as lane.cells next.cells same legal
 
-      -- and a place whose key was sealed
-      pub block_sealed : (kept : Option ℕ) (more : List ℕ) → SealsNext store context (block * 32 + place) lane.cells next.cells (Ok kept) → more ≡ put_in_kept kept numbers → length more ≤ length numbers + 1
+      -- a place that has one, whose key was sealed or refused
+      one_alone : left % 2 ≡ 1 → (r : Result (Option ℕ) CloseFault) → SealsNext store context (block * 32 + place) lane.cells next.cells r
+          → length next.cells.view.fronts ≤ length lane.cells.view.fronts + (store.tries + 1) → SealsMarked store context block marks (place + 1) (h.alone + 1) first.cells next.cells
+      one_alone odd r seal steps =
+          place_sealed store context block marks place h.alone first.cells lane.cells h.in_order (let e : bit_at marks place ≡ 1 = omega (arith, bit_is, odd) in e) next.cells
+          (alone_of store context (block * 32 + place) lane.cells next.cells r seal steps)
+
+      pub rest_refused : left % 2 ≡ 1 → (r : Result (Option ℕ) CloseFault) → SealsNext store context (block * 32 + place) lane.cells next.cells r
+          → length next.cells.view.fronts ≤ length lane.cells.view.fronts + (store.tries + 1) → SealsRest store context block marks first.cells next.cells
+      rest_refused odd r seal steps = record {
+        places = place + 1;
+        few = omega (arith, less);
+        alone = h.alone + 1;
+        marked = one_alone odd r seal steps;
+        steps = one_more_within _ _ _ h.alone (store.tries + 1) h.costs steps;
+      }
+
+      -- sealed
+      pub block_sealed : left % 2 ≡ 1 → (kept : Option ℕ) (more : List ℕ) → SealsNext store context (block * 32 + place) lane.cells next.cells (Ok kept) → more ≡ put_in_kept kept numbers → length more ≤ length numbers + 1
           → length next.cells.view.fronts ≤ length lane.cells.view.fronts + (store.tries + 1) → next.known ≡ lane.known → next.faults ≡ lane.faults → next.keys ≡ lane.keys → StillKeeps lane next
           → BlockSoFar store context block marks (left / 2) (place + 1) first next old more
-      block_sealed kept more seal is one steps known faults keys keeps =
+      block_sealed odd kept more seal is one steps known faults keys keeps =
           record {
             so_far = λ before so_far.
                 subst (λ (x : ℕ × List ℕ). SealedSoFar store context x.0 before next.cells x.1) (λ i. (up i, sym is i))
@@ -409,6 +439,9 @@ module _ {V : Type 0} (store : StoreView) (context block marks : ℕ) (below : b
             bits = next_bits;
             few = let few = h.few in omega (arith, few, one);
             steps = one_more_within _ _ _ place (store.tries + 1) h.steps steps;
+            alone = h.alone + 1;
+            in_order = one_alone odd (Ok kept) seal steps;
+            costs = one_more_within _ _ _ h.alone (store.tries + 1) h.costs steps;
             known = known ∙ h.known;
             faults = faults ∙ h.faults;
             keys = keys ∙ h.keys;
@@ -420,6 +453,10 @@ module _ {V : Type 0} (store : StoreView) (context block marks : ℕ) (below : b
       pub block_refused : (why : CloseFault) → SealsNext store context (block * 32 + place) lane.cells next.cells (Err why) → (before : Lane)
           → SealedSoFar store context (block * 32) before first.cells old → SealingEnds store context before next.cells (Some why)
       block_refused why refused before so_far = refused_end store context lane.cells next.cells same legal_now (block * 32 + place) key_within before numbers (h.so_far before so_far) why refused
+
+  pub rest_done : (left place : ℕ) → place ≤ 32 → (lane : StoreLane V) (numbers : List ℕ) → BlockSoFar store context block marks left place first lane old numbers
+      → SealsRest store context block marks first.cells lane.cells
+  rest_done left place less lane numbers h = record { places = place; few = less; alone = h.alone; marked = h.in_order; steps = h.costs }
 
   -- where no mark is left
   pub block_done : (left place : ℕ) → place ≤ 32 → left ≡ 0 → (lane : StoreLane V) (numbers : List ℕ) → BlockSoFar store context block marks left place first lane old numbers

@@ -7,6 +7,7 @@ ghost use Rattle.ext_store.specs.Stores.{IsCloserOf, IsLaneOf, StillKeeps};
 ghost use Rattle.ext_store.specs.LaneCalls.{steps_of};
 ghost use Rattle.ext_closing.specs.Lanes.{first_lane, IsGreatestUnjoined, IsJoined, IsKnown, IsUnknown};
 ghost use Rattle.ext_closing.specs.Closing.{ClosesNumbers, fault_in};
+ghost use Rattle.ext_closing.specs.Sealing.{SealsInOrder};
 ghost use Rattle.ext_closing.specs.Closes.{Closes};
 ghost use Rattle.ext_closing.specs.InnerSteps.{Begun, IsMarked};
 
@@ -53,6 +54,9 @@ pub fn close<V: StoreValue + Drop, A: CloseAction<V>>(
     // What the close did, and when it is refused: each as a field.
     ensures happened { Closes V.is_closeable A.close_gives store.now closer lanes.old action.old result lanes.new action.new }
 
+    // Block by block: one step, and then, in order, a seal for each key that the step's answer marks.
+    ensures in_order { SealsInOrder store.now closer.context (first_lane store.now lanes.old) (first_lane store.now lanes.new) }
+
     // It waits for no factory: a step for each block of the places, and for each place a load, and
     // at most as many exchanges as a call has tries.
     ensures steps { steps_of (first_lane store.now lanes.old) (first_lane store.now lanes.new) ≤ length store.now.id.keys * (store.now.tries + 1) + length store.now.id.keys / 32 }
@@ -91,6 +95,7 @@ fn close_from<V: StoreValue + Drop, A: CloseAction<V>, const ROOM: usize>(
     requires closer { IsCloserOf store.now closer }
     requires marked { IsMarked store.now closer.context (first_lane store.now lanes.old) marked }
     ensures happened { (before : _) → Begun store.now closer.context before lanes.old marked → Closes V.is_closeable A.close_gives store.now closer before action.old result lanes.new action.new }
+    ensures in_order { (before : _) → Begun store.now closer.context before lanes.old marked → SealsInOrder store.now closer.context (first_lane store.now before) (first_lane store.now lanes.new) }
     ensures steps { steps_of (first_lane store.now lanes.old) (first_lane store.now lanes.new) ≤ length store.now.id.keys * (store.now.tries + 1) + (length store.now.id.keys / 32 - (marked.block + 1)) }
     ensures handed_back { IfErr result (λ e. e.0 ≡ closer) }
     ensures own_lanes { All (IsLaneOf store.now.id) lanes.new }

@@ -4,8 +4,8 @@ ghost use Rattle.std.specs.Prelude.{◌≡◌, ◌≤◌, ◌<◌, ◌+◌, ◌-
 ghost use Rattle.ext_history.specs.Histories.{seen_by};
 ghost use Rattle.ext_model.specs.History.{IsLegal};
 ghost use Rattle.ext_store.specs.Stores.{IsCloserOf, IsLaneOf, StillKeeps};
-ghost use Rattle.ext_closing.specs.Sealing.{fault_of, numbers_left};
-ghost use Rattle.ext_closing.specs.InnerSteps.{BeginsAt, EndsEmpty, IsMarked, IsOfKey, SealedSoFar, SealingEnds, SealsNext, SealsOn};
+ghost use Rattle.ext_closing.specs.Sealing.{SealsInOrder, fault_of, numbers_left};
+ghost use Rattle.ext_closing.specs.InnerSteps.{BeginsAt, BlockBegun, BlocksDone, EndsEmpty, IsMarked, IsOfKey, SealedSoFar, SealingEnds, SealsNext, SealsOn, SealsRest};
 
 use crate::CloseFault;
 use ext_model::{FallingNumbers, KeyNo};
@@ -63,6 +63,7 @@ pub(crate) fn seal_from<V, const ROOM: usize>(
     requires none { numbers.old ≡ [] }
     ensures ends { (before : _) → SealedSoFar store.now closer.now.context (marked.block * 32) before lane.old.cells [] → SealingEnds store.now closer.now.context before lane.new.cells (fault_of result) }
     ensures numbers { IfOk result (λ _. (before : _) → SealedSoFar store.now closer.now.context (marked.block * 32) before lane.old.cells [] → numbers.new ≡ numbers_left store.now closer.now.context lane.new.cells) }
+    ensures in_order { (before : _) → BlockBegun store.now closer.now.context marked.block marked.marks before lane.old.cells → SealsInOrder store.now closer.now.context before lane.new.cells }
     ensures refusal { IfErr result IsOfKey }
     ensures steps { length lane.new.cells.view.fronts ≤ length lane.old.cells.view.fronts + (length store.now.id.keys * (store.now.tries + 1) + (length store.now.id.keys / 32 - (marked.block + 1))) }
     ensures known { lane.new.known ≡ lane.old.known }
@@ -99,6 +100,7 @@ fn seal_block<V, const ROOM: usize>(
     ensures sealed { IfOk result (λ _. SealsOn store.now closer.now.context (block * 32) (block * 32 + 32) lane.old.cells lane.new.cells numbers.old numbers.new) }
     ensures stops { IfErr result (λ why. (before : _) → SealedSoFar store.now closer.now.context (block * 32) before lane.old.cells numbers.old → SealingEnds store.now closer.now.context before lane.new.cells (Some why)) }
     ensures few { IfOk result (λ _. length numbers.new ≤ block * 32 + 32) }
+    ensures in_order { (before : _) → BlocksDone store.now closer.now.context block before lane.old.cells → BlocksDone store.now closer.now.context (block + 1) before lane.new.cells }
     ensures refusal { IfErr result IsOfKey }
     ensures steps { length lane.new.cells.view.fronts ≤ length lane.old.cells.view.fronts + (32 * (store.now.tries + 1) + 1) }
     ensures known { lane.new.known ≡ lane.old.known }
@@ -129,6 +131,7 @@ fn seal_marked<V, const ROOM: usize>(
     ensures sealed { IfOk result (λ _. SealsOn store.now closer.now.context (marked.block * 32) (marked.block * 32 + 32) lane.old.cells lane.new.cells numbers.old numbers.new) }
     ensures stops { IfErr result (λ why. (before : _) → SealedSoFar store.now closer.now.context (marked.block * 32) before lane.old.cells numbers.old → SealingEnds store.now closer.now.context before lane.new.cells (Some why)) }
     ensures few { IfOk result (λ _. length numbers.new ≤ marked.block * 32 + 32) }
+    ensures in_order { SealsRest store.now closer.now.context marked.block marked.marks lane.old.cells lane.new.cells }
     ensures refusal { IfErr result IsOfKey }
     ensures steps { length lane.new.cells.view.fronts ≤ length lane.old.cells.view.fronts + 32 * (store.now.tries + 1) }
     ensures known { lane.new.known ≡ lane.old.known }

@@ -7,8 +7,8 @@ use thiserror::Error;
 pub struct Limits {
     /// How many lanes there are, for as many threads: 1 to `size.lanes()`.
     pub lanes: usize,
-    /// The most exchanges of a change, and the most passes of a look-up after its first, before the
-    /// answer is `Contended`: 1 to 64.
+    /// The most exchanges of a change on its cell's word, and the most passes of a look-up after its
+    /// first, before the answer is `Contended`: 1 to 64.
     pub tries: u32,
     /// How many keys can have a number: 1 to 1,024, rounded up to a multiple of 32. Each context
     /// takes 8.25 bytes for each of them, and each lane five.

@@ -88,8 +88,9 @@ impl<V> Store<V> {
         let _tries = self.shared.tries();
     }
 
-    /// Answers the most exchanges of a change, and the most passes of a look-up after its first,
-    /// before the answer is `Contended`: 1 to 64. The clause `steps` of each call counts by it.
+    /// Answers the most exchanges of a change on its cell's word, and the most passes of a look-up
+    /// after its first, before the answer is `Contended`: 1 to 64. The clause `steps` of each call
+    /// counts by it.
     pub fn tries(&self) -> u32
         ensures tries { result ≡ self.now.tries }
         ensures within { (1 ≤ self.now.tries) × (self.now.tries ≤ 64) }

@@ -68,8 +68,8 @@ impl StoreCore {
         self.cells.keeps_faults()
     }
 
-    /// Answers the most exchanges of a change, and the most passes of a look-up after its first: 1
-    /// to 64.
+    /// Answers the most exchanges of a change on its cell's word, and the most passes of a look-up
+    /// after its first: 1 to 64.
     pub fn tries(&self) -> u32
         ensures tries { result ≡ self.now.tries }
         ensures within { (1 ≤ self.now.tries) × (self.now.tries ≤ 64) }

@@ -33,6 +33,16 @@ fn sealed_cells_keep_their_numbers(rt: HostRuntime) {
     rows(&rt, rt.alloc(), &all);
 }
 
+/// Tests `Cells::end_block`: each end of a block marks the cells that had an event, and no others.
+#[test]
+fn ends_mark_cells_that_had_an_event(rt: HostRuntime) {
+    let (cells, mut lane, _second) = open(&rt, rt.alloc(), 32, 1);
+    go(&rt, &cells, &mut lane, 3, Call::Puts(1, Ok(None)));
+    go(&rt, &cells, &mut lane, 4, Call::Removes(Ok(None)));
+    same(&rt, cells.end_block(&mut lane, 0), 8, "the marks at the first end");
+    same(&rt, cells.end_block(&mut lane, 0), 8, "the marks at the second end");
+}
+
 /// Tests `Cells::fill`, `Cells::fail` and `Cells::abandon`.
 #[test]
 fn abandoned_cells_are_empty(rt: HostRuntime) {

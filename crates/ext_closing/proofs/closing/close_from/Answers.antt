@@ -2,7 +2,7 @@ use Rattle.std.proofs.Common.{◌≡◌, refl, sym, subst}
 use Rattle.std.proofs.Math.ListN.{set}
 use Rattle.ext_closing.specs.Lanes.{IsGreatestUnjoined}
 use Rattle.ext_closing.specs.Closing.{ClosesNumbers}
-use Rattle.ext_closing.proofs.InHand.{ends_from, first_steps, keeps_on, left_from, names_none, only_first, only_first_on, still_kept, still_own}
+use Rattle.ext_closing.proofs.InHand.{ends_from, first_steps, keeps_on, left_from, names_none, only_first, only_first_on, order_from, still_kept, still_own}
 use Rattle.ext_closing.proofs.closing.close_from.Goals as goal
 
 -- ---- how many steps
@@ -18,6 +18,23 @@ returns-in-Some-clause-steps g c =
 pub returns-clause-steps : goal.returns-clause-steps
 returns-clause-steps g c =
     first_steps c.args.lanes.now _ c.seal_from.new.lane c.index-lanes-sealing.result c.close_all.ensures.unchanged c.requires.lanes c.args.store.now _ c.in_default.ensures.steps
+
+-- ---- in which order
+
+pub returns-in-Err-clause-in_order : goal.returns-in-Err-clause-in_order
+returns-in-Err-clause-in_order g c = λ before begun.
+    order_from c.args.lanes.now (set c.args.lanes.now 0 c.seal_from.new.lane) c.seal_from.new.lane c.index-lanes-sealing.result refl c.requires.lanes
+    c.args.store.now c.args.closer.context c.args.marked.block c.args.marked.marks _ begun.begun c.in-Err.ensures.in_order
+
+pub returns-in-Some-clause-in_order : goal.returns-in-Some-clause-in_order
+returns-in-Some-clause-in_order g c = λ before begun.
+    order_from c.args.lanes.now (set c.args.lanes.now 0 c.seal_from.new.lane) c.seal_from.new.lane c.index-lanes-sealing.result refl c.requires.lanes
+    c.args.store.now c.args.closer.context c.args.marked.block c.args.marked.marks _ begun.begun c.in_default.ensures.in_order
+
+pub returns-clause-in_order : goal.returns-clause-in_order
+returns-clause-in_order g c = λ before begun.
+    order_from c.args.lanes.now c.close_all.new.lanes c.seal_from.new.lane c.index-lanes-sealing.result c.close_all.ensures.unchanged c.requires.lanes
+    c.args.store.now c.args.closer.context c.args.marked.block c.args.marked.marks _ begun.begun c.in_default.ensures.in_order
 
 -- ---- a key is refused
 

@@ -1,11 +1,13 @@
 use Rattle.std.proofs.Common.{◌≡◌, ◌≤◌, ◌+◌, ◌*◌, ◌∙◌, [], length, refl, sym, arith}
 use Rattle.ext_closing.proofs.Counting.{fronts_within}
+use Rattle.ext_closing.proofs.Ordering.{in_order, none_done, none_marked, one_more_done}
 use Rattle.ext_closing.proofs.Sealing.{all_ended, all_left, legal_as, none_sealed, with_all_unused, with_unused}
 use Rattle.ext_closing.proofs.seals.first_marked.Goals as goal
 
 pub loop-block-init : goal.loop-block-init
 loop-block-init g c = record {
   so_far = none_sealed c.args.store.now c.args.closer.now.context c.args.lane.now.cells [] refl;
+  done = none_done c.args.store.now c.args.closer.now.context c.args.lane.now.cells;
   steps = omega arith;
   known = refl;
   faults = refl;
@@ -26,6 +28,9 @@ loop-block-preserved g c =
     record {
       so_far = with_all_unused c.args.store.now c.args.closer.now.context c.loop-block.lane.cells u.new.lane.cells same (legal_as c.loop-block.lane.cells u.new.lane.cells same c.recall.ensures.legal)
           c.loop-block.block u.result below (omega (arith, c.if-marks-ne0.false)) u.ensures.answer c.args.lane.now.cells [] inv.so_far;
+      done = one_more_done c.args.store.now c.args.closer.now.context c.loop-block.block u.result c.args.lane.now.cells u.new.lane.cells u.new.lane.cells
+          (record { between = c.loop-block.lane.cells; done = inv.done; unused = u.ensures.answer; step = u.ensures.steps })
+          (none_marked c.args.store.now c.args.closer.now.context c.loop-block.block u.result u.new.lane.cells);
       steps = omega (arith, steps, next);
       known = u.ensures.stays.known ∙ inv.known;
       faults = u.ensures.stays.faults ∙ inv.faults;
@@ -47,6 +52,7 @@ returns-then-marks-ne0-clause-marked g c =
       is_marked = record { within = below; unused = λ key none. u.ensures.answer.unused key none };
       so_far = with_unused c.args.store.now c.args.closer.now.context c.loop-block.lane.cells u.new.lane.cells same (legal_as c.loop-block.lane.cells u.new.lane.cells same c.recall.ensures.legal)
           c.loop-block.block u.result (c.loop-block.block * 32) below u.ensures.answer c.args.lane.now.cells [] inv.so_far;
+      begun = record { between = c.loop-block.lane.cells; done = inv.done; unused = u.ensures.answer; step = u.ensures.steps };
       steps = omega (arith, steps, next);
     }
 
@@ -58,5 +64,6 @@ returns-clause-all g c =
     record {
       ends = all_ended c.args.store.now c.args.closer.now.context (c.loop-block.block * 32) c.args.lane.now.cells c.loop-block.lane.cells [] all so_far;
       none_left = sym (all_left c.args.store.now c.args.closer.now.context (c.loop-block.block * 32) c.args.lane.now.cells c.loop-block.lane.cells [] all so_far);
+      in_order = in_order c.args.store.now c.args.closer.now.context c.loop-block.block c.args.lane.now.cells c.loop-block.lane.cells (omega (arith, all)) c.loop-block.invariant.done;
       steps = omega (arith, steps, c.loop-block.auto.block-end, c.key_count-keys.ensures.count);
     }

@@ -3,6 +3,7 @@ use Rattle.std.specs.Prelude.{Some}
 use Rattle.ext_cells.specs.Lanes.{Lane}
 use Rattle.ext_closing.specs.InnerSteps.{SealedSoFar, SealingEnds, SealsOn}
 use Rattle.ext_closing.proofs.Counting.{fronts_within}
+use Rattle.ext_closing.proofs.Ordering.{one_more_done}
 use Rattle.ext_closing.proofs.Sealing.{if_err, if_ok, legal_as, with_unused}
 use Rattle.ext_closing.proofs.seals.seal_block.Goals as goal
 
@@ -38,6 +39,12 @@ returns-clause-stops g c =
     (with_unused store context c.args.lane.now.cells u.new.lane.cells same (legal_as c.args.lane.now.cells u.new.lane.cells same c.recall.ensures.legal)
     c.args.block u.result from c.requires.block u.ensures.answer before old so_far))
     c.seal_marked.ensures.stops
+
+pub returns-clause-in_order : goal.returns-clause-in_order
+returns-clause-in_order g c = λ before done.
+    let u = c.seal_unused-left in
+    one_more_done c.args.store.now c.args.closer.now.context c.args.block u.result before u.new.lane.cells c.seal_marked.new.lane.cells
+    (record { between = c.args.lane.now.cells; done = done; unused = u.ensures.answer; step = u.ensures.steps }) c.seal_marked.ensures.in_order
 
 pub returns-clause-steps : goal.returns-clause-steps
 returns-clause-steps g c =

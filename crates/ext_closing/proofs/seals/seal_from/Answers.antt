@@ -1,6 +1,7 @@
 use Rattle.std.proofs.Common.{◌≡◌, ◌∙◌, ◌+◌, ◌*◌, List, length, sym, subst, arith, ℕ}
 use Rattle.ext_closing.specs.InnerSteps.{SealedSoFar}
 use Rattle.ext_closing.proofs.Sealing.{all_ended, all_left}
+use Rattle.ext_closing.proofs.Ordering.{in_order, one_more_done}
 use Rattle.ext_closing.proofs.Counting.{blocks_within, first_within, one_block_within}
 use Rattle.ext_closing.proofs.seals.seal_from.Goals as goal
 
@@ -13,6 +14,7 @@ loop-block-init g c =
       so_far = λ before so_far.
           subst (λ n. SealedSoFar c.args.store.now c.args.closer.now.context n before c.seal_marked.new.lane.cells c.seal_marked.new.numbers) up
           (first.sealed before (subst (λ (ns : List ℕ). SealedSoFar c.args.store.now c.args.closer.now.context (c.args.marked.block * 32) before c.args.lane.now.cells ns) (sym c.requires.none) so_far));
+      done = λ before begun. one_more_done c.args.store.now c.args.closer.now.context c.args.marked.block c.args.marked.marks before c.args.lane.now.cells c.seal_marked.new.lane.cells begun first.in_order;
       past = omega arith;
       within = omega (arith, c.requires.marked.within);
       few = omega (arith, few);
@@ -33,6 +35,7 @@ loop-block-preserved g c =
     let up : c.loop-block.block * 32 + 32 ≡ (c.loop-block.block + 1) * 32 = omega arith in
     record {
       so_far = λ before so_far. subst (λ n. SealedSoFar c.args.store.now c.args.closer.now.context n before c.seal_block.new.lane.cells c.seal_block.new.numbers) up (next.sealed before (inv.so_far before so_far));
+      done = λ before begun. next.in_order before (inv.done before begun);
       past = omega (arith, past);
       within = omega (arith, c.loop-block-test.true, c.key_count-keys.ensures.count);
       few = omega (arith, few);
@@ -51,6 +54,16 @@ returns-in-Err-clause-ends g c = λ before so_far.
     c.in-Err.ensures.stops before
     (subst (λ (ns : List ℕ). SealedSoFar c.args.store.now c.args.closer.now.context (c.args.marked.block * 32) before c.args.lane.now.cells ns) (sym c.requires.none) so_far)
 
+pub returns-in-Err-clause-in_order : goal.returns-in-Err-clause-in_order
+returns-in-Err-clause-in_order g c = λ before begun.
+    in_order c.args.store.now c.args.closer.now.context (c.args.marked.block + 1) before c.seal_marked.new.lane.cells (omega (arith, c.requires.marked.within))
+    (one_more_done c.args.store.now c.args.closer.now.context c.args.marked.block c.args.marked.marks before c.args.lane.now.cells c.seal_marked.new.lane.cells begun c.in-Err.ensures.in_order)
+
+pub returns-in-Err-seal_block-clause-in_order : goal.returns-in-Err-seal_block-clause-in_order
+returns-in-Err-seal_block-clause-in_order g c = λ before begun.
+    in_order c.args.store.now c.args.closer.now.context (c.loop-block.block + 1) before c.seal_block.new.lane.cells (omega (arith, c.loop-block-test.true, c.key_count-keys.ensures.count))
+    (c.in-Err-seal_block.ensures.in_order before (c.loop-block.invariant.done before begun))
+
 pub returns-in-Err-seal_block-clause-ends : goal.returns-in-Err-seal_block-clause-ends
 returns-in-Err-seal_block-clause-ends g c = λ before so_far. c.in-Err-seal_block.ensures.stops before (c.loop-block.invariant.so_far before so_far)
 
@@ -63,6 +76,12 @@ returns-in-Err-seal_block-clause-steps g c =
     (one_block_within _ _ _ c.args.marked.block c.loop-block.block (c.args.store.now.tries + 1) inv.past inv.steps c.in-Err-seal_block.ensures.steps)
 
 -- ---- all keys are sealed
+
+pub returns-clause-in_order : goal.returns-clause-in_order
+returns-clause-in_order g c = λ before begun.
+    let inv = c.loop-block.invariant in
+    let within = inv.within in
+    in_order c.args.store.now c.args.closer.now.context c.loop-block.block before c.loop-block.lane.cells (omega (arith, within)) (inv.done before begun)
 
 pub returns-clause-ends : goal.returns-clause-ends
 returns-clause-ends g c =
