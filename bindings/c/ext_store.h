@@ -40,7 +40,7 @@ enum {
     EXT_RUN = 3,            /* the place is claimed for this lane: run the factory */
     EXT_GIVEN_UP = 4,       /* the claim was given up: this store keeps no faults */
     EXT_BUSY = 5,           /* a factory runs for the context that decides: ask again when it has ended */
-    EXT_CLOSED = 6,         /* the context that decides is closed, for good */
+    EXT_CLOSED = 6,         /* this place is sealed, for good: the context that decides is closed or is being closed */
     EXT_CONTENDED = 7,      /* other lanes were in the way as often as the store has tries: ask again */
     EXT_EXHAUSTED = 8,      /* some 2^40 changes were made at this place: it takes no more */
     EXT_DIRECTORY_FULL = 9, /* other keys have all of the store's numbers for keys */

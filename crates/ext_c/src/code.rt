@@ -22,7 +22,7 @@ pub enum Code {
     GivenUp,
     /// A factory runs for the context that decides the answer.
     Busy,
-    /// The context that decides the answer is closed.
+    /// This place is sealed: the context that decides the answer is closed or is being closed.
     Closed,
     /// Other lanes were in the way: they made at least as many events as a call has tries.
     Contended,
