@@ -127,7 +127,7 @@ final class StoreTest extends OverContexts {
             List<Object> closed = new ArrayList<>();
             many.root().closeBy(it -> closed.add(it));
             equal(closed, List.of());
-            equal(thrown(StoreException.class, () -> store.get(places - 1)).getMessage(), "the context is closed: " + (places - 1));
+            equal(thrown(StoreException.class, () -> store.get(places - 1)).getMessage(), "the context is closed or is being closed: " + (places - 1));
         }
     }
 

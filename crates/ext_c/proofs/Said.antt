@@ -30,7 +30,7 @@ use Rattle.ext_c.specs.Closing.{Asks, CloseSays, IsRefusedFor, KeepsOthers, Lose
 use Rattle.ext_c.specs.Codes.{code_number}
 use Rattle.ext_c.specs.Faults.{IsFaultOf}
 use Rattle.ext_c.specs.Slots.{OnSlot}
-use Rattle.ext_c.specs.Answers.{ClaimSays, FailSays, LookSays, NotAsked, NotAskedAlong, PutSays, RemoveSays, TellsFault, TellsFound, TellsLook, TellsPut, TellsRemove, TellsStanding, TellsStood, TellsUnused, TellsValue, store_of}
+use Rattle.ext_c.specs.Answers.{ClaimSays, FailSays, LookSays, NotAsked, NotAskedAlong, PutSays, RemoveSays, SeesLegal, TellsFault, TellsFound, TellsLook, TellsPut, TellsRemove, TellsStanding, TellsStood, TellsUnused, TellsValue, store_of}
 
 -- ---- told of a lane that knows the same
 
@@ -205,5 +205,6 @@ module _ (context : ℕ) (before mid : Seat) (closer : CloserView) (was : List E
 
 -- what a call says of the seat that was taken from the slot and given back to it
 pub on_slot : (Keeps : Seat → Seat → Type 0) (Untold : Type 0) (Says : Seat → Seat → Code → Type 0) (before after : ExtSlot) (said : ℕ) (taken used now : Seat) (own : Code) → before.lane.seat ≡ Some taken
-    → after.state ≡ 1 → after.lane.seat ≡ Some now → Keeps used now → used ≡ taken → said ≡ code_number own → Says used now own → OnSlot Keeps Untold Says before after said
-on_slot Keeps Untold Says before after said taken used now own was lane is keeps e number says = OnSlot.on_lane used now own (was ∙ ap (λ (s : Seat). Some s) (sym e)) lane is keeps number says
+    → after.state ≡ 1 → after.lane.seat ≡ Some now → SeesLegal now → Keeps used now → used ≡ taken → said ≡ code_number own → Says used now own → OnSlot Keeps Untold Says before after said
+on_slot Keeps Untold Says before after said taken used now own was lane is legal keeps e number says =
+    OnSlot.on_lane used now own (was ∙ ap (λ (s : Seat). Some s) (sym e)) lane is legal keeps number says

@@ -4,11 +4,13 @@
 -- `LaneCalls` and `Computing` in ext_store.
 use Rattle.std.specs.Prelude.{ℕ, ◌≡◌, ◌<◌, ◌≤◌, ◌^◌, ◌⊎◌, IsFalse, IsTrue, true, false, List, [], length, Option, None, Some, Result, Ok, Err}
 use Rattle.std.specs.Arc.{arc_value}
+use Rattle.ext_history.specs.Histories.{seen_by}
+use Rattle.ext_model.specs.History.{IsLegal}
 use Rattle.ext_model.specs.declared.look.Fault.{Fault}
 use Rattle.ext_model.specs.declared.look.Look.{Look}
 use Rattle.ext_model.specs.declared.look.Look.TheVariants as look
 use Rattle.ext_model.specs.declared.event.Act.TheVariants as act_is
-use Rattle.ext_tree.specs.Keys.{KeyValue, IsKeyNumber}
+use Rattle.ext_tree.specs.Keys.{KeyValue, IsKeyNumber, PlacesOnly}
 use Rattle.ext_values.specs.Known.{Learns, known_at}
 use Rattle.ext_cells.specs.Lanes.{Lane}
 use Rattle.ext_cells.specs.CellCalls.{EndsClaim}
@@ -34,6 +36,10 @@ use Rattle.ext_c.specs.Texts.{AreTexts, IsNamed, NamesNoKey, texts_in}
 
 abbrev pub store_of : Seat → StoreView
 store_of seat = arc_value seat.store
+
+-- What the seat's lane has seen is a legal history of its store.
+abbrev pub SeesLegal : Seat → Type 0
+SeesLegal seat = IsLegal (store_of seat).id.cells.limits (seen_by seat.lane.cells.view)
 
 -- ---- handles
 
@@ -259,11 +265,14 @@ pub data AbandonSays (before after : Seat) (said : Code) : Type 0 where
 
 -- ---- the number of a key
 
--- The key has this number for the lane, which makes no step on the cells; or this is why it has none.
+-- The key has this number for the lane, which makes no step on the cells; or this is why it has none. The lane itself
+-- puts no other key at a place.
 pub data KeySays (key : KeyValue) (before after : Seat) (was number : ℕ) (said : Code) : Type 0 where
-  numbered : IsKeyNumber after.lane.keys key number → after.lane.cells ≡ before.lane.cells → said ≡ code.Done
+  numbered : IsKeyNumber after.lane.keys key number → PlacesOnly key before.lane.keys after.lane.keys
+      → after.lane.cells ≡ before.lane.cells → said ≡ code.Done
       → KeySays key before after was number said
-  refused : (why : Refusal) → IsKeyRefused before.lane after.lane key why → number ≡ was → said ≡ refusal_code why
+  refused : (why : Refusal) → IsKeyRefused before.lane after.lane key why
+      → PlacesOnly key before.lane.keys after.lane.keys → number ≡ was → said ≡ refusal_code why
       → KeySays key before after was number said
 
 -- The texts name a key, whose number the call answers; or the call answers why they name none.

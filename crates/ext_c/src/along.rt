@@ -16,6 +16,7 @@ impl Seat {
     // Looks for the key in the contexts of the path.
     pub(crate) fn get_along(&mut self, path: &[usize], key: usize, found: &mut ExtValue) -> Code
         ensures store { self.new.store ≡ self.old.store }
+        ensures keys { self.new.lane.keys ≡ self.old.lane.keys }
         ensures closers { self.new.closers ≡ self.old.closers }
         ensures claim { self.new.claim ≡ self.old.claim }
         ensures says { GetAlongSays path.now key self.old self.new found.old found.new result }
@@ -30,6 +31,7 @@ impl Seat {
     // Claims the place in the path's first context where nothing is found.
     pub(crate) fn begin_along(&mut self, path: &[usize], key: usize, found: &mut ExtValue) -> Code
         ensures store { self.new.store ≡ self.old.store }
+        ensures keys { self.new.lane.keys ≡ self.old.lane.keys }
         ensures closers { self.new.closers ≡ self.old.closers }
         ensures says { BeginAlongSays path.now key self.old self.new found.old found.new result }
     {
@@ -73,6 +75,7 @@ impl Seat {
         requires key { key < length (store_of self.old).id.keys }
         requires idle { self.old.claim ≡ None }
         ensures store { self.new.store ≡ self.old.store }
+        ensures keys { self.new.lane.keys ≡ self.old.lane.keys }
         ensures closers { self.new.closers ≡ self.old.closers }
         ensures claim { self.new.claim ≡ None }
         ensures known { self.new.lane.known ≡ self.old.lane.known }
@@ -90,6 +93,7 @@ impl Seat {
         requires key { key < length (store_of self.old).id.keys }
         requires idle { self.old.claim ≡ None }
         ensures store { self.new.store ≡ self.old.store }
+        ensures keys { self.new.lane.keys ≡ self.old.lane.keys }
         ensures closers { self.new.closers ≡ self.old.closers }
         ensures known { self.new.lane.known ≡ self.old.lane.known }
         ensures faults { self.new.lane.faults ≡ self.old.lane.faults }

@@ -44,6 +44,7 @@ impl Seat {
         requires key { key < length (store_of self.old).id.keys }
         requires idle { self.old.claim ≡ None }
         ensures store { self.new.store ≡ self.old.store }
+        ensures keys { self.new.lane.keys ≡ self.old.lane.keys }
         ensures closers { self.new.closers ≡ self.old.closers }
         ensures claim { self.new.claim ≡ None }
         ensures known { self.new.lane.known ≡ self.old.lane.known }
@@ -58,6 +59,7 @@ impl Seat {
     pub(crate) fn keep(&mut self, handle: Handle) -> Result<Kept, KeepFault>
         requires idle { self.old.claim ≡ None }
         ensures store { self.new.store ≡ self.old.store }
+        ensures keys { self.new.lane.keys ≡ self.old.lane.keys }
         ensures closers { self.new.closers ≡ self.old.closers }
         ensures claim { self.new.claim ≡ None }
         ensures kept { IfOk result (IsKeptBy self.new.lane) }
@@ -82,6 +84,7 @@ impl Seat {
         requires idle { self.old.claim ≡ None }
         requires kept { IsKeptBy self.old.lane kept }
         ensures store { self.new.store ≡ self.old.store }
+        ensures keys { self.new.lane.keys ≡ self.old.lane.keys }
         ensures closers { self.new.closers ≡ self.old.closers }
         ensures claim { self.new.claim ≡ None }
         ensures known { self.new.lane.known ≡ self.old.lane.known }
@@ -98,6 +101,7 @@ impl Seat {
         requires key { key < length (store_of self.old).id.keys }
         requires idle { self.old.claim ≡ None }
         ensures store { self.new.store ≡ self.old.store }
+        ensures keys { self.new.lane.keys ≡ self.old.lane.keys }
         ensures closers { self.new.closers ≡ self.old.closers }
         ensures claim { self.new.claim ≡ None }
         ensures known { self.new.lane.known ≡ self.old.lane.known }
@@ -114,6 +118,7 @@ impl Seat {
         requires key { key < length (store_of self.old).id.keys }
         requires idle { self.old.claim ≡ None }
         ensures store { self.new.store ≡ self.old.store }
+        ensures keys { self.new.lane.keys ≡ self.old.lane.keys }
         ensures closers { self.new.closers ≡ self.old.closers }
         ensures known { self.new.lane.known ≡ self.old.lane.known }
         ensures faults { self.new.lane.faults ≡ self.old.lane.faults }
@@ -139,6 +144,7 @@ impl Seat {
         requires idle { self.old.claim ≡ None }
         requires held { IsHeld self.old.lane.cells.view claim }
         ensures store { self.new.store ≡ self.old.store }
+        ensures keys { self.new.lane.keys ≡ self.old.lane.keys }
         ensures closers { self.new.closers ≡ self.old.closers }
         ensures claim { self.new.claim ≡ None }
         ensures failed { IfOk result (Fails (store_of self.old).id.cells.limits [] claim self.old.lane.cells.view self.new.lane.cells.view) }
@@ -157,6 +163,7 @@ impl Seat {
     pub(crate) fn tell_value(&mut self, context: usize, number: u32, told: &mut ExtValue) -> bool
         requires idle { self.old.claim ≡ None }
         ensures store { self.new.store ≡ self.old.store }
+        ensures keys { self.new.lane.keys ≡ self.old.lane.keys }
         ensures closers { self.new.closers ≡ self.old.closers }
         ensures claim { self.new.claim ≡ None }
         ensures still { self.new.lane.cells ≡ self.old.lane.cells }
@@ -188,6 +195,7 @@ impl Seat {
     pub(crate) fn tell_fault(&mut self, context: usize, number: u32, told: &mut ExtValue) -> bool
         requires idle { self.old.claim ≡ None }
         ensures store { self.new.store ≡ self.old.store }
+        ensures keys { self.new.lane.keys ≡ self.old.lane.keys }
         ensures closers { self.new.closers ≡ self.old.closers }
         ensures claim { self.new.claim ≡ None }
         ensures still { self.new.lane.cells ≡ self.old.lane.cells }

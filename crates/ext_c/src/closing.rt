@@ -42,6 +42,7 @@ impl Seat {
         count: &mut usize,
     ) -> Code
         ensures store { self.new.store ≡ self.old.store }
+        ensures keys { self.new.lane.keys ≡ self.old.lane.keys }
         ensures claim { self.new.claim ≡ self.old.claim }
         ensures says { CloseSays context self.old self.new values.old values.new count.new result }
     {
@@ -86,6 +87,7 @@ impl Seat {
         requires closer { IsCloserOf (store_of self.old) closer }
         requires room { room_for (store_of self.old) ≤ length values.old }
         ensures store { self.new.store ≡ self.old.store }
+        ensures keys { self.new.lane.keys ≡ self.old.lane.keys }
         ensures claim { self.new.claim ≡ None }
         ensures closers { self.new.closers ≡ self.old.closers }
         ensures closed { IfOk result (λ _. WritesClosed context (store_of self.old) closer self.old.lane self.new.lane values.old values.new count.new) }
@@ -115,6 +117,7 @@ impl Seat {
         requires own_room { room_for (store_of self.old) ≤ ROOM }
         requires few { ROOM ≤ 1024 }
         ensures store { self.new.store ≡ self.old.store }
+        ensures keys { self.new.lane.keys ≡ self.old.lane.keys }
         ensures claim { self.new.claim ≡ None }
         ensures closers { self.new.closers ≡ self.old.closers }
         ensures closed { IfOk result (λ _. WritesClosed context (store_of self.old) closer self.old.lane self.new.lane values.old values.new count.new) }
@@ -142,6 +145,7 @@ impl Seat {
         requires idle { self.old.claim ≡ None }
         requires closer { IsCloserOf (store_of self.old) closer }
         ensures store { self.new.store ≡ self.old.store }
+        ensures keys { self.new.lane.keys ≡ self.old.lane.keys }
         ensures claim { self.new.claim ≡ None }
         ensures closers { self.new.closers ≡ self.old.closers }
         ensures happened { closing.Closes (λ h. h.closeable) WritesNext (store_of self.old) closer (self.old.lane ∷ []) written.old result (self.new.lane ∷ []) written.new }
@@ -155,6 +159,7 @@ impl Seat {
     fn mend(&mut self, why: CloseFault) -> Code
         requires idle { self.old.claim ≡ None }
         ensures store { self.new.store ≡ self.old.store }
+        ensures keys { self.new.lane.keys ≡ self.old.lane.keys }
         ensures claim { self.new.claim ≡ None }
         ensures closers { self.new.closers ≡ self.old.closers }
         ensures still { self.new.lane.cells ≡ self.old.lane.cells }

@@ -5,7 +5,7 @@ ghost use Rattle.ext_c.specs.Answers.{AbandonSays, BeginAlongSays, BeginSays, Fa
 ghost use Rattle.ext_c.specs.Closing.{CloseSays};
 ghost use Rattle.ext_c.specs.Limits.{store_limits};
 ghost use Rattle.ext_c.specs.Opening.{LeaveSays, OpenSays};
-ghost use Rattle.ext_c.specs.Slots.{ByCode, HasNoClaim, KeepsClaim, OnSlot, StaysButClosers, StaysSo};
+ghost use Rattle.ext_c.specs.Slots.{ByCode, HasNoClaim, KeepsClaim, OnSlot, OnlyLearnsKeys, StaysButClosers, StaysSo};
 
 use crate::code::Code;
 use crate::filling::{are_empty, take_seats};
@@ -86,7 +86,8 @@ fn leave(alloc: Global, slot: &mut ExtSlot) -> Code
 
 /// Finds the number of the key that the texts name: the parts of its namespace, and then its name.
 /// One text alone is a name in the global namespace. May be called while the lane has a claim.
-/// Takes memory for a key that is new to the lane.
+/// Takes memory for a key that is new to the lane. It places no other key, though the lane may know
+/// further keys then.
 #[unsafe(no_mangle)]
 pub extern "C" fn ext_key(
     alloc: Global,
@@ -95,7 +96,7 @@ pub extern "C" fn ext_key(
     lengths: &[u32],
     key: &mut usize,
 ) -> u32
-    ensures says { OnSlot KeepsClaim (key.new ≡ key.old) (λ before after. NamesKey bytes.now lengths.now before after key.old key.new) slot.old slot.new result }
+    ensures says { OnSlot OnlyLearnsKeys (key.new ≡ key.old) (λ before after. NamesKey bytes.now lengths.now before after key.old key.new) slot.old slot.new result }
 {
     let Some(mut seat) = slot.take(alloc) else {
         return Code::NoLane.number();

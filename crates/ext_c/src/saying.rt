@@ -1,6 +1,7 @@
 //! The calls of a seat: each may be made with any arguments, and answers a code.
 ghost use Rattle.std.specs.Prelude.{◌≡◌, None};
 ghost use Rattle.ext_c.specs.Answers.{AbandonSays, BeginSays, FailSays, FillSays, GetSays, KeySays, NamesKey, PutSays, RemoveSays};
+ghost use Rattle.ext_c.specs.Slots.{OnlyLearnsKeys};
 
 use crate::code::Code;
 use crate::fault::fault_of;
@@ -17,6 +18,7 @@ impl Seat {
     // Looks for the key in the context and its ancestors.
     pub(crate) fn get(&mut self, context: usize, key: usize, found: &mut ExtValue) -> Code
         ensures store { self.new.store ≡ self.old.store }
+        ensures keys { self.new.lane.keys ≡ self.old.lane.keys }
         ensures closers { self.new.closers ≡ self.old.closers }
         ensures claim { self.new.claim ≡ self.old.claim }
         ensures says { GetSays context key self.old self.new found.old found.new result }
@@ -37,6 +39,7 @@ impl Seat {
         stood: &mut ExtValue,
     ) -> Code
         ensures store { self.new.store ≡ self.old.store }
+        ensures keys { self.new.lane.keys ≡ self.old.lane.keys }
         ensures closers { self.new.closers ≡ self.old.closers }
         ensures claim { self.new.claim ≡ self.old.claim }
         ensures says { PutSays context key handle self.old self.new stood.old stood.new result }
@@ -55,6 +58,7 @@ impl Seat {
     // Takes what stands under the key in the context itself.
     pub(crate) fn remove(&mut self, context: usize, key: usize, taken: &mut ExtValue) -> Code
         ensures store { self.new.store ≡ self.old.store }
+        ensures keys { self.new.lane.keys ≡ self.old.lane.keys }
         ensures closers { self.new.closers ≡ self.old.closers }
         ensures claim { self.new.claim ≡ self.old.claim }
         ensures says { RemoveSays context key self.old self.new taken.old taken.new result }
@@ -69,6 +73,7 @@ impl Seat {
     // Claims the place where nothing is found.
     pub(crate) fn begin(&mut self, context: usize, key: usize, found: &mut ExtValue) -> Code
         ensures store { self.new.store ≡ self.old.store }
+        ensures keys { self.new.lane.keys ≡ self.old.lane.keys }
         ensures closers { self.new.closers ≡ self.old.closers }
         ensures says { BeginSays context key self.old self.new found.old found.new result }
     {
@@ -84,6 +89,7 @@ impl Seat {
     // Ends the claim by a handle.
     pub(crate) fn fill(&mut self, handle: Handle, number: &mut u32) -> Code
         ensures store { self.new.store ≡ self.old.store }
+        ensures keys { self.new.lane.keys ≡ self.old.lane.keys }
         ensures closers { self.new.closers ≡ self.old.closers }
         ensures claim { self.new.claim ≡ None }
         ensures says { FillSays handle self.old self.new number.old number.new result }
@@ -104,6 +110,7 @@ impl Seat {
     // Ends the claim by the handle of a fault, which the store keeps where it keeps faults.
     pub(crate) fn fail(&mut self, alloc: Global, handle: u64, number: &mut u32) -> Code
         ensures store { self.new.store ≡ self.old.store }
+        ensures keys { self.new.lane.keys ≡ self.old.lane.keys }
         ensures closers { self.new.closers ≡ self.old.closers }
         ensures claim { self.new.claim ≡ None }
         ensures says { FailSays handle self.old self.new number.old number.new result }
@@ -131,6 +138,7 @@ impl Seat {
 
     pub(crate) fn abandon(&mut self) -> Code
         ensures store { self.new.store ≡ self.old.store }
+        ensures keys { self.new.lane.keys ≡ self.old.lane.keys }
         ensures closers { self.new.closers ≡ self.old.closers }
         ensures claim { self.new.claim ≡ None }
         ensures says { AbandonSays self.old self.new result }
@@ -151,9 +159,7 @@ impl Seat {
         lengths: &[u32],
         number: &mut usize,
     ) -> Code
-        ensures store { self.new.store ≡ self.old.store }
-        ensures closers { self.new.closers ≡ self.old.closers }
-        ensures claim { self.new.claim ≡ self.old.claim }
+        ensures learns { OnlyLearnsKeys self.old self.new }
         ensures says { NamesKey bytes.now lengths.now self.old self.new number.old number.new result }
     {
         match key_of(alloc, bytes, lengths) {
@@ -164,9 +170,7 @@ impl Seat {
 
     // The number of the key. A claim of the lane stands as it did.
     fn number_of(&mut self, key: &Key, number: &mut usize) -> Code
-        ensures store { self.new.store ≡ self.old.store }
-        ensures closers { self.new.closers ≡ self.old.closers }
-        ensures claim { self.new.claim ≡ self.old.claim }
+        ensures learns { OnlyLearnsKeys self.old self.new }
         ensures says { KeySays key.now self.old self.new number.old number.new result }
     {
         let shared: &Store<Handle> = &self.store;

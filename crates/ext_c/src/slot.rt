@@ -1,5 +1,6 @@
 //! A lane in the caller's memory.
 ghost use Rattle.std.specs.Prelude.{◌≡◌, ◌≢◌, IsSome, IfSome, IfNone, Some, None};
+ghost use Rattle.ext_c.specs.Answers.{SeesLegal};
 
 use crate::box_pointer::BoxPointer;
 use crate::lane::ExtLane;
@@ -40,7 +41,9 @@ impl ExtSlot {
     pub(crate) fn give(&mut self, seat: Box<Seat>)
         ensures state { self.new.state ≡ 1 }
         ensures seat { self.new.lane.seat ≡ Some seat.value }
+        ensures legal { SeesLegal seat.value }
     {
+        seat.lane.recall();
         *self = ExtSlot {
             state: 1,
             lane: ExtLane::of(BoxPointer::of(seat)),

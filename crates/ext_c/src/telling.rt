@@ -13,6 +13,7 @@ impl Seat {
     pub(crate) fn tell_found(&mut self, context: usize, number: u32, told: &mut ExtValue) -> Code
         requires idle { self.old.claim ≡ None }
         ensures store { self.new.store ≡ self.old.store }
+        ensures keys { self.new.lane.keys ≡ self.old.lane.keys }
         ensures closers { self.new.closers ≡ self.old.closers }
         ensures claim { self.new.claim ≡ None }
         ensures still { self.new.lane.cells ≡ self.old.lane.cells }
@@ -29,6 +30,7 @@ impl Seat {
     pub(crate) fn tell_standing(&mut self, context: usize, number: u32, told: &mut ExtValue) -> Code
         requires idle { self.old.claim ≡ None }
         ensures store { self.new.store ≡ self.old.store }
+        ensures keys { self.new.lane.keys ≡ self.old.lane.keys }
         ensures closers { self.new.closers ≡ self.old.closers }
         ensures claim { self.new.claim ≡ None }
         ensures still { self.new.lane.cells ≡ self.old.lane.cells }
@@ -45,6 +47,7 @@ impl Seat {
     pub(crate) fn tell_stood(&mut self, context: usize, number: u32, told: &mut ExtValue) -> Code
         requires idle { self.old.claim ≡ None }
         ensures store { self.new.store ≡ self.old.store }
+        ensures keys { self.new.lane.keys ≡ self.old.lane.keys }
         ensures closers { self.new.closers ≡ self.old.closers }
         ensures claim { self.new.claim ≡ None }
         ensures still { self.new.lane.cells ≡ self.old.lane.cells }
@@ -63,6 +66,7 @@ impl Seat {
     pub(crate) fn tell_look(&mut self, looked: Result<Look, Refusal>, found: &mut ExtValue) -> Code
         requires idle { self.old.claim ≡ None }
         ensures store { self.new.store ≡ self.old.store }
+        ensures keys { self.new.lane.keys ≡ self.old.lane.keys }
         ensures closers { self.new.closers ≡ self.old.closers }
         ensures claim { self.new.claim ≡ None }
         ensures still { self.new.lane.cells ≡ self.old.lane.cells }
@@ -93,6 +97,7 @@ impl Seat {
     ) -> Code
         requires idle { self.old.claim ≡ None }
         ensures store { self.new.store ≡ self.old.store }
+        ensures keys { self.new.lane.keys ≡ self.old.lane.keys }
         ensures closers { self.new.closers ≡ self.old.closers }
         ensures claim { self.new.claim ≡ None }
         ensures still { self.new.lane.cells ≡ self.old.lane.cells }
@@ -116,6 +121,7 @@ impl Seat {
     ) -> Code
         requires idle { self.old.claim ≡ None }
         ensures store { self.new.store ≡ self.old.store }
+        ensures keys { self.new.lane.keys ≡ self.old.lane.keys }
         ensures closers { self.new.closers ≡ self.old.closers }
         ensures claim { self.new.claim ≡ None }
         ensures still { self.new.lane.cells ≡ self.old.lane.cells }
@@ -132,6 +138,7 @@ impl Seat {
     pub(crate) fn tell_unused(&mut self, why: Unused, found: &mut ExtValue) -> Code
         requires idle { self.old.claim ≡ None }
         ensures store { self.new.store ≡ self.old.store }
+        ensures keys { self.new.lane.keys ≡ self.old.lane.keys }
         ensures closers { self.new.closers ≡ self.old.closers }
         ensures claim { self.new.claim ≡ None }
         ensures still { self.new.lane.cells ≡ self.old.lane.cells }

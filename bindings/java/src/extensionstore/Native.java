@@ -18,7 +18,7 @@ final class Native {
 
     /** What each code means, for those that become an exception. */
     private static final String[] MEANINGS = {
-        null, null, null, null, null, null, "the context is closed", null, "too many changes at this place", "other keys have all of this store's numbers for keys",
+        null, null, null, null, null, null, "the context is closed or is being closed", null, "too many changes at this place", "other keys have all of this store's numbers for keys",
         "all numbers of the store were drawn", "no memory", "a place did not take the value or the key", "the handle of what was met was not found", null, null,
         null, null, null, null, "the store has no such context", null, "a limit is out of its range", null, null, "a text is no unique id", "the ids are no tree",
         "there are too many contexts",

@@ -9,5 +9,5 @@ returns c = record {
   says =
       on_slot KeepsClaim (c.get-code.new.found ≡ c.args.found.now) (λ before after. GetSays c.args.context c.args.key before after c.args.found.now c.get-code.new.found)
       c.args.slot.now c.give.new.self c.number-2.result c.in-Some.seat.value c.deref_mut.result.now c.get-code.new.self c.get-code.result
-      c.in-Some.ensures.taken c.give.ensures.state c.give.ensures.seat (record { so = record { store = c.get-code.ensures.store; closers = c.get-code.ensures.closers }; claim = c.get-code.ensures.claim }) c.deref_mut.ensures.value c.number-2.ensures c.get-code.ensures.says;
+      c.in-Some.ensures.taken c.give.ensures.state c.give.ensures.seat c.give.ensures.legal (record { so = record { store = c.get-code.ensures.store; closers = c.get-code.ensures.closers; keys = c.get-code.ensures.keys }; claim = c.get-code.ensures.claim }) c.deref_mut.ensures.value c.number-2.ensures c.get-code.ensures.says;
 }

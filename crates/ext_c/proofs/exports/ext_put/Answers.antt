@@ -9,5 +9,5 @@ returns c = record {
   says =
       on_slot KeepsClaim (c.put-code.new.stood ≡ c.args.stood.now) (λ before after. PutSays c.args.context c.args.key (record { raw = c.args.handle; closeable = c.args.closeable }) before after c.args.stood.now c.put-code.new.stood)
       c.args.slot.now c.give.new.self c.number-2.result c.in-Some.seat.value c.deref_mut.result.now c.put-code.new.self c.put-code.result
-      c.in-Some.ensures.taken c.give.ensures.state c.give.ensures.seat (record { so = record { store = c.put-code.ensures.store; closers = c.put-code.ensures.closers }; claim = c.put-code.ensures.claim }) c.deref_mut.ensures.value c.number-2.ensures c.put-code.ensures.says;
+      c.in-Some.ensures.taken c.give.ensures.state c.give.ensures.seat c.give.ensures.legal (record { so = record { store = c.put-code.ensures.store; closers = c.put-code.ensures.closers; keys = c.put-code.ensures.keys }; claim = c.put-code.ensures.claim }) c.deref_mut.ensures.value c.number-2.ensures c.put-code.ensures.says;
 }

@@ -9,5 +9,5 @@ returns c = record {
   says =
       on_slot KeepsClaim (c.remove-code.new.taken ≡ c.args.taken.now) (λ before after. RemoveSays c.args.context c.args.key before after c.args.taken.now c.remove-code.new.taken)
       c.args.slot.now c.give.new.self c.number-2.result c.in-Some.seat.value c.deref_mut.result.now c.remove-code.new.self c.remove-code.result
-      c.in-Some.ensures.taken c.give.ensures.state c.give.ensures.seat (record { so = record { store = c.remove-code.ensures.store; closers = c.remove-code.ensures.closers }; claim = c.remove-code.ensures.claim }) c.deref_mut.ensures.value c.number-2.ensures c.remove-code.ensures.says;
+      c.in-Some.ensures.taken c.give.ensures.state c.give.ensures.seat c.give.ensures.legal (record { so = record { store = c.remove-code.ensures.store; closers = c.remove-code.ensures.closers; keys = c.remove-code.ensures.keys }; claim = c.remove-code.ensures.claim }) c.deref_mut.ensures.value c.number-2.ensures c.remove-code.ensures.says;
 }
