@@ -283,37 +283,40 @@ fn put_in_all<R: Abort>(rt: &R, store: &Store<Letter>, lane: &mut Lane<Letter>, 
     }
 }
 
-/// Puts a letter in each context, and then closes them all: each close gives its action the number
-/// that was put there.
-fn put_and_close_all<R: Abort>(
+/// Closes so many contexts, the last first. Each close gives its action the number that was put
+/// there.
+fn close_all<R: Abort>(
     rt: &R,
     alloc: Global,
     store: &Store<Letter>,
     lane: &mut Lane<Letter>,
-    closers: Vec<Closer>,
+    closers: &mut Vec<Closer>,
+    count: u32,
 )
     requires lane { IsLaneOf store.now.id lane.old }
-    requires closers { All (IsCloserOf store.now) closers.items }
+    requires closers { All (IsCloserOf store.now) closers.old.items }
 {
-    let key = key(rt, alloc, "a");
-    put_in_all(rt, store, lane, &key);
-    for closer in closers {
-        let number = closer.context() as u32 + 1;
-        closes_one(rt, alloc, store, lane, closer, number);
+    for after in 0..count {
+        let Some(closer) = closers.pop() else {
+            panic!(rt; "no closer");
+        };
+        closes_one(rt, alloc, store, lane, closer, count - after);
     }
 }
 
-/// Tests `Tree::build_within`, `Store::open`, `Closer::context`, `Store::put` and `close`.
+/// Tests `Tree::build_within`, `Store::open`, `Store::put` and `close`.
 #[test]
 fn all_of_1000_contexts_are_closed(rt: HostRuntime) -> Result<(), Fail> {
     let tree = engine(rt.alloc(), 999)?;
-    let Ok((store, mut lanes, closers)) = Store::open(rt.alloc(), tree, one_lane()) else {
+    let Ok((store, mut lanes, mut closers)) = Store::open(rt.alloc(), tree, one_lane()) else {
         panic!(rt; "no store");
     };
     let Some(mut lane) = lanes.pop() else {
         panic!(rt; "no lane");
     };
     same(&rt, closers.len(), 1_000, "the closers");
-    put_and_close_all(&rt, rt.alloc(), &store, &mut lane, closers);
+    let key = key(&rt, rt.alloc(), "a");
+    put_in_all(&rt, &store, &mut lane, &key);
+    close_all(&rt, rt.alloc(), &store, &mut lane, &mut closers, 1_000);
     Ok(())
 }

@@ -94,6 +94,15 @@ fn call<R: Wait>(
     }
 }
 
+/// Looks until the place is claimed in the round after so many.
+fn await_claim<R: Wait>(rt: &R, progress: &Progress, before: u64) {
+    for _ in rt.forever() {
+        if progress.claimed.load(Ordering::SeqCst) > before {
+            break;
+        }
+    }
+}
+
 /// In each round makes a call once the place is claimed. Says how many were answered as they have
 /// to be.
 fn call_in_rounds<R: Wait>(
@@ -108,11 +117,7 @@ fn call_in_rounds<R: Wait>(
 {
     let mut right = 0u64;
     for before in 0..ROUNDS {
-        for _ in rt.forever() {
-            if progress.claimed.load(Ordering::SeqCst) > before {
-                break;
-            }
-        }
+        await_claim(rt, progress, before);
         if call(rt, store, lane, key, before) {
             right = right.saturating_add(1);
         }
