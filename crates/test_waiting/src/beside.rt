@@ -285,7 +285,8 @@ const ENDS: [(bool, Ended, Look); 6] = [
 #[test]
 fn look_up_waits_for_each_end_of_a_claim(rt: HostRuntime) -> Result<(), Fail> {
     for waits in [false, true] {
-        for (keep_faults, ended, found) in ENDS {
+        for row in &ENDS {
+            let (keep_faults, ended, found) = *row;
             let held = Held {
                 keep_faults,
                 waits,

@@ -274,7 +274,14 @@ fn is_refused<R: Wait>(
         Begin::Waiting => {
             let make = |_key: &Key| -> Result<Letter, Fault> { Err(Fault::Memory) };
             let computed = store.compute_wait(rt, lane, 2, key, make);
-            matches!(computed, Compute::Found { at: 1, number: 1, .. })
+            matches!(
+                computed,
+                Compute::Found {
+                    at: 1,
+                    number: 1,
+                    ..
+                }
+            )
         }
     }
 }

@@ -14,10 +14,13 @@ use std::test::Fail;
 use std::thread::{Threads, join};
 use std::time::Clock;
 
-// How many claims there are, and by how many turns one is given up later at most.
-const ROUNDS: u64 = 20_000;
+// How many claims there are, how much later each is given up than the one before, in turns, and
+// after how many it is at once again.
+const ROUNDS: u64 = 2_048;
 
-const LATER: u64 = 512;
+const LATER: u64 = 16;
+
+const DELAYS: u64 = 64;
 
 /// How far the two lanes are.
 #[derive(Drop)]
@@ -45,7 +48,7 @@ fn claim_in_rounds<R: Abort + Clock>(
             panic!(rt; "no claim");
         };
         progress.claimed.store(before + 1, Ordering::SeqCst);
-        spin(before % LATER);
+        spin(before % DELAYS * LATER);
         store.abandon(lane, claim);
         watch_next(rt, &progress.answered, before);
     }
@@ -82,7 +85,7 @@ fn call<R: Wait>(
     requires context { 2 < length store.now.tree }
     ensures { IsLaneOf store.now.id lane.new }
 {
-    match round / LATER % 4 {
+    match round / DELAYS % 4 {
         0 => store.get_wait(rt, lane, 2, key) == Ok(Look::Absent),
         1 => store.remove_wait(rt, lane, 1, key) == Ok(None),
         2 => put_and_remove(rt, store, lane, key),
@@ -94,18 +97,9 @@ fn call<R: Wait>(
     }
 }
 
-/// Looks until the place is claimed in the round after so many.
-fn await_claim<R: Wait>(rt: &R, progress: &Progress, before: u64) {
-    for _ in rt.forever() {
-        if progress.claimed.load(Ordering::SeqCst) > before {
-            break;
-        }
-    }
-}
-
 /// In each round makes a call once the place is claimed. Says how many were answered as they have
 /// to be.
-fn call_in_rounds<R: Wait>(
+fn call_in_rounds<R: Abort + Clock + Wait>(
     rt: &R,
     store: &Store<Letter>,
     lane: &mut Lane<Letter>,
@@ -117,7 +111,7 @@ fn call_in_rounds<R: Wait>(
 {
     let mut right = 0u64;
     for before in 0..ROUNDS {
-        await_claim(rt, progress, before);
+        watch_next(rt, &progress.claimed, before);
         if call(rt, store, lane, key, before) {
             right = right.saturating_add(1);
         }
