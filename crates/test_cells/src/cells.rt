@@ -9,6 +9,7 @@ ghost use Rattle.ext_model.specs.CallActs.{IsHeld};
 use crate::hand::{Call, end_claim, fail_claim, go, open, rows};
 use crate::same::same;
 use ext_cells::{CellLane, CellRefusal, Cells, Claim, Claimed, Nearest, Standing};
+use std::alloc::Global;
 use std::process::Abort;
 
 /// Tests `Cells::open`, `Cells::open_for`, `Cells::tries`, `Cells::next_number`, `Cells::put`,
@@ -176,6 +177,37 @@ fn claim_beside(rt: &impl Abort, cells: &Cells, first: &mut CellLane, second: &m
 fn claims_keep_others_out(rt: HostRuntime) {
     let (cells, mut first, mut second) = open(&rt, rt.alloc(), 1, 8);
     claim_beside(&rt, &cells, &mut first, &mut second);
+}
+
+/// A cell with as many lanes as there can be, and the last two of them.
+fn with_last_lanes<R: Abort>(rt: &R, alloc: Global) -> (Cells, CellLane, CellLane)
+    ensures before { result.1.cells ≡ result.0.id }
+    ensures last { result.2.cells ≡ result.0.id }
+    ensures cells { result.0.id.limits.cells ≡ 1 }
+    ensures faults { IsTrue result.0.id.limits.keep_faults }
+{
+    let Ok((cells, mut lanes)) = Cells::open_for(alloc, 1, 32, 1, 8, true) else {
+        panic!(rt; "no memory");
+    };
+    let Some(last) = lanes.pop() else {
+        panic!(rt; "no lanes");
+    };
+    let Some(before) = lanes.pop() else {
+        panic!(rt; "no lanes");
+    };
+    (cells, before, last)
+}
+
+/// Tests `Cells::open_for`, `CellLane::number`, `Cells::claim`, `Cells::fill`, `Cells::fail`,
+/// `Cells::remove` and `Cells::meet`.
+#[test]
+fn last_of_32_lanes_keeps_others_out(rt: HostRuntime) {
+    let (cells, mut before, mut last) = with_last_lanes(&rt, rt.alloc());
+    let numbers = (before.number(), last.number());
+    same(&rt, numbers, (30, 31), "the numbers of the lanes");
+    claim_beside(&rt, &cells, &mut last, &mut before);
+    let (cells, mut before, mut last) = with_last_lanes(&rt, rt.alloc());
+    fail_beside(&rt, &cells, &mut last, &mut before);
 }
 
 /// Tests `Cells::open`, `Cells::open_for`, `Cells::tries`, `Cells::collect` and `Words::get`.

@@ -149,14 +149,16 @@ fn open_within_limits(rt: HostRuntime) {
 #[test]
 fn open_for_within_limits(rt: HostRuntime) {
     let bad = Err(CellRefusal::BadLimit);
-    for (cells, numbers, wanted) in [
-        (262_145, 8, Ok(2)),
-        (3, 65_536, Ok(2)),
-        (3, 1_048_575, Ok(2)),
-        (67_108_865, 8, bad),
-        (3, 1_048_576, bad),
+    for (cells, lanes, numbers, wanted) in [
+        (262_145, 2, 8, Ok(2)),
+        (3, 32, 8, Ok(32)),
+        (3, 2, 65_536, Ok(2)),
+        (3, 2, 1_048_575, Ok(2)),
+        (67_108_865, 2, 8, bad),
+        (3, 33, 8, bad),
+        (3, 2, 1_048_576, bad),
     ] {
-        let answer = match Cells::open_for(rt.alloc(), cells, 2, 1, numbers, true) {
+        let answer = match Cells::open_for(rt.alloc(), cells, lanes, 1, numbers, true) {
             Ok((_cells, lanes)) => Ok(lanes.len()),
             Err(refusal) => Err(refusal),
         };
@@ -167,15 +169,17 @@ fn open_for_within_limits(rt: HostRuntime) {
 /// Tests `are_limits`.
 #[test]
 fn limits_of_each_size(rt: HostRuntime) {
-    for (size, cells, numbers, wanted) in [
-        (Size::Usual, 262_144, 65_535, true),
-        (Size::Usual, 262_145, 1, false),
-        (Size::Usual, 0, 65_536, false),
-        (Size::Large, 67_108_864, 1_048_575, true),
-        (Size::Large, 67_108_865, 1, false),
-        (Size::Large, 0, 1_048_576, false),
+    for (size, cells, lanes, numbers, wanted) in [
+        (Size::Usual, 262_144, 16, 65_535, true),
+        (Size::Usual, 262_145, 1, 1, false),
+        (Size::Usual, 0, 17, 1, false),
+        (Size::Usual, 0, 1, 65_536, false),
+        (Size::Large, 67_108_864, 32, 1_048_575, true),
+        (Size::Large, 67_108_865, 1, 1, false),
+        (Size::Large, 0, 33, 1, false),
+        (Size::Large, 0, 1, 1_048_576, false),
     ] {
-        let answer = are_limits(size, cells, 16, 64, numbers);
+        let answer = are_limits(size, cells, lanes, 64, numbers);
         same(&rt, answer, wanted, "whether they are limits");
     }
 }

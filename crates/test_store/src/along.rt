@@ -4,10 +4,12 @@ ghost use Rattle.ext_store.specs.Stores.{IsLaneOf};
 
 use crate::asked::{Scenario, same, with_chain};
 use crate::opening::{Letter, plain};
+use crate::wide::engine_ids;
 use ext_model::{ContextNo, KeyNo, Look};
-use ext_store::{Lane, Refusal, Store, Unused};
-use ext_tree::Key;
+use ext_store::{Lane, Limits, Refusal, Store, Unused};
+use ext_tree::{Key, Tree};
 use std::process::Abort;
+use std::test::Fail;
 use std::thread::Threads;
 
 /// What the look-up of the key along the path answers; `None` where it is no path.
@@ -131,4 +133,19 @@ impl Scenario for Paths {
 #[test]
 fn paths_are_contexts_of_the_store(rt: HostRuntime) {
     with_chain(&rt, rt.alloc(), 8, &Paths);
+}
+
+/// Tests `Store::is_trail`.
+#[test]
+fn paths_are_16_contexts_at_most(rt: HostRuntime) -> Result<(), Fail> {
+    let ids = engine_ids(rt.alloc(), 16)?;
+    let tree = Tree::build(rt.alloc(), ids.as_slice())?;
+    let Ok((store, _lanes, _closers)) = Store::<Letter>::open(rt.alloc(), tree, Limits::new(1))
+    else {
+        panic!(rt; "no store");
+    };
+    let path = [16, 15, 14, 13, 12, 11, 10, 9, 8, 7, 6, 5, 4, 3, 2, 1, 0];
+    same(&rt, store.is_trail(&path[1..]), true, "16 contexts");
+    same(&rt, store.is_trail(&path), false, "17 contexts");
+    Ok(())
 }

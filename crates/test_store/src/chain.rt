@@ -7,10 +7,10 @@ ghost use Rattle.ext_store.specs.Stores.{IsCloserOf, IsLaneOf};
 use crate::asked::{key, same, with_made};
 use crate::closes::Recorder;
 use crate::full::name_from;
-use crate::opening::{Letter, Opened, closeable, open_chain_for, plain};
+use crate::opening::{Letter, Opened, closeable, open_chain_for, open_store, plain};
 use ext_closing::{CloseFault, Closed, close};
-use ext_model::{ContextNo, Fault, KeyNo, Look};
-use ext_store::{Claim, Closer, Compute, KeepFault, Lane, Refusal, Store, Unused};
+use ext_model::{ContextNo, Fault, KeyNo, Look, Size};
+use ext_store::{Claim, Closer, Compute, KeepFault, Lane, Limits, Refusal, Store, Unused};
 use ext_tree::Key;
 use std::alloc::Global;
 use std::marker::Model;
@@ -644,10 +644,22 @@ fn open(alloc: Global, numbers: u32, keep_faults: bool, way: Way) -> Option<Chai
     Some(in_one_hand(alloc, way, opened))
 }
 
-/// Asserts that the lanes have their numbers, and that each row's call, in order, has its answer.
-fn play<R: Abort>(rt: &R, chain: &mut Chain, rows: &[Row]) {
+/// The same of the last two of as many lanes as there can be.
+fn open_last_lanes(alloc: Global, numbers: u32, way: Way) -> Option<Chain> {
+    let limits = Limits {
+        tries: 8,
+        numbers,
+        size: Size::Large,
+        ..Limits::new(32)
+    };
+    let opened = open_store(alloc, limits)?;
+    Some(in_one_hand(alloc, way, opened))
+}
+
+/// Asserts that the lanes have these numbers, and that each row's call, in order, has its answer.
+fn play<R: Abort>(rt: &R, chain: &mut Chain, lanes: (usize, usize), rows: &[Row]) {
     let numbers = chain.numbers_of_lanes();
-    same(rt, numbers, (0, 1), "the numbers of the lanes");
+    same(rt, numbers, lanes, "the numbers of the lanes");
     for row in rows {
         chain.go(rt, *row);
     }
@@ -658,7 +670,7 @@ fn play<R: Abort>(rt: &R, chain: &mut Chain, rows: &[Row]) {
 pub(crate) fn rows<R: Abort>(rt: &R, alloc: Global, numbers: u32, rows: &[Row]) {
     for way in [Way::OneCall, Way::TwoCalls, Way::TwoQuietCalls] {
         with_made(rt, open(alloc, numbers, false, way), |chain| {
-            play(rt, chain, rows)
+            play(rt, chain, (0, 1), rows)
         });
     }
 }
@@ -668,7 +680,7 @@ pub(crate) fn rows_when_full<R: Abort>(rt: &R, alloc: Global, numbers: u32, rows
     for way in [Way::OneCall, Way::TwoCalls, Way::TwoQuietCalls] {
         with_made(rt, open(alloc, numbers, false, way), |chain| {
             chain.fill(rt);
-            play(rt, chain, rows)
+            play(rt, chain, (0, 1), rows)
         });
     }
 }
@@ -677,7 +689,16 @@ pub(crate) fn rows_when_full<R: Abort>(rt: &R, alloc: Global, numbers: u32, rows
 pub(crate) fn rows_with_faults<R: Abort>(rt: &R, alloc: Global, numbers: u32, rows: &[Row]) {
     for way in [Way::OneCall, Way::TwoCalls, Way::TwoQuietCalls] {
         with_made(rt, open(alloc, numbers, true, way), |chain| {
-            play(rt, chain, rows)
+            play(rt, chain, (0, 1), rows)
+        });
+    }
+}
+
+/// The same as `rows` where lanes 0 and 1 of the rows are lanes 30 and 31 of a large store.
+pub(crate) fn rows_by_last_lanes<R: Abort>(rt: &R, alloc: Global, numbers: u32, rows: &[Row]) {
+    for way in [Way::OneCall, Way::TwoCalls, Way::TwoQuietCalls] {
+        with_made(rt, open_last_lanes(alloc, numbers, way), |chain| {
+            play(rt, chain, (30, 31), rows)
         });
     }
 }

@@ -2,10 +2,13 @@
 ghost use Rattle.std.specs.Prelude.{◌≡◌, ◌<◌, ◌≤◌, All, length};
 ghost use Rattle.ext_store.specs.Stores.{IsCloserOf, IsLaneOf};
 
+use crate::asked::{same, with_made};
 use crate::full::number_key;
 use crate::opening::{Letter, Opened, closeable, open_store};
 use crate::{Log, close_logged};
-use ext_store::{Closer, Lane, Limits, Refusal, Store};
+use ext_model::{Fault, KeyNo, Look};
+use ext_store::{Closer, Compute, Lane, Limits, Refusal, Store};
+use ext_tree::Key;
 use std::alloc::Global;
 use std::process::Abort;
 use std::slice;
@@ -139,4 +142,88 @@ fn many_values_are_closed_latest_first(rt: HostRuntime) {
     ] {
         put_and_close(&rt, rt.alloc(), unused, count, places);
     }
+}
+
+/// Whether a compute in the method by the number of the last key calls its factory with the key,
+/// and the number under which its value is kept.
+fn compute_under(
+    store: &Store<Letter>,
+    lane: &mut Lane<Letter>,
+    number: KeyNo,
+    key: &Key,
+) -> Option<u32>
+    requires lane { IsLaneOf store.now.id lane.old }
+    requires context { 2 < length store.now.tree }
+    requires key { number < length store.now.id.keys }
+    ensures { IsLaneOf store.now.id lane.new }
+{
+    if !lane.knows_key(number) {
+        return None;
+    }
+    let make = |given: &Key| -> Result<Letter, Fault> {
+        if given == key {
+            Ok(closeable('x'))
+        } else {
+            Err(Fault::Memory)
+        }
+    };
+    match store.compute_numbered(lane, 2, number, make) {
+        Compute::Computed { number } => Some(number),
+        _ => None,
+    }
+}
+
+/// Has the first lane name as many keys as there can be, and the second one compute under the last
+/// of them.
+fn compute_under_last<R: Abort>(
+    rt: &R,
+    alloc: Global,
+    store: &Store<Letter>,
+    first: &mut Lane<Letter>,
+    second: &mut Lane<Letter>,
+)
+    requires first { IsLaneOf store.now.id first.old }
+    requires second { IsLaneOf store.now.id second.old }
+    requires contexts { 2 < length store.now.tree }
+{
+    name_many(rt, alloc, store, first, 1_024);
+    let key = number_key(rt, alloc, 1_023);
+    let Ok(number) = store.number(second, &key) else {
+        panic!(rt; "the key has no number");
+    };
+    same(rt, number, 1_023, "the number of the last key");
+    let computed = compute_under(store, second, number, &key);
+    same(rt, computed, Some(1), "the number of the value");
+    let found = Look::Found { at: 2, number: 1 };
+    let looked = store.get_numbered(first, 2, number);
+    same(rt, looked, Ok(found), "the look-up");
+    let removed = store.remove_numbered(first, 2, number);
+    same(rt, removed, Ok(Some(1)), "the remove");
+}
+
+/// Tests `Store::number`, `Lane::knows_key`, `Store::compute_numbered`, `Store::get_numbered` and
+/// `Store::remove_numbered`.
+#[test]
+fn last_of_1024_keys_is_used(rt: HostRuntime) {
+    let limits = Limits {
+        keys: 1_024,
+        ..Limits::new(2)
+    };
+    with_made(
+        &rt,
+        open_store(rt.alloc(), limits),
+        |opened: &mut Opened<Letter>|
+            requires first { IsLaneOf opened.old.store.id opened.old.first }
+            requires second { IsLaneOf opened.old.store.id opened.old.second }
+            requires contexts { 2 < length opened.old.store.tree }
+        {
+            compute_under_last(
+                &rt,
+                rt.alloc(),
+                &opened.store,
+                &mut opened.first,
+                &mut opened.second,
+            );
+        },
+    );
 }

@@ -3,7 +3,7 @@ ghost use Rattle.std.specs.Prelude.{◌<◌, length};
 ghost use Rattle.ext_store.specs.Stores.{IsLaneOf};
 
 use crate::held::{find, same};
-use crate::opening::{Letter, with_pair};
+use crate::opening::{Letter, limits, with_pair};
 use ext_model::{ContextNo, Fault, KeyNo, Look};
 use ext_store::{Compute, Lane, Store};
 use ext_tree::Key;
@@ -200,7 +200,7 @@ fn call_by_number<R: Abort + Wait>(
 /// `Store::get_wait`, `Store::put_wait`, `Store::remove_wait` and `Store::compute_wait`.
 #[test]
 fn calls_by_the_number_of_a_key(rt: HostRuntime) -> Result<(), Fail> {
-    with_pair(&rt, rt.alloc(), false, call_by_number)
+    with_pair(&rt, rt.alloc(), limits(2, false), call_by_number)
 }
 
 /// Puts a letter, finds it, takes it out, and computes another one.
@@ -223,7 +223,7 @@ fn call_alone<R: Abort + Wait>(
 /// `Store::compute_wait`.
 #[test]
 fn waiting_forms_alone(rt: HostRuntime) -> Result<(), Fail> {
-    with_pair(&rt, rt.alloc(), false, call_alone)
+    with_pair(&rt, rt.alloc(), limits(2, false), call_alone)
 }
 
 /// The number under which the fault of a factory that fails in the method is kept, and that of a
@@ -336,5 +336,5 @@ fn replace<R: Wait>(
 /// Tests `Store::put` and `Store::remove`.
 #[test]
 fn waiting_forms_keep_faults_alone(rt: HostRuntime) -> Result<(), Fail> {
-    with_pair(&rt, rt.alloc(), true, keep_faults_alone)
+    with_pair(&rt, rt.alloc(), limits(2, true), keep_faults_alone)
 }

@@ -1,12 +1,12 @@
 //! Waiting forms beside a factory that is held: each is answered once it has ended, in a thread of
 //! its own.
-ghost use Rattle.std.specs.Prelude.{◌<◌, length};
+ghost use Rattle.std.specs.Prelude.{◌<◌, All, length};
 ghost use Rattle.ext_store.specs.Stores.{IsLaneOf};
 
 use crate::held::{Ended, Gate, compute_held, find, same};
-use crate::opening::{Letter, with_pair};
+use crate::opening::{Letter, limits, with_pair, with_store};
 use ext_model::{Fault, Look};
-use ext_store::{Lane, Store};
+use ext_store::{Closer, Lane, Limits, Store};
 use ext_tree::Key;
 use std::alloc::Global;
 use std::process::Abort;
@@ -80,38 +80,89 @@ fn call_beside<R: Wait + Clock>(
     shown(store, lane, found)
 }
 
-/// What a compute in the class, by a factory that is held and then fails where it is to, and the
-/// call beside it answer.
+/// A compute in the class whose factory is held.
+#[derive(Clone, Copy)]
+struct Held {
+    /// Whether the store keeps faults.
+    keep_faults: bool,
+    /// Whether the compute is by the form that waits.
+    waits: bool,
+    /// What it comes to. Where nothing is kept, the number was drawn before.
+    ended: Ended,
+}
+
+/// Draws the number that there is, where the compute is to find none.
+fn spend<R: Abort>(rt: &R, store: &Store<Letter>, lane: &mut Lane<Letter>, ended: Ended)
+    requires { IsLaneOf store.now.id lane.old }
+    ensures { IsLaneOf store.now.id lane.new }
+{
+    if matches!(ended, Ended::Unkept | Ended::FaultUnkept) {
+        let kept = store.keep(lane, Letter { letter: 'w' });
+        same(rt, kept.is_ok(), true, "whether the number is drawn");
+    }
+}
+
+/// What the compute and the call beside it answer.
 fn answers<R: Abort + Clock + Threads + Wait + Sync>(
     rt: &R,
     store: &Store<Letter>,
     key: &Key,
     first: &mut Lane<Letter>,
     second: &mut Lane<Letter>,
-    fails: bool,
+    held: Held,
     waits: Call,
 ) -> (Ended, Option<Look>)
     requires first { IsLaneOf store.now.id first.old }
     requires second { IsLaneOf store.now.id second.old }
     requires contexts { 2 < length store.now.tree }
 {
-    let gate = Gate::new();
-    let held = &gate;
+    let gate = &Gate::new(1);
+    spend(rt, store, first, held.ended);
+    let fails = held.ended.is_failed();
     join(
         rt,
         ||
             requires { IsLaneOf store.now.id first.now × (1 < length store.now.tree) }
         {
-            let answer = compute_held(rt, store, first, key, held, fails);
-            held.watch(rt);
+            let answer = compute_held(rt, store, first, key, gate, fails, held.waits);
+            gate.watch(rt);
             answer
         },
-        || call_beside(rt, store, second, key, held, waits),
+        || call_beside(rt, store, second, key, gate, waits),
     )
 }
 
-/// Asserts what is answered in a store of its own, which keeps faults or not. The factory fails
-/// unless it is to compute a value.
+/// Asserts what is answered in a store of its own, of one number.
+fn beside_held<R: Abort + Clock + Threads + Wait + Sync>(
+    rt: &R,
+    alloc: Global,
+    held: Held,
+    waits: Call,
+    found: Look,
+) -> Result<(), Fail> {
+    let one_number = Limits {
+        numbers: 1,
+        ..limits(2, held.keep_faults)
+    };
+    with_pair(
+        rt,
+        alloc,
+        one_number,
+        |rt: &R, store: &Store<Letter>, key: &Key, first: &mut Lane<Letter>, second: &mut Lane<
+            Letter,
+        >|
+            requires first { IsLaneOf store.now.id first.old }
+            requires second { IsLaneOf store.now.id second.old }
+            requires contexts { 2 < length store.now.tree }
+        {
+            let (computed, beside) = answers(rt, store, key, first, second, held, waits);
+            same(rt, computed, held.ended, "the compute");
+            same(rt, beside, Some(found), "the call that waited");
+        },
+    )
+}
+
+/// The same of a compute that does not wait.
 fn beside<R: Abort + Clock + Threads + Wait + Sync>(
     rt: &R,
     alloc: Global,
@@ -120,23 +171,12 @@ fn beside<R: Abort + Clock + Threads + Wait + Sync>(
     ended: Ended,
     found: Look,
 ) -> Result<(), Fail> {
-    let fails = !matches!(ended, Ended::Computed(_));
-    with_pair(
-        rt,
-        alloc,
+    let held = Held {
         keep_faults,
-        |rt: &R, store: &Store<Letter>, key: &Key, first: &mut Lane<Letter>, second: &mut Lane<
-            Letter,
-        >|
-            requires first { IsLaneOf store.now.id first.old }
-            requires second { IsLaneOf store.now.id second.old }
-            requires contexts { 2 < length store.now.tree }
-        {
-            let (computed, beside) = answers(rt, store, key, first, second, fails, waits);
-            same(rt, computed, ended, "the compute");
-            same(rt, beside, Some(found), "the call that waited");
-        },
-    )
+        waits: false,
+        ended,
+    };
+    beside_held(rt, alloc, held, waits, found)
 }
 
 /// Tests `Store::get_wait`, `Store::put_wait`, `Store::remove_wait` and `Store::keep_wait`.
@@ -223,5 +263,91 @@ fn compute_waits_for_a_factory_beside_kept_faults(rt: HostRuntime) -> Result<(),
         Call::Compute,
         Ended::Computed(1),
         found,
+    )
+}
+
+/// How a held compute ends, whether its store keeps faults, and what a look-up that waits for it
+/// finds then.
+const ENDS: [(bool, Ended, Look); 6] = [
+    (false, Ended::Computed(1), Look::Found { at: 1, number: 1 }),
+    (false, Ended::Unkept, Look::Absent),
+    (false, Ended::Failed, Look::Absent),
+    (true, Ended::Unkept, Look::Absent),
+    (true, Ended::FaultKept(1), Look::Fault { at: 1, number: 1 }),
+    (true, Ended::FaultUnkept, Look::Absent),
+];
+
+/// A look-up goes on after each end of a claim, by either form of the compute: also where nothing
+/// is kept, since all numbers are drawn.
+/// Tests `Store::compute`, `Store::compute_wait`, `Store::fill`, `Store::fail`, `Store::abandon`,
+/// `StoreCore::fill`, `StoreCore::fail`, `StoreCore::abandon`, `StoreCore::get_wait`,
+/// `StoreCore::wake` and `Waiters::wake_all`.
+#[test]
+fn look_up_waits_for_each_end_of_a_claim(rt: HostRuntime) -> Result<(), Fail> {
+    for waits in [false, true] {
+        for row in &ENDS {
+            let (keep_faults, ended, found) = *row;
+            let held = Held {
+                keep_faults,
+                waits,
+                ended,
+            };
+            beside_held(&rt, rt.alloc(), held, Call::Get, found)?;
+        }
+    }
+    Ok(())
+}
+
+/// What a compute that is held and the look-ups of two lanes that wait for it answer.
+fn two_answers<R: Abort + Clock + Threads + Wait + Sync>(
+    rt: &R,
+    store: &Store<Letter>,
+    key: &Key,
+    lanes: &mut [Lane<Letter>],
+) -> (Ended, (Option<Look>, Option<Look>))
+    requires lanes { All (IsLaneOf store.now.id) lanes.old }
+    requires contexts { 2 < length store.now.tree }
+{
+    let [first, second, third] = lanes else {
+        panic!(rt; "there are three lanes");
+    };
+    let gate = &Gate::new(2);
+    join(
+        rt,
+        ||
+            requires { IsLaneOf store.now.id first.now × (1 < length store.now.tree) }
+        {
+            let answer = compute_held(rt, store, first, key, gate, false, false);
+            gate.watch(rt);
+            answer
+        },
+        ||
+            requires { IsLaneOf store.now.id second.now × IsLaneOf store.now.id third.now × (2 < length store.now.tree) }
+        {
+            join(
+                rt,
+                || call_beside(rt, store, second, key, gate, Call::Get),
+                || call_beside(rt, store, third, key, gate, Call::Get),
+            )
+        },
+    )
+}
+
+/// Both sleep when the claim ends, and each goes on.
+/// Tests `Store::get_wait`, `StoreCore::wake` and `Waiters::wake_all`.
+#[test]
+fn two_look_ups_wait_for_a_factory(rt: HostRuntime) -> Result<(), Fail> {
+    with_store(
+        rt.alloc(),
+        limits(3, false),
+        |store: &Store<Letter>, key: &Key, lanes: &mut [Lane<Letter>], _closers: &mut Vec<Closer>|
+            requires lanes { All (IsLaneOf store.now.id) lanes.old }
+            requires contexts { 2 < length store.now.tree }
+        {
+            let (computed, looked) = two_answers(&rt, store, key, lanes);
+            let found = Some(Look::Found { at: 1, number: 1 });
+            same(&rt, computed, Ended::Computed(1), "the compute");
+            same(&rt, looked, (found, found), "the look-ups that waited");
+        },
     )
 }

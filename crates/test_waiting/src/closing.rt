@@ -2,8 +2,8 @@
 ghost use Rattle.std.specs.Prelude.{◌≡◌, ◌<◌, All, IfErr, length};
 ghost use Rattle.ext_store.specs.Stores.{IsCloserOf, IsLaneOf};
 
-use crate::held::{Ended, Gate, compute_held, same};
-use crate::opening::{Letter, with_store};
+use crate::held::{Ended, Gate, compute_held, same, spin};
+use crate::opening::{Letter, limits, with_store};
 use ext_closing::{CloseAction, CloseFault, close};
 use ext_model::Fault;
 use ext_store::{Closer, Lane, Refusal, Store};
@@ -11,16 +11,15 @@ use ext_tree::Key;
 use std::alloc::Global;
 use std::process::Abort;
 use std::sync::Wait;
-use std::sync::atomic::{AtomicU64, Ordering};
 use std::test::Fail;
 use std::thread::{Threads, join_mut};
 use std::time::Clock;
 
 // How often the put and the close race for the place, and by how many turns the close comes later
 // each time.
-const RACES: u32 = 16;
+const RACES: u64 = 16;
 
-const LATER: u32 = 2_000;
+const LATER: u64 = 2_000;
 
 /// Closes every value.
 #[derive(Drop)]
@@ -58,24 +57,16 @@ pub(crate) fn close_class<R: Abort>(
     }
 }
 
-/// Takes some time.
-fn spin(turns: u32) {
-    let word = AtomicU64::new(0);
-    for _ in 0..turns {
-        word.load(Ordering::SeqCst);
-    }
-}
-
 /// Computes the class's value by a factory that is held, and then closes the class some turns
 /// later.
-fn compute_and_close<R: Abort + Clock>(
+fn compute_and_close<R: Abort + Clock + Wait>(
     rt: &R,
     store: &Store<Letter>,
     hand: &mut [Lane<Letter>],
     closers: &mut Vec<Closer>,
     key: &Key,
     gate: &Gate,
-    turns: u32,
+    turns: u64,
 ) -> First
     requires one { length hand.old ≡ 1 }
     requires lane { All (IsLaneOf store.now.id) hand.old }
@@ -84,7 +75,7 @@ fn compute_and_close<R: Abort + Clock>(
     ensures lane { All (IsLaneOf store.now.id) hand.new }
     ensures closer { IfErr result (λ e. IsCloserOf store.now e.0) }
 {
-    let computed = compute_held(rt, store, &mut hand[0], key, gate, false);
+    let computed = compute_held(rt, store, &mut hand[0], key, gate, false, false);
     same(rt, computed, Ended::Computed(2), "the compute");
     spin(turns);
     let closed = close_class(rt, store, hand, closers);
@@ -159,7 +150,7 @@ fn outcomes<R: Abort + Clock + Threads + Wait + Sync>(
     key: &Key,
     lanes: &mut [Lane<Letter>],
     closers: &mut Vec<Closer>,
-    turns: u32,
+    turns: u64,
 ) -> (First, Second)
     requires two { length lanes.old ≡ 2 }
     requires lanes { All (IsLaneOf store.now.id) lanes.old }
@@ -169,7 +160,7 @@ fn outcomes<R: Abort + Clock + Threads + Wait + Sync>(
     ensures lanes { All (IsLaneOf store.now.id) lanes.new }
     ensures closer { IfErr result.0 (λ e. IsCloserOf store.now e.0) }
 {
-    let gate = Gate::new();
+    let gate = Gate::new(1);
     let held = &gate;
     let (first, second) = lanes.split_at_mut(1);
     join_mut(
@@ -198,7 +189,7 @@ fn race<R: Abort + Clock + Threads + Wait + Sync>(
     key: &Key,
     lanes: &mut [Lane<Letter>],
     closers: &mut Vec<Closer>,
-    turns: u32,
+    turns: u64,
 )
     requires lanes { All (IsLaneOf store.now.id) lanes.old }
     requires closers { All (IsCloserOf store.now) closers.old.items }
@@ -213,12 +204,11 @@ fn race<R: Abort + Clock + Threads + Wait + Sync>(
 fn race_in_store<R: Abort + Clock + Threads + Wait + Sync>(
     rt: &R,
     alloc: Global,
-    turns: u32,
+    turns: u64,
 ) -> Result<(), Fail> {
     with_store(
         alloc,
-        2,
-        false,
+        limits(2, false),
         |store: &Store<Letter>, key: &Key, lanes: &mut [Lane<Letter>], closers: &mut Vec<Closer>|
             requires lanes { All (IsLaneOf store.now.id) lanes.old }
             requires closers { All (IsCloserOf store.now) closers.old.items }

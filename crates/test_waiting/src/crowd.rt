@@ -3,7 +3,7 @@ ghost use Rattle.std.specs.Prelude.{◌<◌, All, length};
 ghost use Rattle.ext_store.specs.Stores.{IsLaneOf};
 
 use crate::held::{same, watch};
-use crate::opening::{Letter, with_store};
+use crate::opening::{Letter, limits, with_store};
 use ext_model::{ContextNo, Fault, Look};
 use ext_store::{Closer, Compute, Lane, Store};
 use ext_tree::Key;
@@ -311,8 +311,7 @@ fn crowd_in_store<R: Abort + Clock + Threads + Wait + Sync>(
     let keep_faults = matches!(work, Work::KeepsFaults);
     with_store(
         alloc,
-        16,
-        keep_faults,
+        limits(16, keep_faults),
         |store: &Store<Letter>, key: &Key, lanes: &mut [Lane<Letter>], _closers: &mut Vec<Closer>|
             requires lanes { All (IsLaneOf store.now.id) lanes.old }
             requires contexts { 2 < length store.now.tree }

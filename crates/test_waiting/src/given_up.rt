@@ -1,13 +1,15 @@
 //! Claims that are given up since an ancestor got a value meanwhile: a lane that sleeps for one
-//! goes on.
+//! goes on. And computes that are refused, which wake all who sleep, since they may have given a
+//! claim up.
 ghost use Rattle.std.specs.Prelude.{◌<◌, All, length};
 ghost use Rattle.ext_store.specs.Stores.{IsLaneOf};
 
-use crate::held::{same, watch_more};
-use crate::opening::{Letter, with_store};
-use ext_model::Fault;
-use ext_store::{Closer, Compute, Lane, Store};
+use crate::held::{Gate, same, watch_more};
+use crate::opening::{Letter, limits, with_pair, with_store};
+use ext_model::{Fault, KeyNo, Look};
+use ext_store::{Closer, Compute, Lane, Store, Unused};
 use ext_tree::Key;
+use std::alloc::Global;
 use std::process::Abort;
 use std::sync::Wait;
 use std::sync::atomic::{AtomicU64, Ordering};
@@ -204,11 +206,192 @@ fn settle<R: Abort + Clock + Threads + Wait + Sync>(
 fn remove_waits_for_a_claim_that_is_given_up(rt: HostRuntime) -> Result<(), Fail> {
     with_store(
         rt.alloc(),
-        3,
-        false,
+        limits(3, false),
         |store: &Store<Letter>, key: &Key, lanes: &mut [Lane<Letter>], _closers: &mut Vec<Closer>|
             requires lanes { All (IsLaneOf store.now.id) lanes.old }
             requires contexts { 2 < length store.now.tree }
         { settle(&rt, store, key, lanes) },
     )
+}
+
+/// How a compute begins.
+#[derive(Clone, Copy)]
+enum Begin {
+    /// By `begin_numbered`.
+    Plain,
+    /// By `begin_along`.
+    Along,
+    /// By `compute_wait`.
+    Waiting,
+}
+
+/// Why a claim in the method is refused; nothing where it is not.
+fn refused_claim(
+    store: &Store<Letter>,
+    lane: &mut Lane<Letter>,
+    number: KeyNo,
+    along: bool,
+) -> Option<Unused>
+    requires lane { IsLaneOf store.now.id lane.old }
+    requires context { 2 < length store.now.tree }
+    requires key { number < length store.now.id.keys }
+{
+    let path = [2, 1, 0];
+    if !store.is_trail(&path) {
+        return None;
+    }
+    let begun = if along {
+        store.begin_along(lane, &path, number)
+    } else {
+        store.begin_numbered(lane, 2, number)
+    };
+    match begun {
+        Ok(claim) => {
+            store.abandon_quietly(lane, claim);
+            None
+        }
+        Err(why) => Some(why),
+    }
+}
+
+/// Whether a compute in the method is refused, since the class has a value.
+fn is_refused<R: Wait>(
+    rt: &R,
+    store: &Store<Letter>,
+    lane: &mut Lane<Letter>,
+    key: &Key,
+    number: KeyNo,
+    begin: Begin,
+) -> bool
+    requires lane { IsLaneOf store.now.id lane.old }
+    requires context { 2 < length store.now.tree }
+    requires key { number < length store.now.id.keys }
+{
+    let found = Some(Unused::Found { at: 1, number: 1 });
+    match begin {
+        Begin::Plain => refused_claim(store, lane, number, false) == found,
+        Begin::Along => refused_claim(store, lane, number, true) == found,
+        Begin::Waiting => {
+            let make = |_key: &Key| -> Result<Letter, Fault> { Err(Fault::Memory) };
+            let computed = store.compute_wait(rt, lane, 2, key, make);
+            matches!(
+                computed,
+                Compute::Found {
+                    at: 1,
+                    number: 1,
+                    ..
+                }
+            )
+        }
+    }
+}
+
+/// Claims the class's place until another lane waits for it, ends the claim by a value so that
+/// nobody is woken, and begins a compute in the method. Says whether that is refused.
+fn fill_and_begin<R: Clock + Wait>(
+    rt: &R,
+    store: &Store<Letter>,
+    lane: &mut Lane<Letter>,
+    key: &Key,
+    gate: &Gate,
+    begin: Begin,
+) -> bool
+    requires lane { IsLaneOf store.now.id lane.old }
+    requires context { 2 < length store.now.tree }
+{
+    let Ok(number) = store.number(lane, key) else {
+        return false;
+    };
+    let Ok(claim) = store.begin_numbered(lane, 1, number) else {
+        return false;
+    };
+    let is_met = gate.pass(rt);
+    let filled = store.fill_quietly(lane, claim, Letter { letter: 'x' });
+    is_met && filled.is_ok() && is_refused(rt, store, lane, key, number, begin)
+}
+
+/// What a look-up in the class answers that waits for the claim.
+fn look_beside<R: Clock + Wait>(
+    rt: &R,
+    store: &Store<Letter>,
+    lane: &mut Lane<Letter>,
+    key: &Key,
+    gate: &Gate,
+) -> Option<Look>
+    requires lane { IsLaneOf store.now.id lane.old }
+    requires context { 1 < length store.now.tree }
+{
+    gate.come(rt);
+    let looked = store.get_wait(rt, lane, 1, key);
+    gate.end();
+    looked.ok()
+}
+
+/// Asserts that a lane which sleeps for a claim that was ended without a wake goes on once a
+/// compute is refused that begins so.
+fn refuse_beside<R: Abort + Clock + Threads + Wait + Sync>(
+    rt: &R,
+    store: &Store<Letter>,
+    key: &Key,
+    first: &mut Lane<Letter>,
+    second: &mut Lane<Letter>,
+    begin: Begin,
+)
+    requires first { IsLaneOf store.now.id first.old }
+    requires second { IsLaneOf store.now.id second.old }
+    requires contexts { 2 < length store.now.tree }
+{
+    let gate = &Gate::new(1);
+    let (refused, looked) = join(
+        rt,
+        ||
+            requires { IsLaneOf store.now.id first.now × (2 < length store.now.tree) }
+        {
+            let refused = fill_and_begin(rt, store, first, key, gate, begin);
+            gate.watch(rt);
+            refused
+        },
+        || look_beside(rt, store, second, key, gate),
+    );
+    same(rt, refused, true, "whether the compute is refused");
+    let found = Look::Found { at: 1, number: 1 };
+    same(rt, looked, Some(found), "the look-up");
+}
+
+/// The same in a store of its own.
+fn refused_wakes<R: Abort + Clock + Threads + Wait + Sync>(
+    rt: &R,
+    alloc: Global,
+    begin: Begin,
+) -> Result<(), Fail> {
+    with_pair(
+        rt,
+        alloc,
+        limits(2, false),
+        |rt: &R, store: &Store<Letter>, key: &Key, first: &mut Lane<Letter>, second: &mut Lane<
+            Letter,
+        >|
+            requires first { IsLaneOf store.now.id first.old }
+            requires second { IsLaneOf store.now.id second.old }
+            requires contexts { 2 < length store.now.tree }
+        { refuse_beside(rt, store, key, first, second, begin) },
+    )
+}
+
+/// Tests `Store::begin`, `Store::begin_numbered`, `Store::fill_quietly` and `StoreCore::wake`.
+#[test]
+fn refused_begin_wakes_who_sleeps(rt: HostRuntime) -> Result<(), Fail> {
+    refused_wakes(&rt, rt.alloc(), Begin::Plain)
+}
+
+/// Tests `Store::begin_along`, `Store::fill_quietly` and `StoreCore::wake`.
+#[test]
+fn refused_begin_along_wakes_who_sleeps(rt: HostRuntime) -> Result<(), Fail> {
+    refused_wakes(&rt, rt.alloc(), Begin::Along)
+}
+
+/// Tests `Store::compute_wait`, `StoreCore::claim`, `Store::fill_quietly` and `StoreCore::wake`.
+#[test]
+fn refused_compute_wakes_who_sleeps(rt: HostRuntime) -> Result<(), Fail> {
+    refused_wakes(&rt, rt.alloc(), Begin::Waiting)
 }

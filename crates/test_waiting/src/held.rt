@@ -4,7 +4,7 @@ ghost use Rattle.ext_store.specs.Stores.{IsLaneOf};
 
 use crate::opening::Letter;
 use ext_model::{Fault, Look};
-use ext_store::{Compute, Lane, Store};
+use ext_store::{Compute, KeepFault, Lane, Store};
 use ext_tree::Key;
 use std::fmt::Debug;
 use std::process::Abort;
@@ -17,7 +17,7 @@ use std::time::{Clock, Duration};
 const TURNS: u64 = 20_000;
 
 /// Whether the word came to be this number in time.
-fn reaches(clock: &impl Clock, word: &AtomicU64, number: u64) -> bool {
+pub(crate) fn reaches(clock: &impl Clock, word: &AtomicU64, number: u64) -> bool {
     for _ in 0..TURNS {
         if word.load(Ordering::SeqCst) == number {
             return true;
@@ -58,56 +58,70 @@ fn changes(clock: &impl Clock, word: &AtomicU64, number: u64) -> bool {
     false
 }
 
-/// Looks until another lane has made one call more. Where it has not in time the test fails: it
-/// never hangs.
-pub(crate) fn watch_more<R: Abort + Clock>(rt: &R, calls: &AtomicU64) {
-    let before = calls.load(Ordering::SeqCst);
+/// Looks until another lane, which had made so many calls, has made one more. Where it has not in
+/// time the test fails: it never hangs.
+pub(crate) fn watch_next<R: Abort + Clock>(rt: &R, calls: &AtomicU64, before: u64) {
     let made = changes_at_once(calls, before) || changes(rt, calls, before);
     assert!(rt; made, "a lane is left asleep");
 }
 
-/// Holds a factory from its start until another lane has begun to wait for it.
+/// Looks until another lane has made one call more than now.
+pub(crate) fn watch_more<R: Abort + Clock>(rt: &R, calls: &AtomicU64) {
+    watch_next(rt, calls, calls.load(Ordering::SeqCst));
+}
+
+/// Takes some time.
+pub(crate) fn spin(turns: u64) {
+    let word = AtomicU64::new(0);
+    for _ in 0..turns {
+        word.load(Ordering::SeqCst);
+    }
+}
+
+/// Holds a lane, as in a factory, until so many others have begun to wait for what it ends then.
 #[derive(Drop)]
 pub(crate) struct Gate {
+    waiters: u64,
     runs: AtomicU64,
     begun: AtomicU64,
     ended: AtomicU64,
 }
 
 impl Gate {
-    pub(crate) fn new() -> Gate {
+    pub(crate) fn new(waiters: u64) -> Gate {
         Gate {
+            waiters,
             runs: AtomicU64::new(0),
             begun: AtomicU64::new(0),
             ended: AtomicU64::new(0),
         }
     }
 
-    /// Of the factory: tells that it runs, and ends some time after the other lane began to wait.
-    /// Says whether that one did.
-    fn pass(&self, clock: &impl Clock) -> bool {
+    /// Of the lane that is held: tells that it runs, and ends some time after the others began to
+    /// wait. Says whether those did.
+    pub(crate) fn pass(&self, clock: &impl Clock) -> bool {
         self.runs.store(1, Ordering::SeqCst);
-        let begun = reaches(clock, &self.begun, 1);
+        let begun = reaches(clock, &self.begun, self.waiters);
         sleep(clock, Duration::from_millis(20));
         begun
     }
 
-    /// Of the other lane: comes once the factory runs, and tells that it begins to wait. Says
-    /// whether the factory runs.
+    /// Of another lane: comes once the held one runs, and tells that it begins to wait. Says
+    /// whether that one runs.
     pub(crate) fn come(&self, clock: &impl Clock) -> bool {
         let runs = reaches(clock, &self.runs, 1);
-        self.begun.store(1, Ordering::SeqCst);
+        self.begun.fetch_add(1, Ordering::SeqCst);
         runs
     }
 
-    /// Of the other lane: tells that it was answered.
+    /// Of another lane: tells that it was answered.
     pub(crate) fn end(&self) {
-        self.ended.store(1, Ordering::SeqCst);
+        self.ended.fetch_add(1, Ordering::SeqCst);
     }
 
-    /// Fails the test where the other lane was not answered in time.
+    /// Fails the test where another lane was not answered in time.
     pub(crate) fn watch<R: Abort + Clock>(&self, rt: &R) {
-        watch(rt, &self.ended, 1);
+        watch(rt, &self.ended, self.waiters);
     }
 }
 
@@ -116,40 +130,72 @@ impl Gate {
 pub(crate) enum Ended {
     /// Its value was kept under this number.
     Computed(u32),
+    /// Its value was not kept, since all numbers are drawn.
+    Unkept,
     /// Its factory failed, and nothing is kept.
     Failed,
     /// Its factory's fault was kept under this number.
     FaultKept(u32),
+    /// Its factory's fault was not kept, since all numbers are drawn.
+    FaultUnkept,
     /// It had another answer.
     Otherwise,
 }
 
+impl Ended {
+    fn of<F: Drop>(outcome: Compute<Letter, F>) -> Ended {
+        match outcome {
+            Compute::Computed { number } => Ended::Computed(number),
+            Compute::Unkept {
+                cause: KeepFault::NumbersFull,
+                ..
+            } => Ended::Unkept,
+            Compute::Failed(Fault::Memory) => Ended::Failed,
+            Compute::FaultKept { number } => Ended::FaultKept(number),
+            Compute::FaultUnkept {
+                cause: KeepFault::NumbersFull,
+                ..
+            } => Ended::FaultUnkept,
+            _ => Ended::Otherwise,
+        }
+    }
+
+    /// Whether the factory failed.
+    pub(crate) fn is_failed(self) -> bool {
+        matches!(
+            self,
+            Ended::Failed | Ended::FaultKept(_) | Ended::FaultUnkept
+        )
+    }
+}
+
 /// Computes in the class, by a factory that is held and then fails where it is to; where it does
-/// not pass its gate it does the other of the two.
-pub(crate) fn compute_held<C: Clock>(
-    clock: &C,
+/// not pass its gate it does the other of the two. The compute is by the form that waits, or by the
+/// other one.
+pub(crate) fn compute_held<R: Clock + Wait>(
+    rt: &R,
     store: &Store<Letter>,
     lane: &mut Lane<Letter>,
     key: &Key,
     gate: &Gate,
     fails: bool,
+    waits: bool,
 ) -> Ended
     requires lane { IsLaneOf store.now.id lane.old }
     requires context { 1 < length store.now.tree }
     ensures { IsLaneOf store.now.id lane.new }
 {
     let factory = |_key: &Key| -> Result<Letter, Fault> {
-        if gate.pass(clock) == fails {
+        if gate.pass(rt) == fails {
             Err(Fault::Memory)
         } else {
             Ok(Letter { letter: 'x' })
         }
     };
-    match store.compute(lane, 1, key, factory) {
-        Compute::Computed { number } => Ended::Computed(number),
-        Compute::Failed(Fault::Memory) => Ended::Failed,
-        Compute::FaultKept { number } => Ended::FaultKept(number),
-        _ => Ended::Otherwise,
+    if waits {
+        Ended::of(store.compute_wait(rt, lane, 1, key, factory))
+    } else {
+        Ended::of(store.compute(lane, 1, key, factory))
     }
 }
 

@@ -5,7 +5,7 @@ ghost use Rattle.ext_store.specs.Stores.{IsCloserOf, IsLaneOf};
 
 use crate::closing::close_class;
 use crate::held::same;
-use crate::opening::{Letter, key_of, with_pair, with_store};
+use crate::opening::{Letter, key_of, limits, with_pair, with_store};
 use ext_model::{ContextNo, Fault, Look};
 use ext_store::{Closer, Compute, Lane, Refusal, Store};
 use ext_tree::{Key, Namespace};
@@ -119,8 +119,7 @@ fn close_and_call<R: Abort + Wait>(
 fn waiting_forms_are_closed_to_keys_named_later(rt: HostRuntime) -> Result<(), Fail> {
     with_store(
         rt.alloc(),
-        2,
-        false,
+        limits(2, false),
         |store: &Store<Letter>, key: &Key, lanes: &mut [Lane<Letter>], closers: &mut Vec<Closer>|
             requires lanes { All (IsLaneOf store.now.id) lanes.old }
             requires closers { All (IsCloserOf store.now) closers.old.items }
@@ -187,5 +186,5 @@ fn waiting_forms_refuse_a_key_without_a_number(rt: HostRuntime) -> Result<(), Fa
         requires other { IsLaneOf store.now.id other.old }
         requires contexts { 2 < length store.now.tree }
     { call_full(rt, rt.alloc(), store, a, &late, lane, other) };
-    with_pair(&rt, rt.alloc(), false, work)
+    with_pair(&rt, rt.alloc(), limits(2, false), work)
 }

@@ -3,7 +3,7 @@ ghost use Rattle.std.specs.Prelude.{◌<◌, length};
 ghost use Rattle.ext_store.specs.Stores.{IsLaneOf};
 
 use crate::held::same;
-use crate::opening::{Letter, with_pair};
+use crate::opening::{Letter, limits, with_pair};
 use ext_lane::{LentLane, lend};
 use ext_model::{ContextNo, Fault, Look};
 use ext_store::{Compute, Lane, Refusal, Store};
@@ -84,7 +84,7 @@ fn call_lent<R: Abort + Wait>(
 /// and `LentLane::found_or_made`.
 #[test]
 fn calls_by_a_lent_lane(rt: HostRuntime) -> Result<(), Fail> {
-    with_pair(&rt, rt.alloc(), false, call_lent)
+    with_pair(&rt, rt.alloc(), limits(2, false), call_lent)
 }
 
 /// Calls in context 3, where there are 0, 1 and 2, and has a fault kept in the last of them.
@@ -118,5 +118,5 @@ fn call_nowhere<R: Abort + Wait>(
 /// `LentLane::compute_wait` and `LentLane::show_fault`.
 #[test]
 fn a_context_that_is_not_there_is_closed(rt: HostRuntime) -> Result<(), Fail> {
-    with_pair(&rt, rt.alloc(), true, call_nowhere)
+    with_pair(&rt, rt.alloc(), limits(2, true), call_nowhere)
 }

@@ -1,6 +1,6 @@
 //! Tests of the store's waiting forms: alone, beside a factory that is held, along a path, beside a
-//! claim that is given up, by keys that come late, and of sixteen lanes at once. And tests of
-//! resource locks.
+//! claim that is given up, also just as they begin to wait, by keys that come late, and of sixteen
+//! lanes at once. And tests of the waits below them, and of resource locks.
 //!
 //! `scripts/soak waits` runs those that wait over many more rounds.
 #![tactic(auto)]
@@ -27,3 +27,7 @@ mod lent;
 mod locks;
 #[cfg(test)]
 mod opening;
+#[cfg(test)]
+mod rounds;
+#[cfg(test)]
+mod waiters;

@@ -65,18 +65,22 @@ struct Opened {
     closers: Vec<Closer>,
 }
 
-/// Opens the store of the chain with so many lanes and 65,535 numbers, which keeps faults or not.
-fn open(alloc: Global, lanes: usize, keep_faults: bool) -> Result<Opened, Fail>
-    ensures lanes { IfOk result (λ o. All (IsLaneOf o.store.id) o.lanes.items) }
-    ensures closers { IfOk result (λ o. All (IsCloserOf o.store) o.closers.items) }
-    ensures contexts { IfOk result (λ o. 2 < length o.store.tree) }
-{
-    let limits = Limits {
+/// The limits of a store with so many lanes and 65,535 numbers, which keeps faults or not.
+pub(crate) fn limits(lanes: usize, keep_faults: bool) -> Limits {
+    Limits {
         // Many lanes are to be in each other's way.
         tries: if lanes == 16 { 1 } else { 8 },
         keep_faults,
         ..Limits::new(lanes)
-    };
+    }
+}
+
+/// Opens the store of the chain.
+fn open(alloc: Global, limits: Limits) -> Result<Opened, Fail>
+    ensures lanes { IfOk result (λ o. All (IsLaneOf o.store.id) o.lanes.items) }
+    ensures closers { IfOk result (λ o. All (IsCloserOf o.store) o.closers.items) }
+    ensures contexts { IfOk result (λ o. 2 < length o.store.tree) }
+{
     let tree = contexts(alloc)?;
     let (store, lanes, closers) = Store::open(alloc, tree, limits)?;
     Ok(Opened {
@@ -107,11 +111,10 @@ fn lend<W: FnOnce(&Store<Letter>, &Key, &mut [Lane<Letter>], &mut Vec<Closer>)>(
     );
 }
 
-/// Opens the store of the chain with so many lanes, and does the work with its parts.
+/// Opens the store of the chain, and does the work with its parts.
 fn with_opened<W: FnOnce(&Store<Letter>, &Key, &mut [Lane<Letter>], &mut Vec<Closer>)>(
     alloc: Global,
-    lanes: usize,
-    keep_faults: bool,
+    limits: Limits,
     key: &Key,
     work: W,
 ) -> Result<(), Fail>
@@ -119,17 +122,16 @@ fn with_opened<W: FnOnce(&Store<Letter>, &Key, &mut [Lane<Letter>], &mut Vec<Clo
         → All (IsLaneOf store.now.id) lanes.now → All (IsCloserOf store.now) closers.now.items → 2 < length store.now.tree
         → W.pre work store key lanes closers }
 {
-    let mut opened = open(alloc, lanes, keep_faults)?;
+    let mut opened = open(alloc, limits)?;
     lend(&mut opened, key, work);
     Ok(())
 }
 
-/// Opens the store of the chain with so many lanes, which keeps faults or not, and does the work
-/// with it: with the store, the key a, the lanes, and the closers of the contexts 0, 1 and 2.
+/// Opens the store of the chain with these limits, and does the work with it: with the store, the
+/// key a, the lanes, and the closers of the contexts 0, 1 and 2.
 pub(crate) fn with_store<W: FnOnce(&Store<Letter>, &Key, &mut [Lane<Letter>], &mut Vec<Closer>)>(
     alloc: Global,
-    lanes: usize,
-    keep_faults: bool,
+    limits: Limits,
     work: W,
 ) -> Result<(), Fail>
     requires { (store : Bor StoreView) (key : _) (lanes : MutBor (List (StoreLane Letter))) (closers : _)
@@ -137,7 +139,7 @@ pub(crate) fn with_store<W: FnOnce(&Store<Letter>, &Key, &mut [Lane<Letter>], &m
         → W.pre work store key lanes closers }
 {
     let key = key_of(alloc, "a")?;
-    with_opened(alloc, lanes, keep_faults, &key, work)
+    with_opened(alloc, limits, &key, work)
 }
 
 /// Does the work with two lanes in hand.
@@ -159,11 +161,11 @@ fn with_both<R: Abort, W: FnOnce(&R, &Store<Letter>, &Key, &mut Lane<Letter>, &m
     work(rt, store, key, first, second);
 }
 
-/// As `with_store`, with two lanes in hand.
+/// As `with_store`, with the two lanes that there are in hand.
 pub(crate) fn with_pair<
     R: Abort,
     W: FnOnce(&R, &Store<Letter>, &Key, &mut Lane<Letter>, &mut Lane<Letter>),
->(rt: &R, alloc: Global, keep_faults: bool, work: W) -> Result<(), Fail>
+>(rt: &R, alloc: Global, limits: Limits, work: W) -> Result<(), Fail>
     requires { (store : Bor StoreView) (key : _) (first second : MutBor (StoreLane Letter))
         → IsLaneOf store.now.id first.now → IsLaneOf store.now.id second.now → 2 < length store.now.tree
         → W.pre work rt store key first second }
@@ -171,5 +173,5 @@ pub(crate) fn with_pair<
     let work_on = |store: &Store<Letter>, key: &Key, lanes: &mut [Lane<Letter>], _closers: &mut Vec<
         Closer,
     >| { with_both(rt, store, key, lanes, work) };
-    with_store(alloc, 2, keep_faults, work_on)
+    with_store(alloc, limits, work_on)
 }
