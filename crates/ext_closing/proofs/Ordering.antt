@@ -55,7 +55,10 @@ module _ (store : StoreView) (context : ℕ) where
       record {
         alone = begun.done.alone + rest.alone;
         sealed = subst (λ n. SealsBlocks store context n (begun.done.alone + rest.alone) before after) (sym (add-one block)) (
-          begun.between, begun.done.alone, rest.alone, begun.done.sealed,
+          begun.between,
+          begun.done.alone,
+          rest.alone,
+          begun.done.sealed,
           record { marks = marks; between = between; unused = begun.unused; step = begun.step; places = rest.places; few = rest.few; marked = rest.marked },
           refl,
         );
