@@ -1,6 +1,7 @@
-"""Compares the picture of docs/ARCHITECTURE.md with crates.txt: each crate stands in it once, and each library above all crates that it names.
+"""Compares the two pictures of docs/ARCHITECTURE.md with crates.txt: each crate stands in them once, and each library above all crates that it names. The second
+picture, of the plans, stands on the first.
 
-A line of the picture that begins with two spaces begins with a crate, and one that begins with none is the name of a group; below 'Examples', 'Tests' and 'Tools' a crate
+A line of a picture that begins with two spaces begins with a crate, and one that begins with none is the name of a group; below 'Examples', 'Tests' and 'Tools' a crate
 names those that it calls.
 """
 import pathlib
@@ -10,17 +11,22 @@ TOP = pathlib.Path(__file__).resolve().parent.parent.parent
 ABOVE_ALL = ["Examples", "Tests", "Tools"]
 
 
-def picture():
-    """The crates of the picture in its order, each with the name of its group."""
-    text = (TOP / "docs" / "ARCHITECTURE.md").read_text(encoding="utf-8")
+def crates_in(drawn):
+    """The crates of a picture in its order, each with the name of its group."""
     group, crates = None, []
-    for line in text.split("```")[1].splitlines():
+    for line in drawn.splitlines():
         found = re.match(r"(  )?(\S[^ ]*)", line)
         if found and found[1]:
             crates.append((found[2], group))
         elif found:
             group = line
     return crates
+
+
+def pictures():
+    """The crates of the first picture and those of the second."""
+    text = (TOP / "docs" / "ARCHITECTURE.md").read_text(encoding="utf-8")
+    return [crates_in(it) for it in text.split("```")[1:4:2]]
 
 
 def needs():
@@ -31,7 +37,8 @@ def needs():
 
 
 def main(_program, _words):
-    shown, named = picture(), needs()
+    store, plans = pictures()
+    shown, named = plans + store, needs()
     order = [it for it, _ in shown]
     wrong = [f"the picture has {it} {order.count(it)} times" for it in sorted(set(order) | set(named)) if order.count(it) != 1 or it not in named]
     for crate, group in shown:
