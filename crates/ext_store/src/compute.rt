@@ -239,7 +239,7 @@ impl<V: StoreValue + Drop> Store<V> {
         ensures apart { IfComputed result (λ number. (m : ℕ) → IsKeptBy lane.old m → m ≢ number) }
         ensures keys { lane.new.keys ≡ lane.old.keys }
     {
-        let path = self.shared.tree().path(context);
+        let path = self.tree().path(context);
         self.compute_along_wait_named(rt, lane, path.as_slice(), key, name, factory)
     }
 
