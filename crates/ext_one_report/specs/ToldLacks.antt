@@ -13,8 +13,8 @@ use Rattle.ext_plain.specs.PlainRun.{plain_run}
 use Rattle.ext_one_report.specs.FullRuns.{LacksNothing}
 use Rattle.ext_races.specs.OneReports.{HasOneReport}
 
--- If no result shows that a step may have lacked something, the run lacks nothing. A call or a close that lacks
--- something fails its node, whose result shows that, or shows an earlier fault and that there are more.
+-- If no result tells of a lack, the run lacks nothing. A call or a close that lacks something says so in its fault, and
+-- a node's result tells whether one of all its faults does.
 abbrev pub TellsLacks : Type 0
 TellsLacks =
     (plan : PlanText) (lanes : ℕ) (results : List (ResultOf Fault)) → IsReadPlan plan
