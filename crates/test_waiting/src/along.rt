@@ -156,9 +156,7 @@ fn answers<R: Abort + Clock + Threads + Wait + Sync>(
         },
         ||
             requires { IsLaneOf store.now.id second.now × (0 < length store.now.tree) }
-        {
-            call_beside(rt, store, second, key, held, waits)
-        },
+        { call_beside(rt, store, second, key, held, waits) },
     )
 }
 
@@ -240,5 +238,12 @@ fn compute_along_a_path_waits_for_a_factory_whose_fault_is_kept(
     rt: HostRuntime,
 ) -> Result<(), Fail> {
     let met = Answer::FaultStands(1, 1);
-    beside(&rt, rt.alloc(), true, Call::Compute, Ended::FaultKept(1), met)
+    beside(
+        &rt,
+        rt.alloc(),
+        true,
+        Call::Compute,
+        Ended::FaultKept(1),
+        met,
+    )
 }
