@@ -2,7 +2,7 @@ use Rattle.std.proofs.Common.{◌≡◌, refl, subst}
 use Rattle.std.proofs.Math.ListN.{set}
 use Rattle.ext_closing.specs.Closing.{ClosesNumbers}
 use Rattle.ext_closing.proofs.Calling.{closes_none}
-use Rattle.ext_closing.proofs.InHand.{first_begun, first_ends, first_order, none_left, only_first, still_kept, still_own}
+use Rattle.ext_closing.proofs.InHand.{first_begun, first_ends, first_order, keeps_on, none_left, only_first, still_kept, still_own}
 use Rattle.ext_closing.proofs.closing.close.Goals as goal
 
 -- ---- nobody used the context
@@ -90,3 +90,15 @@ returns-else-key_count-le64-clause-in_order g c =
     (first_begun c.args.lanes.now left c.first_marked.new.lane first same some c.args.store.now c.args.closer.context c.in-Some.marked after.marked
     (only_first c.args.lanes.now left c.first_marked.new.lane first same some after.known after.faults after.keys)
     (still_kept c.args.lanes.now left c.first_marked.new.lane first same some after.kept))
+
+pub returns-then-key_count-le64-clause-kept : goal.returns-then-key_count-le64-clause-kept
+returns-then-key_count-le64-clause-kept g c =
+    let left = set c.args.lanes.now 0 c.first_marked.new.lane in
+    keeps_on c.args.lanes.now left c.close_from.new.lanes
+    (still_kept c.args.lanes.now left c.first_marked.new.lane c.index-lanes-first.result refl c.requires.lanes c.in-Some.ensures.kept) c.close_from.ensures.kept
+
+pub returns-else-key_count-le64-clause-kept : goal.returns-else-key_count-le64-clause-kept
+returns-else-key_count-le64-clause-kept g c =
+    let left = set c.args.lanes.now 0 c.first_marked.new.lane in
+    keeps_on c.args.lanes.now left c.close_from-else-key_count-le64.new.lanes
+    (still_kept c.args.lanes.now left c.first_marked.new.lane c.index-lanes-first.result refl c.requires.lanes c.in-Some.ensures.kept) c.close_from-else-key_count-le64.ensures.kept
