@@ -1,5 +1,5 @@
 -- In which order the keys of a context are sealed, and how many by calls of their own.
-use Rattle.std.proofs.Common.{◌≡◌, ◌≤◌, inl, inr, ℕ, zero, suc, ◌+◌, ◌*◌, length, refl, sym, subst, arith, Option, add-one}
+use Rattle.std.proofs.Common.{◌≡◌, ◌≤◌, inl, inr, ℕ, ◌+◌, ◌*◌, length, refl, sym, subst, arith, Option, add-one}
 use Rattle.std.specs.Prelude.{Result, Ok, Err}
 use Rattle.std.specs.Int.{bit_at}
 use Rattle.std.proofs.Math.Nat.{add-mul}
@@ -55,7 +55,10 @@ module _ (store : StoreView) (context : ℕ) where
       record {
         alone = begun.done.alone + rest.alone;
         sealed = subst (λ n. SealsBlocks store context n (begun.done.alone + rest.alone) before after) (sym (add-one block)) (
-          begun.between, begun.done.alone, rest.alone, begun.done.sealed,
+          begun.between,
+          begun.done.alone,
+          rest.alone,
+          begun.done.sealed,
           record { marks = marks; between = between; unused = begun.unused; step = begun.step; places = rest.places; few = rest.few; marked = rest.marked },
           refl,
         );
