@@ -40,8 +40,18 @@ fn ends_mark_cells_that_had_an_event(rt: HostRuntime) {
     let (cells, mut lane, _second) = open(&rt, rt.alloc(), 32, 1);
     go(&rt, &cells, &mut lane, 3, Call::Puts(1, Ok(None)));
     go(&rt, &cells, &mut lane, 4, Call::Removes(Ok(None)));
-    same(&rt, cells.end_block(&mut lane, 0), 8, "the marks at the first end");
-    same(&rt, cells.end_block(&mut lane, 0), 8, "the marks at the second end");
+    same(
+        &rt,
+        cells.end_block(&mut lane, 0),
+        8,
+        "the marks at the first end",
+    );
+    same(
+        &rt,
+        cells.end_block(&mut lane, 0),
+        8,
+        "the marks at the second end",
+    );
 }
 
 /// Tests `Cells::fill`, `Cells::fail` and `Cells::abandon`.
