@@ -4,7 +4,7 @@ ghost use Rattle.std.specs.Prelude.{◌<◌, length};
 ghost use Rattle.ext_store.specs.Stores.{IsLaneOf};
 
 use crate::held::{Ended, Gate, compute_held, same};
-use crate::opening::{Letter, with_pair};
+use crate::opening::{Letter, limits, with_pair};
 use ext_model::{ContextNo, Fault, KeyNo, Look};
 use ext_store::{Compute, Lane, Store};
 use ext_tree::Key;
@@ -143,14 +143,14 @@ fn answers<R: Abort + Clock + Threads + Wait + Sync>(
     requires second { IsLaneOf store.now.id second.old }
     requires contexts { 2 < length store.now.tree }
 {
-    let gate = Gate::new();
+    let gate = Gate::new(1);
     let held = &gate;
     join(
         rt,
         ||
             requires { IsLaneOf store.now.id first.now × (1 < length store.now.tree) }
         {
-            let ended = compute_held(rt, store, first, key, held, fails);
+            let ended = compute_held(rt, store, first, key, held, fails, false);
             held.watch(rt);
             ended
         },
@@ -170,11 +170,11 @@ fn beside<R: Abort + Clock + Threads + Wait + Sync>(
     ended: Ended,
     wanted: Answer,
 ) -> Result<(), Fail> {
-    let fails = !matches!(ended, Ended::Computed(_));
+    let fails = ended.is_failed();
     with_pair(
         rt,
         alloc,
-        keep_faults,
+        limits(2, keep_faults),
         |rt: &R, store: &Store<Letter>, key: &Key, first: &mut Lane<Letter>, second: &mut Lane<
             Letter,
         >|
