@@ -150,5 +150,16 @@ fn call_beside<R: Abort + Clock + Threads + Wait + Sync>(
 /// `Store::abandon`, `Waiting::pause` and `Waiters::wake_all`.
 #[test]
 fn lane_tries_once_more_before_it_sleeps(rt: HostRuntime) -> Result<(), Fail> {
-    with_pair(&rt, rt.alloc(), limits(2, false), call_beside)
+    with_pair(
+        &rt,
+        rt.alloc(),
+        limits(2, false),
+        |rt: &HostRuntime, store: &Store<Letter>, key: &Key, first: &mut Lane<
+            Letter,
+        >, second: &mut Lane<Letter>|
+            requires first { IsLaneOf store.now.id first.old }
+            requires second { IsLaneOf store.now.id second.old }
+            requires contexts { 2 < length store.now.tree }
+        { call_beside(rt, store, key, first, second) },
+    )
 }
