@@ -2,12 +2,12 @@
 ghost use Rattle.std.specs.Prelude.{◌<◌, All, length};
 ghost use Rattle.ext_store.specs.Stores.{IsCloserOf, IsLaneOf};
 
+use crate::Log;
 use crate::asked::{key, same, with_made};
 use crate::chain::{Call, Told, rows_by_last_lanes};
 use crate::opening::{Letter, Opened, closeable, contexts, open_store, plain};
 use crate::wide::{engine_ids, lanes_and_closers};
-use crate::{Log, close_logged};
-use ext_closing::CloseFault;
+use ext_closing::{CloseFault, close};
 use ext_model::{ContextNo, Look, Size};
 use ext_store::{Closer, Lane, Limits, Store, StoreFault};
 use ext_tree::{Key, Tree};
@@ -198,7 +198,7 @@ fn closes_one<R: Abort>(
     let mut log = Log {
         numbers: Vec::new(alloc),
     };
-    let Ok(closed) = close_logged(store, closer, slice::from_mut(lane), &mut log) else {
+    let Ok(closed) = close(store, closer, slice::from_mut(lane), &mut log) else {
         panic!(rt; "not closed");
     };
     assert!(rt; closed.closed == 1 && log.numbers.as_slice() == [number].as_slice());
