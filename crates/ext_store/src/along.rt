@@ -138,8 +138,8 @@ impl<V: StoreValue + Drop> Store<V> {
     /// Computes as `compute_wait_numbered` does, but for the first context of the path, with the
     /// others as its ancestors. The path is as for `get_along`. It tries again until neither a
     /// running factory nor other lanes are in the way. While a running factory decides a look-up
-    /// or the claim, it sleeps until a claim has ended, and holds no claim meanwhile. The factory
-    /// is called at most once, with the key that stands in the place of this number. The number
+    /// or the claim, it takes a processor, as `compute_wait` does, and holds no claim between two
+    /// attempts. The factory is called at most once, with the key that stands in the place of this number. The number
     /// must be below `key_count`, and the lane must know its key, which `Lane::knows_key` tests.
     /// Takes memory for the value. It may wait.
     ///

@@ -143,9 +143,10 @@ impl<V: StoreValue + Drop> Store<V> {
     }
 
     /// Computes as `compute` does, and tries again until neither a running factory nor other lanes
-    /// are in the way. While a running factory decides a look-up or the claim, it sleeps until a
-    /// claim has ended, and begins anew. Where other lanes were in the way it begins anew at once,
-    /// or draws again if its own factory has run. So neither it nor its value is ever refused as
+    /// are in the way. While a running factory decides a look-up or the claim, it begins anew again
+    /// and again: it takes a processor meanwhile, since each attempt in vain wakes all who sleep,
+    /// its own lane too. Where other lanes were in the way it begins anew, or draws again if its own
+    /// factory has run. So neither it nor its value is ever refused as
     /// `Busy` or `Contended`; otherwise it answers as `compute` does. It may wait.
     ///
     /// Before its last attempt it may claim the context's cell and give it up several times, each

@@ -29,7 +29,8 @@
 //! way. Call them only if no lane of the store ever waits.
 //!
 //! Each cell is a word of its own, and only the waiting forms (`get_wait` and the others) wait for
-//! another lane: where a factory is in the way, they sleep until a claim has ended, and try again.
+//! another lane: where a factory is in the way, they sleep until a claim has ended, and try again;
+//! but a compute that waits is woken by its own attempts, so that it takes a processor.
 //!
 //! Javadoc `ExtensionContext.Store`; JUnit 5 User Guide, section "Keeping State in Extensions".
 //! Numbers, lanes, claims, closers, refusals and limits are own rules.

@@ -173,8 +173,8 @@ impl StoreCore {
     }
 
     /// Claims the cell as `claim` does, and tries again until neither a running factory nor other
-    /// lanes are in the way. While a running factory decides a look-up or the claim, it sleeps
-    /// until a claim has ended. So it is never refused as `Busy` or `Contended`, and otherwise as
+    /// lanes are in the way. While a running factory decides a look-up or the claim, it tries again
+    /// and again: each attempt in vain wakes all who sleep, its own lane too. So it is never refused as `Busy` or `Contended`, and otherwise as
     /// `claim` is. Where it meets a factory in an ancestor, it gives its own claim up before it
     /// waits. Before its last attempt it gives no claim up except for that or for other lanes in
     /// the way. It may wait.
