@@ -80,7 +80,7 @@ impl<'a> Suite<Shared> for DemoSuite<'a> {
         }
     }
 
-    ghost may_disable = { λ suite node. Unit {0} };
+    ghost enabled_gives = { λ suite node answer. Unit {0} };
 
     /// Of the rows in reserve as many are run as payments were made, which is known once the audit begins.
     fn is_enabled(&self, node: ContextNo) -> bool {

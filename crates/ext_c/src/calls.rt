@@ -138,7 +138,7 @@ impl Seat {
         }
     }
 
-    // `Store::fail_quietly`, for a claim that the seat no longer has.
+    // `Store::fail_decided_quietly`, for a claim that the seat no longer has.
     pub(crate) fn fail_claim(&mut self, claim: Claim, fault: Fault) -> Result<u32, KeepFault>
         requires faults { IsTrue (store_of self.old).id.cells.limits.keep_faults }
         requires idle { self.old.claim ≡ None }
@@ -153,7 +153,7 @@ impl Seat {
         ensures decided { IfErr result IsDecidedFault }
     {
         let shared: &Store<Handle> = &self.store;
-        match shared.fail_quietly(&mut self.lane, claim, fault) {
+        match shared.fail_decided_quietly(&mut self.lane, claim, fault) {
             Ok(number) => Ok(number),
             Err((_, why)) => Err(why),
         }

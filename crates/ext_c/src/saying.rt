@@ -98,7 +98,7 @@ impl Seat {
             return Code::NoClaim;
         };
         let shared: &Store<Handle> = &self.store;
-        match shared.fill_quietly(&mut self.lane, claim, handle) {
+        match shared.fill_decided_quietly(&mut self.lane, claim, handle) {
             Ok(own) => {
                 *number = own;
                 Code::Done

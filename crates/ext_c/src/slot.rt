@@ -43,7 +43,7 @@ impl ExtSlot {
         ensures seat { self.new.lane.seat ≡ Some seat.value }
         ensures legal { SeesLegal seat.value }
     {
-        seat.lane.recall();
+        seat.lane.tell_proof();
         *self = ExtSlot {
             state: 1,
             lane: ExtLane::of(BoxPointer::of(seat)),

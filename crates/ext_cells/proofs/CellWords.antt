@@ -20,7 +20,7 @@ use Rattle.ext_model.proofs.Claims.{claim_can_end, can_be_sealed}
 use Rattle.ext_model.proofs.Words.{after-push, word-event, drawn-push}
 use Rattle.ext_cells.specs.declared.cell_state.CellState.TheVariants.{Sealed}
 use Rattle.ext_cells.specs.WordChanges.{code}
-use Rattle.ext_rows.specs.Steps.{IsWordAt}
+use Rattle.ext_cells.specs.InnerTableSteps.{IsWordAt}
 use Rattle.ext_cells.specs.InnerDeciding.{state_of, IsNumbered, IsCellWord}
 
 -- ---- a number that stands is not 0

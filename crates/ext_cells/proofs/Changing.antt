@@ -22,7 +22,7 @@ use Rattle.ext_cells.specs.Lanes.{Lane}
 use Rattle.ext_cells.specs.CellCalls.{result_of, change_reply}
 use Rattle.ext_cells.specs.InnerDeciding.{IsCellWord, IsChange, reply_on, Decides}
 use Rattle.ext_cells.specs.InnerSteps.{Finds, MayGoOn, IsChangeOf, answer_to, idle_reply, Changes}
-use Rattle.ext_rows.specs.Steps.{place_in}
+use Rattle.ext_cells.specs.InnerTableSteps.{place_in}
 use Rattle.ext_cells.proofs.CellWords.{cell_word, word_after}
 use Rattle.ext_cells.proofs.Tries.{TriesOn, answered, made, goes_on, seen_on}
 

@@ -21,7 +21,7 @@ use Rattle.ext_cells.specs.declared.refusal.CellRefusal.{CellRefusal}
 use Rattle.ext_cells.specs.WordChanges.{word_with, next_word, Suits}
 use Rattle.ext_cells.specs.Lanes.{CellsId, Lane}
 use Rattle.ext_cells.specs.CellCalls.{Answers, EndsClaim, IfWon, number_acts, number_reply}
-use Rattle.ext_rows.specs.Steps.{IsWordAt}
+use Rattle.ext_cells.specs.InnerTableSteps.{IsWordAt}
 use Rattle.ext_cells.specs.InnerDeciding.{IsCellWord}
 use Rattle.ext_cells.specs.InnerSteps.{Finds, MayGoOn, IsEndOf}
 use Rattle.ext_cells.proofs.CellWords.{cell_word, word_after}

@@ -3,15 +3,15 @@ use Rattle.std.proofs.Common.{◌≡◌, ◌<◌, ℕ, zero, suc, ◌+◌, List,
 use Rattle.atomic_table.specs.Seated.{TableId}
 use Rattle.ext_model.specs.History.{IsAllowed}
 use Rattle.ext_history.proofs.Legal.{legal_empty}
-use Rattle.ext_rows.specs.declared.limits.CellLimits.{CellLimits}
-use Rattle.ext_rows.specs.declared.view.View.{View}
+use Rattle.ext_cells.specs.declared.limits.CellLimits.{CellLimits}
+use Rattle.ext_cells.specs.declared.view.View.{View}
 use Rattle.ext_cells.specs.Lanes.{CellsId, Lane, fresh_lane, fresh_lanes}
-use Rattle.ext_rows.specs.Views.{limits_of, born}
+use Rattle.ext_cells.specs.InnerViews.{limits_of, born}
 use Rattle.ext_cells.proofs.Lanes.{lane_of, IsLaneView}
 
 -- the first lane, which has given out the numbers below k
 abbrev pub giver : CellLimits → ℕ → View
-giver limits k = record { limits = limits; lane = Some 0; given = Some k; fronts = []; told = []; placed = []; row = 0; least = 0 }
+giver limits k = record { limits = limits; lane = Some 0; given = Some k; fronts = []; told = []; placed = []; block = 0; least = 0 }
 
 lanes_next : (id : CellsId) (k m : ℕ) → fresh_lanes id k (suc m) ≡ fresh_lanes id k m ++ fresh_lane id (k + m) ∷ []
 lanes_next id k zero = let e : k ≡ k + 0 = omega arith in ap (λ n. fresh_lane id n ∷ []) e

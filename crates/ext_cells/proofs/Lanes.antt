@@ -8,10 +8,10 @@ use Rattle.ext_history.specs.Histories.{seen, Follow}
 use Rattle.ext_history.proofs.Legal.{legal_push}
 use Rattle.ext_history.proofs.Fronts.{last_append, follow_append}
 use base.Growing.{prefix_trans}
-use Rattle.ext_rows.specs.declared.view.View.{View}
+use Rattle.ext_cells.specs.declared.view.View.{View}
 use Rattle.ext_cells.specs.Lanes.{Lane}
-use Rattle.ext_rows.specs.Views.{limits_of, knowing, shown}
-use Rattle.ext_rows.specs.Steps.{place_in, FoundBy, MayExchange}
+use Rattle.ext_cells.specs.InnerViews.{limits_of, knowing, shown}
+use Rattle.ext_cells.specs.InnerTableSteps.{place_in, FoundBy, MayExchange}
 use Rattle.ext_cells.specs.InnerSteps.{IsShown, Found, Made, stepped, Finds, MayGoOn}
 
 abbrev pub lane_of : TableId → View → ℕ → Lane
@@ -28,7 +28,7 @@ stays_lane v w h number inv legal begins e =
     (inv.0, subst (IsLegal (limits_of v.limits)) (sym (last_append [] v.fronts (h ∷ []))) legal, follow_append [] v.fronts (h ∷ []) inv.2 (begins, tt), inv.3)
 
 pub steps_stay : (v w : View) (h : History) (number : ℕ) → IsLaneView v number → IsLegal (limits_of v.limits) h → IsPrefix (seen v.fronts) h → IsShown v w h → IsLaneView w number
-steps_stay v w h number inv legal begins e = stays_lane (knowing v e.placed e.row e.least) w h number inv legal begins e.is
+steps_stay v w h number inv legal begins e = stays_lane (knowing v e.placed e.block e.least) w h number inv legal begins e.is
 
 finds_of : (v : View) (number place word : ℕ) (h : History) → v.lane ≡ Some number → FoundBy v place word h → Finds (limits_of v.limits) (record { number = number; fronts = v.fronts }) place word h
 finds_of v number place word h mine f = record {

@@ -7,10 +7,10 @@ use Rattle.ext_history.specs.Histories.{seen, call_fronts}
 use Rattle.ext_model.specs.CallActs.{LaneView, Calls}
 use Rattle.ext_history.proofs.Fronts.{last_append, moved_once}
 use Rattle.ext_history.proofs.Single.{step_calls}
-use Rattle.ext_rows.specs.declared.view.View.{View}
+use Rattle.ext_cells.specs.declared.view.View.{View}
 use Rattle.ext_cells.specs.Lanes.{Lane}
-use Rattle.ext_rows.specs.Views.{limits_of, shown, note, noted}
-use Rattle.ext_rows.specs.Steps.{FoundBy}
+use Rattle.ext_cells.specs.InnerViews.{limits_of, shown, note, noted}
+use Rattle.ext_cells.specs.InnerTableSteps.{FoundBy}
 use Rattle.ext_cells.proofs.Lanes.{IsLaneView, lane_of, stays_lane}
 
 -- v is the lane's view, n the note, u the view with the note, and w the view after the step

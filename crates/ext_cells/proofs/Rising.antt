@@ -8,7 +8,7 @@ use Rattle.ext_model.specs.State.{State}
 use Rattle.ext_model.specs.History.{History, Limits, state_after, version_of}
 use Rattle.ext_model.proofs.Versions.{after-append, same_word, version-append}
 use Rattle.ext_cells.specs.CellCalls.{changes_at}
-use Rattle.ext_rows.specs.Steps.{IsWordAt}
+use Rattle.ext_cells.specs.InnerTableSteps.{IsWordAt}
 
 -- from one history to another at least so many events changed the word at a place
 pub record Rises (limits : Limits) (f g : History) (place count : ℕ) : Type 0 where

@@ -12,7 +12,7 @@ use Rattle.ext_history.proofs.Composed.{same_number, seen_goes_on, first_is_seen
 use Rattle.ext_model.proofs.Composed.{calls_compose, later_answers}
 use Rattle.ext_history.proofs.Single.{step_calls, event_calls, event_holds}
 use Rattle.ext_cells.specs.Lanes.{CellsId, Lane}
-use Rattle.ext_rows.specs.Steps.{IsWordAt}
+use Rattle.ext_cells.specs.InnerTableSteps.{IsWordAt}
 use Rattle.ext_cells.specs.InnerSteps.{stepped, Finds}
 use Rattle.ext_cells.proofs.CellWords.{one_word}
 use Rattle.ext_cells.proofs.Rising.{Rises, no_rise, one_rise}

@@ -22,7 +22,7 @@ use Rattle.ext_cells.specs.declared.nearest.Nearest.{Nearest}
 use Rattle.ext_cells.specs.declared.standing.Standing.{Standing}
 use Rattle.ext_cells.specs.declared.standing.Standing.TheVariants as standing
 use Rattle.std.specs.Int.{bit_at}
-use Rattle.ext_rows.specs.Standings.{MayEnd}
+use Rattle.ext_cells.specs.Standings.{MayEnd}
 use Rattle.ext_cells.specs.Lanes.{Lane}
 
 -- ---- what one thread is answered

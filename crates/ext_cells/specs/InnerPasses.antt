@@ -14,7 +14,7 @@ use Rattle.ext_cells.specs.declared.standing.Standing.{Standing}
 use Rattle.ext_cells.specs.WordChanges.{version_in, IsEmptyWord}
 use Rattle.ext_cells.specs.CellCalls.{standing_of}
 use Rattle.ext_cells.specs.InnerSteps.{Finds}
-use Rattle.ext_rows.specs.Marks.{bits_of}
+use Rattle.ext_cells.specs.InnerMarks.{bits_of}
 
 -- Each word is its cell's at the front with which it was read.
 abbrev pub EachRead : List ℕ → List ℕ → List History → Type 0

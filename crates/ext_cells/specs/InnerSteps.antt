@@ -14,11 +14,11 @@ use Rattle.ext_cells.specs.declared.stood.Stood.{Stood}
 use Rattle.ext_cells.specs.declared.stood.Stood.TheVariants.{Nothing, Value, Fault}
 use Rattle.ext_cells.specs.Lanes.{Lane}
 use Rattle.ext_cells.specs.CellCalls.{change_reply}
-use Rattle.ext_rows.specs.declared.view.View.{View}
-use Rattle.ext_rows.specs.Views.{limits_of, knowing, shown}
-use Rattle.ext_rows.specs.Steps.{FoundBy}
-use Rattle.ext_rows.specs.Marks.{marks}
-use Rattle.ext_rows.specs.Steps.{IsWordAt}
+use Rattle.ext_cells.specs.declared.view.View.{View}
+use Rattle.ext_cells.specs.InnerViews.{limits_of, knowing, shown}
+use Rattle.ext_cells.specs.InnerTableSteps.{FoundBy}
+use Rattle.ext_cells.specs.InnerMarks.{marks}
+use Rattle.ext_cells.specs.InnerTableSteps.{IsWordAt}
 
 -- ---- single steps
 
@@ -32,9 +32,9 @@ pub record IsTable (words of_table : ℕ) (v : View) (cells : ℕ) : Type 0 wher
 -- the view after steps of which the last left this history, and the others showed none
 pub record IsShown (v after : View) (h : History) : Type 0 where
   pub placed : List (ℕ × ℕ)
-  pub row : ℕ
+  pub block : ℕ
   pub least : ℕ
-  pub is : after ≡ shown (knowing v placed row least) h
+  pub is : after ≡ shown (knowing v placed block least) h
 
 -- these steps found the word
 abbrev pub Found : View → View → ℕ → ℕ → Type 0
@@ -49,9 +49,9 @@ Made v after place word act =
 -- these steps showed no history, and led to the cell
 pub record IsMarked (v after : View) (cell : ℕ) : Type 0 where
   pub placed : List (ℕ × ℕ)
-  pub row : ℕ
+  pub block : ℕ
   pub least : ℕ
-  pub is : after ≡ knowing v placed row least
+  pub is : after ≡ knowing v placed block least
   pub there : Contains placed (cell, cell)
 
 -- ---- steps of a lane

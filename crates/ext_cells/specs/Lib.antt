@@ -1,3 +1,9 @@
+pub mod Standings
+pub mod InnerLayouts
+pub mod InnerViews
+pub mod InnerRule
+pub mod InnerTableSteps
+pub mod InnerMarks
 pub mod WordChanges
 pub mod Lanes
 pub mod CellCalls

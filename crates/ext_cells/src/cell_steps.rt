@@ -4,21 +4,21 @@ ghost use mathlib.Core.Option.{some, none};
 ghost use Rattle.atomic_table.specs.Table.{step};
 ghost use Rattle.ext_model.specs.History.{History};
 ghost use Rattle.ext_history.specs.Histories.{seen};
-ghost use Rattle.ext_rows.specs.Standings.{ended_word};
-ghost use Rattle.ext_rows.specs.Views.{limits_of, shown, note, noted};
-ghost use Rattle.ext_rows.specs.Steps.{IsWordAt, IsKnown, FoundBy, MayExchange, Exchanged, EndedBy};
-ghost use Rattle.ext_rows.specs.Marks.{marks, row_place as row_place_of, bits_of as bits_of_cell};
+ghost use Rattle.ext_cells.specs.Standings.{ended_word};
+ghost use Rattle.ext_cells.specs.InnerViews.{limits_of, shown, note, noted};
+ghost use Rattle.ext_cells.specs.InnerTableSteps.{IsWordAt, IsKnown, FoundBy, MayExchange, Exchanged, EndedBy};
+ghost use Rattle.ext_cells.specs.InnerMarks.{marks, block_place as block_place_of, bits_of as bits_of_cell};
 ghost use Rattle.ext_cells.specs.InnerSteps.{IsTable, IsMarked, Found, Made};
 
+use crate::marks::{
+    END, ENDED_WORD, bits_of, block_place, has_mark, is_ended, is_marked, is_open, with_mark,
+};
 use crate::rule::{Aim, CellTable, End, Exchange, LaneSeat, Lead, Load, Note, Place, Seek};
 use ext_model::{Act, CellNo};
-use ext_rows::{
-    END, ENDED_WORD, bits_of, has_mark, is_ended, is_marked, is_open, row_place, with_mark,
-};
 
-/// The words of open cells, of their rows, and the count of numbers. Only this module reaches them,
-/// and each function of it that reads or changes one is a step of a lane's seat, or several: so no
-/// call can look at them otherwise.
+/// The words of open cells, of their blocks, and the count of numbers. Only this module reaches
+/// them, and each function of it that reads or changes one is a step of a lane's seat, or several:
+/// so no call can look at them otherwise.
 #[derive(Drop)]
 pub(crate) struct CellSteps {
     table: CellTable,
@@ -44,8 +44,8 @@ impl CellSteps {
         self.table.shared.load::<Load>(seat, place)
     }
 
-    /// Reads the word of a cell. Only a cell with a mark is loaded: the word of its row tells that
-    /// of another one.
+    /// Reads the word of a cell. Only a cell with a mark is loaded: the word of its block tells
+    /// that of another one.
     #[inline(always)]
     pub(crate) fn read<A: Aim>(&self, seat: &mut LaneSeat, cells: usize, cell: CellNo) -> u64
         requires table { seat.old.table_id ≡ self.now.table.shared.table_id }
@@ -56,16 +56,17 @@ impl CellSteps {
         ensures table { seat.new.table_id ≡ seat.old.table_id }
         ensures found { Found seat.old.me.0 seat.new.me.0 cell result }
     {
-        self.read_at::<A>(seat, cell, row_place(cells, cell), bits_of(cell))
+        self.read_at::<A>(seat, cell, block_place(cells, cell), bits_of(cell))
     }
 
-    /// The same, where the place of its row's word is at hand, and the bits there that tell of it.
+    /// The same, where the place of its block's word is at hand, and the bits there that tell of
+    /// it.
     #[inline(always)]
     pub(crate) fn read_at<A: Aim>(
         &self,
         seat: &mut LaneSeat,
         cell: CellNo,
-        row: usize,
+        block: usize,
         bits: u64,
     ) -> u64
         requires table { seat.old.table_id ≡ self.now.table.shared.table_id }
@@ -73,12 +74,12 @@ impl CellSteps {
         requires cells { IsTable self.now.table.shared.table_id.words self.now.table.shared.key.cells seat.old.me.0 seat.old.me.0.limits.cells }
         requires aim { A.cell ≡ cell }
         requires cell { cell < seat.old.me.0.limits.cells }
-        requires row { row ≡ row_place_of seat.old.me.0.limits.cells cell }
+        requires block { block ≡ block_place_of seat.old.me.0.limits.cells cell }
         requires bits { bits ≡ bits_of_cell cell }
         ensures table { seat.new.table_id ≡ seat.old.table_id }
         ensures found { Found seat.old.me.0 seat.new.me.0 cell result }
     {
-        let marks = self.table.shared.load::<Lead<A>>(seat, row);
+        let marks = self.table.shared.load::<Lead<A>>(seat, block);
         if is_open(marks, bits) {
             return 0;
         }
@@ -88,9 +89,9 @@ impl CellSteps {
         ENDED_WORD
     }
 
-    /// Gives the cell its mark, unless its row has ended: then it answers false, and the cell has
-    /// the word of an ended one. Each mark that another lane was faster to set makes the row's word
-    /// greater.
+    /// Gives the cell its mark, unless its block has ended: then it answers false, and the cell has
+    /// the word of an ended one. Each mark that another lane was faster to set makes the block's
+    /// word greater.
     fn mark<A: Aim>(&self, seat: &mut LaneSeat, cells: usize, cell: CellNo) -> bool
         requires table { seat.old.table_id ≡ self.now.table.shared.table_id }
         requires lane { (number : ℕ) × (seat.old.me.0.lane ≡ Some number) }
@@ -101,21 +102,21 @@ impl CellSteps {
         ensures marked { result ≡ true → IsMarked seat.old.me.0 seat.new.me.0 cell }
         ensures ended { result ≡ false → Found seat.old.me.0 seat.new.me.0 cell ended_word }
     {
-        let place = row_place(cells, cell);
-        let mut row = self.table.shared.load::<Seek<A>>(seat, place);
-        while !has_mark(row, cell) {
-            if is_ended(row) {
+        let place = block_place(cells, cell);
+        let mut block = self.table.shared.load::<Seek<A>>(seat, place);
+        while !has_mark(block, cell) {
+            if is_ended(block) {
                 return false;
             }
-            let marked = with_mark(row, cell);
+            let marked = with_mark(block, cell);
             let found = self
                 .table
                 .shared
-                .compare_exchange::<Place<A>>(seat, place, row, marked);
-            if found == row {
+                .compare_exchange::<Place<A>>(seat, place, block, marked);
+            if found == block {
                 return true;
             }
-            row = found;
+            block = found;
         }
         true
     }
@@ -186,16 +187,16 @@ impl CellSteps {
         self.change(seat, place, old, new, act)
     }
 
-    /// Ends the row whose word stands at this place. Returns the word that it found.
-    pub(crate) fn end(&self, seat: &mut LaneSeat, row: usize) -> u64
+    /// Ends the block whose word stands at this place. Returns the word that it found.
+    pub(crate) fn end(&self, seat: &mut LaneSeat, block: usize) -> u64
         requires table { seat.old.table_id ≡ self.now.table.shared.table_id }
         requires lane { (number : ℕ) × (seat.old.me.0.lane ≡ Some number) }
         requires cells { IsTable self.now.table.shared.table_id.words self.now.table.shared.key.cells seat.old.me.0 seat.old.me.0.limits.cells }
-        requires row { (seat.old.me.0.limits.cells < row) × (row < self.now.table.shared.table_id.words) }
+        requires block { (seat.old.me.0.limits.cells < block) × (block < self.now.table.shared.table_id.words) }
         ensures table { seat.new.table_id ≡ seat.old.table_id }
-        ensures ended { EndedBy (marks seat.old.me.0.limits.cells) (step self.now.table.shared.table_id.slots row 1 0 none) seat.old.me result seat.new.me }
+        ensures ended { EndedBy (marks seat.old.me.0.limits.cells) (step self.now.table.shared.table_id.slots block 1 0 none) seat.old.me result seat.new.me }
     {
-        self.table.shared.fetch_or::<End>(seat, row, END)
+        self.table.shared.fetch_or::<End>(seat, block, END)
     }
 
     /// Shows a lane all that another has seen, and loads the count for it, which stands behind so

@@ -9,8 +9,8 @@ ghost use Rattle.ext_model.specs.CallActs.{Calls, IsHeld, MayStoreNow};
 ghost use Rattle.ext_model.specs.declared.event.Act.TheVariants as act_is;
 ghost use Rattle.ext_model.specs.declared.size.Size.TheVariants.{Usual, Large};
 ghost use Rattle.ext_cells.specs.Lanes.{AreLimits, fresh_lanes};
-ghost use Rattle.ext_rows.specs.Marks.{row_place, bits_of};
-ghost use Rattle.ext_rows.specs.Steps.{IsWordAt, place_in};
+ghost use Rattle.ext_cells.specs.InnerMarks.{block_place, bits_of};
+ghost use Rattle.ext_cells.specs.InnerTableSteps.{IsWordAt, place_in};
 ghost use Rattle.ext_cells.specs.CellCalls.{Answers, SealAnswers, ComesLast, EndsClaim, EndsBlock, Collects, IsOvertakenOn, before_last_pass, IfWon, change_reply, claim_reply, number_reply, number_acts, put_acts, remove_acts, claim_acts};
 ghost use Rattle.ext_cells.specs.InnerSteps.{stepped, Finds, MayGoOn, IsChangeOf, IsEndOf, Changes};
 ghost use Rattle.ext_cells.specs.InnerPasses.{ReadPass};
@@ -19,11 +19,11 @@ ghost use Rattle.ext_cells.specs.WordChanges.{HasState};
 use crate::cell_steps::CellSteps;
 use crate::cell_word::{next_word, parts};
 use crate::decision::{Decision, decide};
+use crate::limits::CellLimits;
 use crate::opening::{are_limits, give_out, open_words};
 use crate::stood::{Stood, any_number, value_number};
 use crate::{CellLane, CellRefusal, Claim, Claimed, Words};
 use ext_model::{Act, CellNo, Size};
-use ext_rows::CellLimits;
 use std::alloc::Global;
 use std::marker::{Brand, Model};
 
@@ -35,9 +35,9 @@ use std::marker::{Brand, Model};
 /// fails, it decides anew by the word that it found, also after the last: so `Contended` comes
 /// after every other refusal, and means at least `tries` events on that cell.
 ///
-/// A cell that has no mark yet gets it before its first event, by at most 32 exchanges of its row's
-/// word: each that fails, but for the last, found a further cell of the row marked. The clauses
-/// `steps` count neither these nor the load of a row's word before that of a cell's.
+/// A cell that has no mark yet gets it before its first event, by at most 32 exchanges of its
+/// block's word: each that fails, but for the last, found a further cell of the block marked. The
+/// clauses `steps` count neither these nor the load of a block's word before that of a cell's.
 #[derive(Drop)]
 pub struct Cells {
     table: CellSteps,
@@ -48,8 +48,8 @@ pub struct Cells {
 impl Model for Cells {
     ghost use Rattle.std.specs.Prelude.{◌≡◌, ◌≤◌, ◌+◌};
     ghost use Rattle.ext_cells.specs.Lanes.{CellsView};
-    ghost use Rattle.ext_rows.specs.Views.{limits_of};
-    ghost use Rattle.ext_rows.specs.Marks.{marks};
+    ghost use Rattle.ext_cells.specs.InnerViews.{limits_of};
+    ghost use Rattle.ext_cells.specs.InnerMarks.{marks};
 
     ghost Value = { CellsView };
 
@@ -132,7 +132,7 @@ impl Cells {
     }
 
     // Recalls the limits on which the calls rely.
-    pub(crate) fn recall(&self)
+    pub(crate) fn tell_proof(&self)
         ensures cells { self.now.id.limits.cells ≤ 67108864 }
         ensures numbers { self.now.id.limits.numbers < 2 ^ 20 }
         ensures tries { 1 ≤ self.now.tries }
@@ -175,7 +175,7 @@ impl Cells {
         ensures steps { length (call_fronts lane.old.view lane.new.view) ≤ length cells.now * (self.now.tries + 1) }
         ensures contended { OnErr result (IsOvertakenOn self.now.tries cells.now lane.old.view lane.new.view) }
     {
-        lane.recall();
+        lane.tell_proof();
         let mut words = self.pass(lane, cells);
         for _ in 0..self.tries {
             let again = self.pass(lane, cells);
@@ -436,7 +436,7 @@ impl Cells {
         ensures ended { EndsClaim lane.old lane.new act }
         ensures steps { length (call_fronts lane.old.view lane.new.view) ≡ 2 }
     {
-        lane.recall();
+        lane.tell_proof();
         let word = self.read(lane, cell);
         let (state, number, version) = parts(word);
         let next = next_word(act, state, number, version);
@@ -481,24 +481,25 @@ impl Cells {
         self.table.load(&mut lane.seat, place)
     }
 
-    /// Reads the word of a cell, where the place of its row's word is at hand, and the bits there
+    /// Reads the word of a cell, where the place of its block's word is at hand, and the bits there
     /// that tell of it.
     #[inline(always)]
     pub(crate) fn read_marked(
         &self,
         lane: &mut CellLane,
         cell: CellNo,
-        row: usize,
+        block: usize,
         bits: u64,
     ) -> u64
         requires lane { lane.old.cells ≡ self.now.id }
         requires cell { cell < self.now.id.limits.cells }
-        requires row { row ≡ row_place self.now.id.limits.cells cell }
+        requires block { block ≡ block_place self.now.id.limits.cells cell }
         requires bits { bits ≡ bits_of cell }
         ensures found { (h : History) × Finds lane.old.cells.limits lane.old.view cell result h × (lane.new ≡ stepped lane.old h) }
         ensures state { HasState result }
     {
-        self.table.read_at::<Brand>(&mut lane.seat, cell, row, bits)
+        self.table
+            .read_at::<Brand>(&mut lane.seat, cell, block, bits)
     }
 
     /// Makes an event of a cell, which changes the cell's word, if that is still the word that was

@@ -22,7 +22,7 @@ impl Model for CellLane {
     ghost use Rattle.ext_model.specs.History.{IsLegal};
     ghost use Rattle.ext_history.specs.Histories.{Follow, seen};
     ghost use Rattle.ext_cells.specs.Lanes.{Lane};
-    ghost use Rattle.ext_rows.specs.Views.{limits_of};
+    ghost use Rattle.ext_cells.specs.InnerViews.{limits_of};
 
     ghost Value = { Lane };
 
@@ -42,7 +42,7 @@ impl CellLane {
 
     /// Proves what is true of every lane: what it has seen is legal, and each front goes on from
     /// the one before it. It does nothing when it runs.
-    pub fn recall(&self)
+    pub fn tell_proof(&self)
         ensures legal { IsLegal self.now.cells.limits (seen_by self.now.view) }
         ensures follow { Follow [] self.now.view.fronts }
     {

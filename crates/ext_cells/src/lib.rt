@@ -5,9 +5,9 @@
 //! of all lanes together form one history, as `ext_model` defines it, and each answer is that of
 //! one thread at a point of the call. `specs/CellCalls` has the words of the contracts.
 //!
-//! The count of numbers drawn is a word, too, and so are the marks of each row of 32 cells. A step
-//! reads or changes one word. A cell without a mark is not loaded: the word of its row tells that
-//! it is empty, or that the row has ended.
+//! The count of numbers drawn is a word, too, and so are the marks of each block of 32 cells. A
+//! step reads or changes one word. A cell without a mark is not loaded: the word of its block tells
+//! that it is empty, or that the block has ended.
 #![tactic(auto)]
 
 mod cell_state;
@@ -18,12 +18,15 @@ mod claim;
 mod decision;
 mod lane;
 mod laws;
+mod limits;
+mod marks;
 mod nearest;
 mod opening;
 mod refusal;
 mod rule;
 mod standing;
 mod stood;
+mod view;
 mod words;
 
 pub use cell_state::CellState;

@@ -9,8 +9,8 @@ ghost use Rattle.ext_cells.specs.InnerSteps.{stepped, Finds};
 ghost use Rattle.ext_cells.specs.WordChanges.{HasState, IsEmptyWord, version_in};
 
 use crate::cell_word::{is_empty, version, what_stands};
+use crate::marks::bits_of;
 use crate::{CellLane, CellRefusal, Cells, Standing};
-use ext_rows::bits_of;
 
 /// A row, of some that were named in order, in whose cell anything stands.
 #[derive(Clone, Copy, Debug, Drop)]
@@ -130,7 +130,7 @@ impl Cells {
         ensures steps { length (call_fronts lane.old.view lane.new.view) ≤ length rows.now * (self.now.tries + 1) }
         ensures contended { OnErr result (IsOvertakenOn self.now.tries (cells_in rows.now (blocks * 32) column) lane.old.view lane.new.view) }
     {
-        self.recall();
+        self.tell_proof();
         let cells = Column {
             blocks,
             place: column,
@@ -166,7 +166,7 @@ impl Cells {
         ensures state { HasState result.behind }
         ensures read { FirstPass lane.old.cells.limits lane.old.view lane.new.view (cells_in rows.now (column.blocks * 32) column.place) result }
     {
-        lane.recall();
+        lane.tell_proof();
         let mut versions = 0;
         for (count, row) in rows.iter().enumerate() {
             let word = self.read_at(lane, *row, column);
@@ -201,7 +201,7 @@ impl Cells {
         ensures within { result ≤ length rows.now * 2 ^ 40 }
         ensures read { (words : List ℕ) × ReadPass lane.old.cells.limits lane.old.view lane.new.view (cells_in rows.now (column.blocks * 32) column.place) words × (result ≡ sum_by version_in words) }
     {
-        lane.recall();
+        lane.tell_proof();
         let mut versions = 0;
         for row in rows {
             let word = self.read_at(lane, *row, column);
@@ -224,7 +224,7 @@ impl Cells {
         ensures versions { result.versions ≤ length rows.now * 2 ^ 40 }
         ensures read { (words : List ℕ) × ReadPass lane.old.cells.limits lane.old.view lane.new.view (cells_in rows.now (column.blocks * 32) column.place) words × IsReading words result }
     {
-        lane.recall();
+        lane.tell_proof();
         let mut reading = Reading::new();
         for row in rows {
             let word = self.read_at(lane, *row, column);
@@ -242,7 +242,7 @@ impl Cells {
         ensures found { (h : History) × Finds lane.old.cells.limits lane.old.view (cell_at (column.blocks * 32) column.place row) result h × (lane.new ≡ stepped lane.old h) }
         ensures state { HasState result }
     {
-        self.recall();
+        self.tell_proof();
         let block = row * column.blocks;
         let cell = block * 32 + column.place;
         self.read_marked(lane, cell, column.marks + block, column.bits)

@@ -1,13 +1,14 @@
 //! Opening the cells, and giving out their lanes.
 ghost use Rattle.std.specs.Prelude.{◌≡◌, ◌≤◌, ◌<◌, ◌+◌, ◌↔◌, IsTrue, IfOk, [], replicate};
 ghost use Rattle.ext_cells.specs.Lanes.{AreLimits, fresh_lanes};
-ghost use Rattle.ext_rows.specs.Views.{first_lane, limits_of};
-ghost use Rattle.ext_rows.specs.Marks.{marks};
+ghost use Rattle.ext_cells.specs.InnerViews.{first_lane, limits_of};
+ghost use Rattle.ext_cells.specs.InnerMarks.{marks};
 
 use crate::CellLane;
+use crate::limits::CellLimits;
+use crate::marks::block_count;
 use crate::rule::{CellTable, LaneSeat, NewLane, SharedWords};
 use ext_model::{LaneNo, Size};
-use ext_rows::{CellLimits, row_count};
 use std::alloc::{AllocError, Global};
 
 /// Whether cells of this size may have these limits: at most 1,024 cells for each context, 1 to
@@ -41,7 +42,7 @@ pub(crate) fn open_words(
     ensures table { IfOk result (λ r. r.1.table_id ≡ r.0.shared.table_id) }
     ensures first { IfOk result (λ r. r.1.me.0 ≡ first_lane limits.now) }
 {
-    let words = zero_words(alloc, limits.cells + 1 + row_count(limits.cells))?;
+    let words = zero_words(alloc, limits.cells + 1 + block_count(limits.cells))?;
     CellTable::of_words(alloc, words.as_slice(), limits)
 }
 

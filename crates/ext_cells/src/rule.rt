@@ -1,16 +1,21 @@
 //! The rule of the shared words: one legal history, of which each lane has seen a prefix.
 //!
+//! A cell stands at a place of the table, or it is open, or it has ended without one. The words of
+//! blocks say which, and how they say it is a layout, here that of marks. A block's end seals all
+//! its cells that have no place: one step, and an event for each.
+//!
 //! A seat takes no bytes: its view exists in proofs only. An exchange announces the act that it
 //! makes, since a step cannot read it off the one word that it changes.
 ghost use Rattle.std.specs.Prelude.{ℕ};
 
+use crate::limits::CellLimits;
+use crate::view::View;
 use atomic_table::{Join, Play, Seat, Shared, Split, Table, TableRule};
 use ext_model::{Act, CellNo};
-use ext_rows::{CellLimits, View};
 use std::alloc::Global;
 use std::marker::{Brand, PhantomData};
 
-/// The cells' words, after them the count of numbers drawn, and then the words of rows.
+/// The cells' words, after them the count of numbers drawn, and then the words of blocks.
 pub(crate) type CellTable = Table<Act<CellNo>, View, CellLimits, OneHistory, Global>;
 
 pub(crate) type SharedWords = Shared<Act<CellNo>, View, CellLimits, OneHistory>;
@@ -20,9 +25,9 @@ pub(crate) type LaneSeat = Seat<Act<CellNo>, View>;
 pub(crate) struct OneHistory;
 
 impl TableRule<Act<CellNo>, View, CellLimits> for OneHistory {
-    ghost use Rattle.ext_rows.specs.Views.{first_lane};
-    ghost use Rattle.ext_rows.specs.Rule.{Kept};
-    ghost use Rattle.ext_rows.specs.Marks.{marks};
+    ghost use Rattle.ext_cells.specs.InnerViews.{first_lane};
+    ghost use Rattle.ext_cells.specs.InnerRule.{Kept};
+    ghost use Rattle.ext_cells.specs.InnerMarks.{marks};
 
     ghost holds = { λ limits. Kept limits (marks limits.cells) };
 
@@ -32,7 +37,7 @@ impl TableRule<Act<CellNo>, View, CellLimits> for OneHistory {
 pub(crate) struct Load;
 
 impl Play<Act<CellNo>, View> for Load {
-    ghost use Rattle.ext_rows.specs.Steps.{Loaded};
+    ghost use Rattle.ext_cells.specs.InnerTableSteps.{Loaded};
 
     ghost then = { λ s. Loaded s.word s };
 }
@@ -41,7 +46,7 @@ impl Play<Act<CellNo>, View> for Load {
 pub(crate) struct Exchange;
 
 impl Play<Act<CellNo>, View> for Exchange {
-    ghost use Rattle.ext_rows.specs.Steps.{Exchanged};
+    ghost use Rattle.ext_cells.specs.InnerTableSteps.{Exchanged};
 
     ghost then = { λ s. Exchanged s.word s };
 }
@@ -50,7 +55,7 @@ impl Play<Act<CellNo>, View> for Exchange {
 pub(crate) struct NewLane;
 
 impl Split<View> for NewLane {
-    ghost use Rattle.ext_rows.specs.Views.{giving, born};
+    ghost use Rattle.ext_cells.specs.InnerViews.{giving, born};
 
     ghost left = { giving };
 
@@ -61,7 +66,7 @@ impl Split<View> for NewLane {
 pub(crate) struct Note;
 
 impl Split<View> for Note {
-    ghost use Rattle.ext_rows.specs.Views.{note};
+    ghost use Rattle.ext_cells.specs.InnerViews.{note};
 
     ghost left = { λ v. v };
 
@@ -69,14 +74,14 @@ impl Split<View> for Note {
 }
 
 impl Join<View> for Note {
-    ghost use Rattle.ext_rows.specs.Views.{noted, spent};
+    ghost use Rattle.ext_cells.specs.InnerViews.{noted, spent};
 
     ghost both = { noted };
 
     ghost spent = { spent };
 }
 
-/// Which cell a step on a row's word is for. Each call picks it, in its proof.
+/// Which cell a step on a block's word is for. Each call picks it, in its proof.
 pub(crate) trait Aim {
     ghost cell: { ℕ };
 }
@@ -85,48 +90,48 @@ impl Aim for Brand {
     ghost cell = { 0 };
 }
 
-/// A load of a row's word, to read a cell.
+/// A load of a block's word, to read a cell.
 pub(crate) struct Lead<A: Aim> {
     aim: PhantomData<A>,
 }
 
 impl<A: Aim> Play<Act<CellNo>, View> for Lead<A> {
-    ghost use Rattle.ext_rows.specs.Steps.{Led};
-    ghost use Rattle.ext_rows.specs.Marks.{marks};
+    ghost use Rattle.ext_cells.specs.InnerTableSteps.{Led};
+    ghost use Rattle.ext_cells.specs.InnerMarks.{marks};
 
     ghost then = { λ s me. Led (marks me.0.limits.cells) A.cell s me };
 }
 
-/// A load of a row's word, to give a cell its mark.
+/// A load of a block's word, to give a cell its mark.
 pub(crate) struct Seek<A: Aim> {
     aim: PhantomData<A>,
 }
 
 impl<A: Aim> Play<Act<CellNo>, View> for Seek<A> {
-    ghost use Rattle.ext_rows.specs.Steps.{Sought};
-    ghost use Rattle.ext_rows.specs.Marks.{marks};
+    ghost use Rattle.ext_cells.specs.InnerTableSteps.{Sought};
+    ghost use Rattle.ext_cells.specs.InnerMarks.{marks};
 
     ghost then = { λ s me. Sought (marks me.0.limits.cells) A.cell s me };
 }
 
-/// An exchange of a row's word, which gives a cell its mark.
+/// An exchange of a block's word, which gives a cell its mark.
 pub(crate) struct Place<A: Aim> {
     aim: PhantomData<A>,
 }
 
 impl<A: Aim> Play<Act<CellNo>, View> for Place<A> {
-    ghost use Rattle.ext_rows.specs.Steps.{Placed};
-    ghost use Rattle.ext_rows.specs.Marks.{marks};
+    ghost use Rattle.ext_cells.specs.InnerTableSteps.{Placed};
+    ghost use Rattle.ext_cells.specs.InnerMarks.{marks};
 
     ghost then = { λ s me. Placed (marks me.0.limits.cells) A.cell s me };
 }
 
-/// The end of a row.
+/// The end of a block.
 pub(crate) struct End;
 
 impl Play<Act<CellNo>, View> for End {
-    ghost use Rattle.ext_rows.specs.Steps.{EndedBy};
-    ghost use Rattle.ext_rows.specs.Marks.{marks};
+    ghost use Rattle.ext_cells.specs.InnerTableSteps.{EndedBy};
+    ghost use Rattle.ext_cells.specs.InnerMarks.{marks};
 
     ghost then = { λ s me. EndedBy (marks me.0.limits.cells) s me };
 }

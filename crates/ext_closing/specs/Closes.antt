@@ -66,7 +66,7 @@ pub record IsLeftUnjoined {V : Type 0} (store : StoreView) (closer : CloserView)
 -- ---- the law
 
 -- Some refused closes and a successful one are one close. That what the first lane has seen in the end is legal is
--- promised by `recall`.
+-- promised by `tell_proof`.
 abbrev pub AskedAgainIsOne : {V A : Type 0} → (V → Bool) → (A → ℕ → V → Answer → A → Type 0) → Type 0
 AskedAgainIsOne {V} {A} is_closeable gives =
     (store : StoreView) (closer : CloserView) (before : List (StoreLane V)) (first : A) (closed : Closed)

@@ -39,7 +39,7 @@ pub(crate) fn first_marked<V>(
     let keys = store.key_count();
     for block in 0..keys / 32 {
         let marks = store.seal_unused(lane, closer, block);
-        lane.recall();
+        lane.tell_proof();
         if marks != 0 {
             return Some(Marked { block, marks });
         }
@@ -110,7 +110,7 @@ fn seal_block<V, const ROOM: usize>(
     ensures kept { StillKeeps lane.old lane.new }
 {
     let left = store.seal_unused(lane, closer, block);
-    lane.recall();
+    lane.tell_proof();
     let marked = Marked { block, marks: left };
     seal_marked(store, closer, lane, marked, numbers)
 }
@@ -179,7 +179,7 @@ fn seal_key<V>(
     ensures kept { StillKeeps lane.old lane.new }
 {
     let sealed = store.seal(lane, closer, key);
-    lane.recall();
+    lane.tell_proof();
     match sealed {
         Ok(kept) => Ok(kept),
         Err(Refusal::Busy(_)) => Err(CloseFault::Busy(key)),

@@ -171,11 +171,11 @@ module _ {V A : Type 0} (t : TreeSetting V A) where
       inr (early.0, early.1, (λ good. absurd (let f : true ≡ false = sym good ∙ container in cc)), (λ _. subst P e early.2))
 
   -- a container that came to its end
-  pub container_ran : (depth node : ℕ) (s : Lanes V) (opened : List (StoreLane V)) (body after : Lanes V) (own : Ran) (below : List Ran) (path : List ℕ) (befores : List Outcome) (went_on : Bool) → 1 ≤ depth → t.suite.is_test node ≡ false
+  pub container_ran : (depth node : ℕ) (s : Lanes V) (opened : List (StoreLane V)) (body after : Lanes V) (own : Ran) (below : List Ran) (path : List ℕ) (befores : List Outcome) (went_on : Bool) → 1 ≤ depth → t.suite.is_test node ≡ false → t.enabled_gives node true
       → IsPathOf t.store.tree node path → CallsBefores t node path s.first befores opened → went_on ≡ all_successful (endings_of befores) → BodyMade t (TreeRun t (depth - 1)) went_on node (with_lanes opened s) below body
       → EndsContainer t node path befores body.first own after.first → after.second ≡ body.second → TreeRun t depth node s (own ∷ below) after
-  container_ran depth node s opened body after own below path befores went_on some container is made on bodied ends locks =
-      tree-of-container t depth node s (own ∷ below) after some container (
+  container_ran depth node s opened body after own below path befores went_on some container enabled is made on bodied ends locks =
+      tree-of-container t depth node s (own ∷ below) after some container enabled (
         path,
         is,
         record {

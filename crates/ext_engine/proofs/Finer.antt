@@ -197,6 +197,7 @@ module _ {V A : Type 0} (t : TreeSetting V A) (finer : ℕ → Call → Option H
         (λ container.
             container_finer (λ child s below u. TreeRun t depth child s below u) (λ child s below u. TreeRun (with_calls finer t) depth child s below u)
             (λ c s below u r. tree_relates t R same next moves meets seals depth c s below u r) (λ c s below u r here. tree_finer depth c s below u r here) node run.0 before ran after (on.1 container) leads),
+        on.2,
       )
     ],
   )

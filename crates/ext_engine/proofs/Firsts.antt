@@ -14,13 +14,6 @@ use Rattle.ext_engine.specs.declared.node.results.RanNode.{RanNode}
 use Rattle.ext_engine.specs.InnerResults.{ran_view}
 use Rattle.ext_engine.specs.NodeRun.{Ran, OnFirst, Lanes, IsIdle, IsUsable}
 
--- a node's result, and what ran below it
-pub ran-first : (x : RanNode) (result : ResultOf Fault) (went_on : Bool) (items below : List RanNode) → items ≡ x ∷ below → told x.result ≡ result → x.went_on ≡ went_on
-    → map ran_view items ≡ record { result = result; went_on = went_on } ∷ map ran_view below
-ran-first x result went_on items below is told_is went_on_is =
-    let first : ResultOf Fault → Bool → Ran = λ r w. record { result = r; went_on = w } in
-    ap (map ran_view) is ∙ (ap (λ r. first r x.went_on ∷ map ran_view below) told_is ∙ ap (λ w. first result w ∷ map ran_view below) went_on_is)
-
 -- a node's result, of a test
 abbrev pub of_result : ResultOf Fault → List Ran
 of_result result = record { result = result; went_on = true } ∷ []

@@ -23,8 +23,3 @@ module _ {E : Type 0} (first all : List RanNode) (yielded rest outcomes : List (
       let h = ap (λ r. length (ran_in r)) is in
       let i = length-map more.items ran_view in
       omega (arith, a, b, c, d, e, f, g, h, i)
-
-  pub gathered_more : (next : List RanNode) → next ≡ all ++ more.items → map ran_view next ≡ map ran_view first ++ flat_map ran_in (yielded ++ outcome ∷ [])
-  gathered_more next appended =
-      ap (map ran_view) appended ∙ (map-append ran_view all more.items ∙ (ap (λ l. l ++ map ran_view more.items) so_far ∙ (append_assoc (map ran_view first) (flat_map ran_in yielded) (map ran_view more.items)
-      ∙ ap (λ l. map ran_view first ++ l) (sym (ap (λ l. flat_map ran_in yielded ++ l) (append-nil (map ran_view more.items))) ∙ (sym (flat_map-append ran_in yielded (Ok more ∷ [])) ∙ sym (ap (λ r. flat_map ran_in (yielded ++ r ∷ [])) is))))))

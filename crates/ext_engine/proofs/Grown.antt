@@ -32,7 +32,7 @@ module _ (ids : List Id) (suite : SuiteView) where
   abbrev pub order : ℕ → List ℕ
   order node = in_run_order suite.is_concurrent (children_of ids node)
 
-module _ (ids : List Id) (suite : SuiteView) (may_disable : ℕ → Type 0) where
+module _ (ids : List Id) (suite : SuiteView) (enabled_gives : ℕ → Bool → Type 0) where
   -- a node and its children, of which `Child` says what ran of each
   pub record Grew (Child : ℕ → List Ran → Type 0) (node : ℕ) (ran : List Ran) : Type 0 where
     pub first : Ran
@@ -42,7 +42,8 @@ module _ (ids : List Id) (suite : SuiteView) (may_disable : ℕ → Type 0) wher
     pub ran_are : ran ≡ first ∷ runs_in done
     pub node_is : first.result.node ≡ node
     pub test_is : first.result.is_test ≡ suite.is_test node
-    pub skips : first.result.status ≡ statuses.Skipped → (first ≡ left_out suite node) × may_disable node
+    pub skips : first.result.status ≡ statuses.Skipped → (first ≡ left_out suite node) × enabled_gives node false
+    pub goes : first.result.status ≢ statuses.Skipped → enabled_gives node true
     pub each : All (λ e. Child e.0 e.1) done
     pub whole : first.went_on ≡ true → map (λ e. e.0) done ≡ order ids suite node
     pub nothing : first.went_on ≡ false → done ≡ []
@@ -163,7 +164,7 @@ module _ (ids : List Id) (suite : SuiteView) (may_disable : ℕ → Type 0) wher
         ]
 
     pub left_only : (depth node : ℕ) (ran : List Ran) → Grows depth node ran → (r : Ran) → Contains ran r → r.result.status ≡ statuses.Skipped
-        → (r ≡ left_out suite r.result.node) × may_disable r.result.node
+        → (r ≡ left_out suite r.result.node) × enabled_gives r.result.node false
     left_only zero node ran g r there skipped = absurd g
     left_only (suc depth) node ran g r there skipped =
         let Child : ℕ → List Ran → Type 0 = λ child below. Grows depth child below in
@@ -171,8 +172,17 @@ module _ (ids : List Id) (suite : SuiteView) (may_disable : ℕ → Type 0) wher
           | inl same ↦
               let at : node ≡ r.result.node = sym g.node_is ∙ ap (λ x. x.result.node) same in
               let told = g.skips (ap (λ x. x.result.status) same ∙ skipped) in
-              (sym same ∙ told.0 ∙ ap (left_out suite) at, subst may_disable at told.1)
+              (sym same ∙ told.0 ∙ ap (left_out suite) at, subst (λ n. enabled_gives n false) at told.1)
           | inr part ↦ left_only depth part.0.0 part.0.1 (done_run Child node ran g part.0 part.1) r part.2 skipped
+        ]
+
+    pub enabled_only : (depth node : ℕ) (ran : List Ran) → Grows depth node ran → (r : Ran) → Contains ran r → r.result.status ≢ statuses.Skipped → enabled_gives r.result.node true
+    enabled_only zero node ran g r there not_skipped = absurd g
+    enabled_only (suc depth) node ran g r there not_skipped =
+        let Child : ℕ → List Ran → Type 0 = λ child below. Grows depth child below in
+        elim (parts Child node ran g r there) [
+          | inl same ↦ subst (λ n. enabled_gives n true) (sym g.node_is ∙ ap (λ x. x.result.node) same) (g.goes (λ skipped. not_skipped (sym (ap (λ x. x.result.status) same) ∙ skipped)))
+          | inr part ↦ enabled_only depth part.0.0 part.0.1 (done_run Child node ran g part.0 part.1) r part.2 not_skipped
         ]
 
     -- ---- what ran, and what was skipped

@@ -101,19 +101,6 @@ module _ (ids : List Id) (node : ℕ) (items : List Item) (nodes : map (λ i. i.
 
 -- ---- the closers that are handed out
 
-nothing-taken : {A : Type 0} (k : ℕ) → Contains (contexts []) k → A
-nothing-taken k h = absurd (let l = h.1 in omega (arith, l))
-
-none-of-store : (store : StoreView) (closers : List CloserView) → closers ≡ [] → OfStore store closers
-none-of-store store closers is = subst (OfStore store) (sym is) (λ i d l. absurd (omega (arith, l)))
-
--- at first none
-pub taken-none : (store : StoreView) (items : List Item) → All (λ i. i.closers.items ≡ []) items → All (HasTaken store []) items
-taken-none store items empty = λ i d l. record {
-  own = none-of-store store (slice_index_or items i d).closers.items (empty i d l);
-  each = λ k within h. nothing-taken k h;
-}
-
 module _ (store : StoreView) (seen : List CloserView) (c : CloserView) where
   -- one more of them
   pub taken-in : (item next : Item) → next.node ≡ item.node → next.closers.items ≡ item.closers.items ++ c ∷ [] → IsCloserOf store c → HasTaken store seen item → HasTaken store (seen ++ c ∷ []) next

@@ -1,5 +1,5 @@
 -- One result a node.
-use Rattle.std.proofs.Common.{◌≡◌, ◌≢◌, ◌⊎◌, ◌<◌, ◌+◌, inl, inr, ℕ, zero, suc, Bool, false, List, [], ◌∷◌, length, map, refl, ap, sym, subst, ◌∙◌, arith}
+use Rattle.std.proofs.Common.{◌≡◌, ◌≢◌, ◌⊎◌, ◌<◌, ◌+◌, inl, inr, ℕ, zero, suc, Bool, true, false, List, [], ◌∷◌, length, map, refl, ap, sym, subst, ◌∙◌, arith}
 use Rattle.std.specs.Prelude.{Contains, Option, Some, option_map, slice_get, slice_set}
 use Rattle.std.specs.List.{range_with_len}
 use Rattle.std.proofs.lemmas.Bool.{cases_eq}
@@ -129,9 +129,10 @@ place_within results count node result in_order is =
     let long : length results ≡ count = sym (length-map results (λ r. r.node)) ∙ ap length in_order ∙ length-range_with_len 0 count in
     omega (arith, less, long)
 
-module _ (suite : SuiteView) (may_disable : ℕ → Type 0) (count : ℕ) (ran : List Ran) (once : Once (nodes_of ran)) (within : (r : Ran) → Contains ran r → r.result.node < count)
+module _ (suite : SuiteView) (enabled_gives : ℕ → Bool → Type 0) (count : ℕ) (ran : List Ran) (once : Once (nodes_of ran)) (within : (r : Ran) → Contains ran r → r.result.node < count)
     (told : (r : Ran) → Contains ran r → r.result.is_test ≡ suite.is_test r.result.node)
-    (left_only : (r : Ran) → Contains ran r → r.result.status ≡ statuses.Skipped → (r ≡ record { result = skipped_result r.result.node (suite.is_test r.result.node); went_on = false }) × may_disable r.result.node) where
+    (left_only : (r : Ran) → Contains ran r → r.result.status ≡ statuses.Skipped → (r ≡ record { result = skipped_result r.result.node (suite.is_test r.result.node); went_on = false }) × enabled_gives r.result.node false)
+    (enabled_only : (r : Ran) → Contains ran r → r.result.status ≢ statuses.Skipped → enabled_gives r.result.node true) where
   of_run : (r : Ran) → Contains ran r → slice_get (all_results suite count ran) r.result.node ≡ Some r.result
   of_run r there = placed-ran ran (all_skipped suite count) once r there (let e = skipped-length suite count in let less = within r there in omega (arith, e, less))
 
@@ -144,21 +145,21 @@ module _ (suite : SuiteView) (may_disable : ℕ → Type 0) (count : ℕ) (ran :
   a_place : (node : ℕ) (result : ResultOf Fault) → slice_get (all_results suite count ran) node ≡ Some result → node < count
   a_place node result is = place_within (all_results suite count ran) count node result in_order is
 
-  status_ran : (node : ℕ) (result : ResultOf Fault) → slice_get (all_results suite count ran) node ≡ Some result → result.status ≡ statuses.Skipped → HasRun ran node → IsLeftOut suite may_disable ran node
+  status_ran : (node : ℕ) (result : ResultOf Fault) → slice_get (all_results suite count ran) node ≡ Some result → result.status ≡ statuses.Skipped → HasRun ran node → IsLeftOut suite enabled_gives ran node
   status_ran node result is skipped has =
       let at = contains-from_map (λ r. r.result.node) ran node has in
       let there = subst (λ k. slice_get (all_results suite count ran) k ≡ Some at.0.result) at.2 (of_run at.0 at.1) in
       let told = left_only at.0 at.1 (ap (λ r. r.status) (one_value (slice_get (all_results suite count ran) node) at.0.result result there is) ∙ skipped) in
       let P : ℕ → Type 0 = λ k. Contains ran (record { result = skipped_result k (suite.is_test k); went_on = false }) in
-      record { allowed = subst may_disable at.2 told.1; among = subst P at.2 (subst (Contains ran) told.0 at.1) }
+      record { allowed = subst (λ n. enabled_gives n false) at.2 told.1; among = subst P at.2 (subst (Contains ran) told.0 at.1) }
 
-  status_told : (node : ℕ) (result : ResultOf Fault) → slice_get (all_results suite count ran) node ≡ Some result → result.status ≡ statuses.Skipped → (¬ HasRun ran node) ⊎ IsLeftOut suite may_disable ran node
+  status_told : (node : ℕ) (result : ResultOf Fault) → slice_get (all_results suite count ran) node ≡ Some result → result.status ≡ statuses.Skipped → (¬ HasRun ran node) ⊎ IsLeftOut suite enabled_gives ran node
   status_told node result is skipped = elim (has_or_not (nodes_of ran) node) [
     | inl has ↦ inr (status_ran node result is skipped has)
     | inr not_run ↦ inl not_run
   ]
 
-  status_left : (node : ℕ) (result : ResultOf Fault) → slice_get (all_results suite count ran) node ≡ Some result → IsLeftOut suite may_disable ran node → result.status ≡ statuses.Skipped
+  status_left : (node : ℕ) (result : ResultOf Fault) → slice_get (all_results suite count ran) node ≡ Some result → IsLeftOut suite enabled_gives ran node → result.status ≡ statuses.Skipped
   status_left node result is left =
       ap (λ r. r.status) (one_value (slice_get (all_results suite count ran) node) result (skipped_result node (suite.is_test node)) is (of_run _ left.among))
 
@@ -166,12 +167,24 @@ module _ (suite : SuiteView) (may_disable : ℕ → Type 0) (count : ℕ) (ran :
   status_skipped node result is not_run =
       ap (λ r. r.status) (one_value (slice_get (all_results suite count ran) node) result (skipped_result node (suite.is_test node)) is (of_skipped node (a_place node result is) not_run))
 
-  pub one_each : IsOneEach suite may_disable count ran (all_results suite count ran)
+  -- a result that is not of a skipped node is that of a node that ran
+  went : (node : ℕ) (result : ResultOf Fault) → slice_get (all_results suite count ran) node ≡ Some result → result.status ≢ statuses.Skipped → enabled_gives node true
+  went node result is not_skipped = elim (has_or_not (nodes_of ran) node) [
+    | inl has ↦
+        let at = contains-from_map (λ r. r.result.node) ran node has in
+        let there = subst (λ k. slice_get (all_results suite count ran) k ≡ Some at.0.result) at.2 (of_run at.0 at.1) in
+        let same : at.0.result.status ≡ result.status = ap (λ r. r.status) (one_value (slice_get (all_results suite count ran) node) at.0.result result there is) in
+        subst (λ n. enabled_gives n true) at.2 (enabled_only at.0 at.1 (λ skipped. not_skipped (sym same ∙ skipped)))
+    | inr not_run ↦ absurd (not_skipped (status_skipped node result is not_run))
+  ]
+
+  pub one_each : IsOneEach suite enabled_gives count ran (all_results suite count ran)
   one_each = record {
     nodes = in_order;
     tests = placed-kinds suite count ran (all_skipped suite count) told (skipped-kinds suite (range_with_len 0 count));
     of_run = of_run;
     of_skipped = of_skipped;
+    enabled = went;
     status = λ node result is. (
       status_told node result is,
       λ why. elim why [ inl not_run ↦ status_skipped node result is not_run | inr left ↦ status_left node result is left ],

@@ -60,11 +60,11 @@ room t tree runnable depth levels item s ran u own run =
     let ids = t.store.tree in
     let g = grown t tree runnable depth item.node s ran u run in
     let each : (k : ℕ) → Contains (nodes_of ran) k → Contains (contexts item.closers.items) k = λ k has. (
-    let below = node_under ids t.suite t.may_disable tree depth item.node ran g k has in
+    let below = node_under ids t.suite t.enabled_gives tree depth item.node ran g k has in
     let path = at_or_below ids item.node k below in
     own.closers.each k (within_tree ids k path.path tree path.path_is) (under_within ids item.node k below)
     ) in
-    let few = fewer (nodes_of ran) (contexts item.closers.items) (ran_once ids t.suite t.may_disable tree depth item.node ran g) each in
+    let few = fewer (nodes_of ran) (contexts item.closers.items) (ran_once ids t.suite t.enabled_gives tree depth item.node ran g) each in
     let a = length-map ran (λ r. r.result.node) in
     let b = length-map item.closers.items (λ c. c.context) in
     omega (arith, few, a, b)

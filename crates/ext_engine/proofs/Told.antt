@@ -92,9 +92,9 @@ module _ {V A : Type 0} (t : TreeSetting V A) (tree : IsTree t.store.tree) (fit 
               (turn-all Run P at second (with_lanes b.joined b.between) after b.in_turn.runs);
         }
 
-  test_grown : (depth node : ℕ) (path : List ℕ) (before : Lanes V) (ran : List Ran) (after : Lanes V) → IsPathOf t.store.tree node path → t.suite.is_test node ≡ true
-      → TestRun t node path before ran after → Grows t.store.tree t.suite t.may_disable (suc depth) node ran
-  test_grown depth node path before ran after is test run =
+  test_grown : (depth node : ℕ) (path : List ℕ) (before : Lanes V) (ran : List Ran) (after : Lanes V) → IsPathOf t.store.tree node path → t.suite.is_test node ≡ true → t.enabled_gives node true
+      → TestRun t node path before ran after → Grows t.store.tree t.suite t.enabled_gives (suc depth) node ran
+  test_grown depth node path before ran after is test enabled run =
       let ends = endings_of run.outcomes ++ map close_ending run.faults in
       let none : children_of t.store.tree node ≡ [] = fit.below node (within_tree t.store.tree node path tree is) test in
       record {
@@ -106,18 +106,19 @@ module _ {V A : Type 0} (t : TreeSetting V A) (tree : IsTree t.store.tree) (fit 
         node_is = refl;
         test_is = sym test;
         skips = λ skipped. absurd (not_skipped (first_fault ends) (first_abort ends) (unsuccessful ends) skipped);
+        goes = λ _. enabled;
         each = λ k d less. absurd (omega (arith, less));
         whole = λ on. sym (ap (in_run_order t.suite.is_concurrent) none);
         nothing = λ off. refl;
       }
 
   container_grown : (depth node : ℕ) (path : List ℕ) (before : Lanes V) (ran : List Ran) (after : Lanes V) → IsPathOf t.store.tree node path
-      → (Run : ℕ → Lanes V → List Ran → Lanes V → Type 0) → ((c : ℕ) (s : Lanes V) (below : List Ran) (u : Lanes V) → Run c s below u → Grows t.store.tree t.suite t.may_disable depth c below)
-      → t.suite.is_test node ≡ false → ContainerRun t Run node path before ran after → Grows t.store.tree t.suite t.may_disable (suc depth) node ran
-  container_grown depth node path before ran after is Run at container run =
+      → (Run : ℕ → Lanes V → List Ran → Lanes V → Type 0) → ((c : ℕ) (s : Lanes V) (below : List Ran) (u : Lanes V) → Run c s below u → Grows t.store.tree t.suite t.enabled_gives depth c below)
+      → t.suite.is_test node ≡ false → t.enabled_gives node true → ContainerRun t Run node path before ran after → Grows t.store.tree t.suite t.enabled_gives (suc depth) node ran
+  container_grown depth node path before ran after is Run at container enabled run =
       let calls = run.befores ++ run.ends.afters in
       let ends = endings_of calls ++ map close_ending run.ends.faults in
-      let P : ℕ → List Ran → Type 0 = λ c below. Grows t.store.tree t.suite t.may_disable depth c below in
+      let P : ℕ → List Ran → Type 0 = λ c below. Grows t.store.tree t.suite t.enabled_gives depth c below in
       let opened : Lanes V = record { first = run.opened; second = before.second } in
       let first : Ran = record { result = result_of node false (endings_of calls) (computed_in calls) (found_in calls) run.ends.faults; went_on = all_successful (endings_of run.befores) } in
       let status = not_skipped (first_fault ends) (first_abort ends) (unsuccessful ends) in
@@ -133,6 +134,7 @@ module _ {V A : Type 0} (t : TreeSetting V A) (tree : IsTree t.store.tree) (fit 
               node_is = refl;
               test_is = sym container;
               skips = λ skipped. absurd (status skipped);
+              goes = λ _. enabled;
               each = b.each;
               whole = λ yes_on. b.nodes_are;
               nothing = λ off. absurd (let e : true ≡ false = sym on ∙ off in cc);
@@ -146,6 +148,7 @@ module _ {V A : Type 0} (t : TreeSetting V A) (tree : IsTree t.store.tree) (fit 
           node_is = refl;
           test_is = sym container;
           skips = λ skipped. absurd (status skipped);
+          goes = λ _. enabled;
           each = λ k d less. absurd (omega (arith, less));
           whole = λ on. absurd (let e : true ≡ false = sym on ∙ off in cc);
           nothing = λ no_on. refl;
@@ -153,7 +156,7 @@ module _ {V A : Type 0} (t : TreeSetting V A) (tree : IsTree t.store.tree) (fit 
       ]
 
   disabled_grown : (depth node : ℕ) (path : List ℕ) (before : Lanes V) (ran : List Ran) (after : Lanes V) → IsPathOf t.store.tree node path
-      → IsDisabled t node before ran after → Grows t.store.tree t.suite t.may_disable (suc depth) node ran
+      → IsDisabled t node before ran after → Grows t.store.tree t.suite t.enabled_gives (suc depth) node ran
   disabled_grown depth node path before ran after is left = record {
     first = record { result = skipped_result node (t.suite.is_test node); went_on = false };
     done = [];
@@ -163,17 +166,18 @@ module _ {V A : Type 0} (t : TreeSetting V A) (tree : IsTree t.store.tree) (fit 
     node_is = refl;
     test_is = refl;
     skips = λ skipped. (refl, left.allowed);
+    goes = λ ran. absurd (ran refl);
     each = λ k d less. absurd (omega (arith, less));
     whole = λ on. absurd cc;
     nothing = λ off. refl;
   }
 
-  pub grown : (depth node : ℕ) (before : Lanes V) (ran : List Ran) (after : Lanes V) → TreeRun t depth node before ran after → Grows t.store.tree t.suite t.may_disable depth node ran
+  pub grown : (depth node : ℕ) (before : Lanes V) (ran : List Ran) (after : Lanes V) → TreeRun t depth node before ran after → Grows t.store.tree t.suite t.enabled_gives depth node ran
   grown zero node before ran after run = absurd run
   grown (suc depth) node before ran after run = elim run.2 [
     | inl left ↦ disabled_grown depth node run.0 before ran after run.1 left
     | inr on ↦ elim (bools (t.suite.is_test node)) [
-      | inl test ↦ test_grown depth node run.0 before ran after run.1 test (on.0 test)
-      | inr container ↦ container_grown depth node run.0 before ran after run.1 (λ child s below u. TreeRun t depth child s below u) (λ c s below u r. grown depth c s below u r) container (on.1 container)
+      | inl test ↦ test_grown depth node run.0 before ran after run.1 test on.2 (on.0 test)
+      | inr container ↦ container_grown depth node run.0 before ran after run.1 (λ child s below u. TreeRun t depth child s below u) (λ c s below u r. grown depth c s below u r) container on.2 (on.1 container)
     ]
   ]

@@ -75,14 +75,6 @@ at_item P items job item all is = subst P (get_or_from_slice_get items job item 
 pub node_at : (items : List Item) (job : ℕ) (item : Item) → slice_get items job ≡ Some item → slice_index_or (map (λ i. i.node) items) job 0 ≡ item.node
 node_at items job item is = get_or_from_slice_get (map (λ i. i.node) items) job item.node 0 (slice_get-map (λ i. i.node) items job ∙ ap (λ o. option_map (λ i. i.node) o) is)
 
--- what each job's outcome meets, all outcomes meet
-pub outcomes-meet : {A B O : Type 0} (runs : ℕ → Share A B → O → Share A B → Type 0) (P : O → Type 0) (jobs workers : ℕ) (s t : Share A B) (outcomes : List O)
-    → ((job : ℕ) (u : Share A B) (o : O) (v : Share A B) → job < jobs → runs job u o v → P o) → RunByDealing runs jobs workers s outcomes t → All P outcomes
-outcomes-meet runs P jobs workers s t outcomes at run k d less =
-    let below : k < jobs = (let e = run.outcome_count in omega (arith, less, e)) in
-    let h = run-outcome runs outcomes jobs workers s t run k below in
-    subst P (sym (get_or_from_slice_get outcomes k h.outcome d h.stands)) (at k h.before h.outcome h.after below h.run)
-
 -- ---- answers
 
 -- what is said of the nodes in an answer
@@ -135,24 +127,24 @@ module _ {V A : Type 0} (t : TreeSetting V A) where
   abbrev pub Tree : ℕ → ℕ → Lanes V → List Ran → Lanes V → Type 0
   Tree = TreeRun t
 
-  pub tree-of-test : (depth node : ℕ) (s : Lanes V) (ran : List Ran) (u : Lanes V) → 1 ≤ depth → t.suite.is_test node ≡ true
+  pub tree-of-test : (depth node : ℕ) (s : Lanes V) (ran : List Ran) (u : Lanes V) → 1 ≤ depth → t.suite.is_test node ≡ true → t.enabled_gives node true
       → (path : List ℕ) × IsPathOf t.store.tree node path × TestRun t node path s ran u → Tree depth node s ran u
-  tree-of-test zero node s ran u some_depth test run = absurd (omega (arith, some_depth))
-  tree-of-test (suc depth) node s ran u some_depth test run =
-      (run.0, run.1, inr ((λ _. run.2), (λ bad. absurd (let e : true ≡ false = sym test ∙ bad in cc))))
+  tree-of-test zero node s ran u some_depth test enabled run = absurd (omega (arith, some_depth))
+  tree-of-test (suc depth) node s ran u some_depth test enabled run =
+      (run.0, run.1, inr ((λ _. run.2), (λ bad. absurd (let e : true ≡ false = sym test ∙ bad in cc)), enabled))
 
   pub tree-of-disabled : (depth node : ℕ) (s : Lanes V) (ran : List Ran) (u : Lanes V) → 1 ≤ depth
       → (path : List ℕ) × IsPathOf t.store.tree node path × IsDisabled t node s ran u → Tree depth node s ran u
   tree-of-disabled zero node s ran u some_depth left = absurd (omega (arith, some_depth))
   tree-of-disabled (suc depth) node s ran u some_depth left = (left.0, left.1, inl left.2)
 
-  pub tree-of-container : (depth node : ℕ) (s : Lanes V) (ran : List Ran) (u : Lanes V) → 1 ≤ depth → t.suite.is_test node ≡ false
+  pub tree-of-container : (depth node : ℕ) (s : Lanes V) (ran : List Ran) (u : Lanes V) → 1 ≤ depth → t.suite.is_test node ≡ false → t.enabled_gives node true
       → (path : List ℕ) × IsPathOf t.store.tree node path × ContainerRun t (Tree (depth - 1)) node path s ran u → Tree depth node s ran u
-  tree-of-container zero node s ran u some_depth container run = absurd (omega (arith, some_depth))
-  tree-of-container (suc depth) node s ran u some_depth container run =
+  tree-of-container zero node s ran u some_depth container enabled run = absurd (omega (arith, some_depth))
+  tree-of-container (suc depth) node s ran u some_depth container enabled run =
       let e : suc depth - 1 ≡ depth = omega arith in
       let P : ℕ → Type 0 = λ n. ContainerRun t (Tree n) node run.0 s ran u in
-      (run.0, run.1, inr ((λ good. absurd (let f : true ≡ false = sym good ∙ container in cc)), (λ _. subst P e run.2)))
+      (run.0, run.1, inr ((λ good. absurd (let f : true ≡ false = sym good ∙ container in cc)), (λ _. subst P e run.2), enabled))
 
   module _ (Child : ℕ → Lanes V → List Ran → Lanes V → Type 0) where
     -- the children beside one another, and then the others

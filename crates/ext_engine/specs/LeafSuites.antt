@@ -59,7 +59,7 @@ module _ {V S A : Type 0} (is_closeable : V → Bool) (may_disable : S → ℕ �
     store = store;
     locks = locks;
     suite = leaves_view concurrent store.tree;
-    may_disable = λ node. may_disable suite node;
+    enabled_gives = λ node answer. answer ≡ false → may_disable suite node;
     registered = λ kind node. 0;
     call_gives = λ node call held before outcome after.
         MakesLeaf (λ answer left. run_gives suite store node before answer left) outcome after;

@@ -49,8 +49,8 @@ pub record TreeSetting (V A : Type 0) : Type 1 where
   pub store : StoreView
   pub locks : LocksView
   pub suite : SuiteView
-  -- Which nodes the suite may leave out of a run.
-  pub may_disable : ℕ → Type 0
+  -- What the suite may answer to whether a node is to be run.
+  pub enabled_gives : ℕ → Bool → Type 0
   -- How many callbacks of a kind a node has.
   pub registered : Kind → ℕ → ℕ
   -- What a call does: the node, the call, the locks it is lent, the lane before it, its outcome, the lane after it.
@@ -61,7 +61,7 @@ pub record TreeSetting (V A : Type 0) : Type 1 where
   pub close_gives : A → ℕ → V → Answer → A → Type 0
 
 -- The setting for one suite of a type, from what is said of all suites of the type.
-module _ {V S A : Type 0} (is_closeable : V → Bool) (suite_view : S → SuiteView) (may_disable : S → ℕ → Type 0)
+module _ {V S A : Type 0} (is_closeable : V → Bool) (suite_view : S → SuiteView) (enabled_gives : S → ℕ → Bool → Type 0)
     (registered : S → Kind → ℕ → ℕ)
     (call_gives : S → StoreView → ℕ → Call → Option HeldView → StoreLane V → Outcome → StoreLane V → Type 0)
     (action_gives : S → ℕ → A → Type 0) (close_gives : A → ℕ → V → Answer → A → Type 0) where
@@ -70,7 +70,7 @@ module _ {V S A : Type 0} (is_closeable : V → Bool) (suite_view : S → SuiteV
     store = store;
     locks = locks;
     suite = suite_view suite;
-    may_disable = may_disable suite;
+    enabled_gives = enabled_gives suite;
     registered = registered suite;
     call_gives = call_gives suite store;
     action_gives = action_gives suite;
@@ -85,7 +85,7 @@ with_calls calls t = record {
   store = t.store;
   locks = t.locks;
   suite = t.suite;
-  may_disable = t.may_disable;
+  enabled_gives = t.enabled_gives;
   registered = t.registered;
   call_gives = calls;
   action_gives = t.action_gives;
@@ -153,7 +153,7 @@ module _ {V A : Type 0} (t : TreeSetting V A) where
 
   -- A node that the suite leaves out: nothing is done, and it is skipped with all nodes below it.
   pub record IsDisabled (node : ℕ) (before : Lanes V) (ran : List Ran) (after : Lanes V) : Type 0 where
-    pub allowed : t.may_disable node
+    pub allowed : t.enabled_gives node false
     pub some_lane : 0 < length before.first
     pub ran_is : ran ≡ record { result = skipped_result node (t.suite.is_test node); went_on = false } ∷ []
     pub untouched : after ≡ before

@@ -41,8 +41,8 @@ pub record RanAs (ran : List Ran) (node : ℕ) (went_on : Bool) : Type 0 where
   pub on_is : one.went_on ≡ went_on
 
 -- The run came to the node, and the suite left it out.
-pub record IsLeftOut (suite : SuiteView) (may_disable : ℕ → Type 0) (ran : List Ran) (node : ℕ) : Type 0 where
-  pub allowed : may_disable node
+pub record IsLeftOut (suite : SuiteView) (enabled_gives : ℕ → Bool → Type 0) (ran : List Ran) (node : ℕ) : Type 0 where
+  pub allowed : enabled_gives node false
   pub among : Contains ran (record { result = skipped_result node (suite.is_test node); went_on = false })
 
 -- ---- what a run of the tree at `top` gives
@@ -59,8 +59,8 @@ pub record IsSkippedExactly (ids : List Id) (top : ℕ) (ran : List Ran) (node :
   pub skipped : (¬ HasRun ran node) ↔ ((above : ℕ) × IsBetween ids top above node × RanAs ran above false)
 
 -- One result for each node, in order: that of its run if the run came to it, and `skipped` otherwise. A node to which
--- the run came is skipped exactly if the suite left it out.
-pub record IsOneEach (suite : SuiteView) (may_disable : ℕ → Type 0) (count : ℕ) (ran : List Ran)
+-- the run came is skipped exactly if the suite left it out, and the suite answered for each other one that it is run.
+pub record IsOneEach (suite : SuiteView) (enabled_gives : ℕ → Bool → Type 0) (count : ℕ) (ran : List Ran)
     (results : List (ResultOf Fault)) : Type 0 where
   pub nodes : map (λ r. r.node) results ≡ range_with_len 0 count
   pub tests : map (λ r. r.is_test) results ≡ map suite.is_test (range_with_len 0 count)
@@ -68,7 +68,9 @@ pub record IsOneEach (suite : SuiteView) (may_disable : ℕ → Type 0) (count :
   pub of_skipped : (node : ℕ) → node < count → ¬ HasRun ran node
       → slice_get results node ≡ Some (skipped_result node (suite.is_test node))
   pub status : (node : ℕ) (result : ResultOf Fault) → slice_get results node ≡ Some result
-      → (result.status ≡ statuses.Skipped) ↔ ((¬ HasRun ran node) ⊎ IsLeftOut suite may_disable ran node)
+      → (result.status ≡ statuses.Skipped) ↔ ((¬ HasRun ran node) ⊎ IsLeftOut suite enabled_gives ran node)
+  pub enabled : (node : ℕ) (result : ResultOf Fault) → slice_get results node ≡ Some result
+      → result.status ≢ statuses.Skipped → enabled_gives node true
 
 -- ---- the laws
 
@@ -91,7 +93,7 @@ module _ {V A : Type 0} (t : TreeSetting V A) where
   -- A run of the whole tree gives one result for each node.
   abbrev pub OneResultEach : Type 0
   OneResultEach = (before : Lanes V) (ran : List Ran) (after : Lanes V) → IsRun 0 before ran after
-      → IsOneEach t.suite t.may_disable (length t.store.tree) ran (all_results t.suite (length t.store.tree) ran)
+      → IsOneEach t.suite t.enabled_gives (length t.store.tree) ran (all_results t.suite (length t.store.tree) ran)
 
   -- In the results a node is skipped exactly if one above it did not run the nodes below it, or if the suite left it
   -- out.
@@ -101,7 +103,7 @@ module _ {V A : Type 0} (t : TreeSetting V A) where
       → slice_get (all_results t.suite (length t.store.tree) ran) node ≡ Some result
       → (result.status ≡ statuses.Skipped)
       ↔ (((above : ℕ) × IsBetween t.store.tree 0 above node × RanAs ran above false)
-      ⊎ IsLeftOut t.suite t.may_disable ran node)
+      ⊎ IsLeftOut t.suite t.enabled_gives ran node)
 
   -- A run leaves as many lanes of the store as there were, and as many lock lanes, which hold nothing.
   abbrev pub KeepsLanes : Type 0

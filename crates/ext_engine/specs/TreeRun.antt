@@ -94,4 +94,5 @@ module _ {V A : Type 0} (t : TreeSetting V A) where
       × (IsDisabled t node before ran after
       ⊎ ((t.suite.is_test node ≡ true → TestRun t node path before ran after)
       × (t.suite.is_test node ≡ false
-      → ContainerRun (λ child s below u. TreeRun depth child s below u) node path before ran after)))
+      → ContainerRun (λ child s below u. TreeRun depth child s below u) node path before ran after)
+      × t.enabled_gives node true))

@@ -17,13 +17,13 @@ use ext_store::StoreValue;
 /// JUnit 5 User Guide, section "Relative Execution Order of User Code and Extensions"; when a node
 /// is skipped is an own rule.
 pub fn engine_laws<V: StoreValue + Drop, S: Suite<V>>()
-    ensures once { OfRuns (setting_of V.is_closeable S.suite_view S.may_disable S.registered S.call_gives S.action_gives S.Action.close_gives) RunsOnce }
-    ensures skipped { OfRuns (setting_of V.is_closeable S.suite_view S.may_disable S.registered S.call_gives S.action_gives S.Action.close_gives) SkipsExactly }
-    ensures results { OfRuns (setting_of V.is_closeable S.suite_view S.may_disable S.registered S.call_gives S.action_gives S.Action.close_gives) OneResultEach }
-    ensures results_skipped { OfRuns (setting_of V.is_closeable S.suite_view S.may_disable S.registered S.call_gives S.action_gives S.Action.close_gives) SkippedBelow }
-    ensures lanes { OfRuns (setting_of V.is_closeable S.suite_view S.may_disable S.registered S.call_gives S.action_gives S.Action.close_gives) KeepsLanes }
-    ensures faults { OfRuns (setting_of V.is_closeable S.suite_view S.may_disable S.registered S.call_gives S.action_gives S.Action.close_gives) EndsByFault }
-    ensures unknown { OfRuns (setting_of V.is_closeable S.suite_view S.may_disable S.registered S.call_gives S.action_gives S.Action.close_gives) UnknownToAll }
+    ensures once { OfRuns (setting_of V.is_closeable S.suite_view S.enabled_gives S.registered S.call_gives S.action_gives S.Action.close_gives) RunsOnce }
+    ensures skipped { OfRuns (setting_of V.is_closeable S.suite_view S.enabled_gives S.registered S.call_gives S.action_gives S.Action.close_gives) SkipsExactly }
+    ensures results { OfRuns (setting_of V.is_closeable S.suite_view S.enabled_gives S.registered S.call_gives S.action_gives S.Action.close_gives) OneResultEach }
+    ensures results_skipped { OfRuns (setting_of V.is_closeable S.suite_view S.enabled_gives S.registered S.call_gives S.action_gives S.Action.close_gives) SkippedBelow }
+    ensures lanes { OfRuns (setting_of V.is_closeable S.suite_view S.enabled_gives S.registered S.call_gives S.action_gives S.Action.close_gives) KeepsLanes }
+    ensures faults { OfRuns (setting_of V.is_closeable S.suite_view S.enabled_gives S.registered S.call_gives S.action_gives S.Action.close_gives) EndsByFault }
+    ensures unknown { OfRuns (setting_of V.is_closeable S.suite_view S.enabled_gives S.registered S.call_gives S.action_gives S.Action.close_gives) UnknownToAll }
 {}
 
 /// Proves in which order the lanes of a run act, for any suite of this type whose calls let their
@@ -38,8 +38,8 @@ pub fn engine_laws<V: StoreValue + Drop, S: Suite<V>>()
 /// An own rule, for JUnit 5 User Guide, sections "Relative Execution Order of User Code and
 /// Extensions" and "Parallel Execution".
 pub fn order_laws<V: StoreValue + Drop, S: Suite<V>>()
-    ensures go_on { OfSuites (setting_of V.is_closeable S.suite_view S.may_disable S.registered S.call_gives S.action_gives S.Action.close_gives) NodesGoOn }
-    ensures seen { OfSuites (setting_of V.is_closeable S.suite_view S.may_disable S.registered S.call_gives S.action_gives S.Action.close_gives) NodesAreSeen }
-    ensures containers_seen { OfSuites (setting_of V.is_closeable S.suite_view S.may_disable S.registered S.call_gives S.action_gives S.Action.close_gives) ContainersAreSeenInOrder }
-    ensures containers { OfSuites (setting_of V.is_closeable S.suite_view S.may_disable S.registered S.call_gives S.action_gives S.Action.close_gives) ContainersAreMadeInOrder }
+    ensures go_on { OfSuites (setting_of V.is_closeable S.suite_view S.enabled_gives S.registered S.call_gives S.action_gives S.Action.close_gives) NodesGoOn }
+    ensures seen { OfSuites (setting_of V.is_closeable S.suite_view S.enabled_gives S.registered S.call_gives S.action_gives S.Action.close_gives) NodesAreSeen }
+    ensures containers_seen { OfSuites (setting_of V.is_closeable S.suite_view S.enabled_gives S.registered S.call_gives S.action_gives S.Action.close_gives) ContainersAreSeenInOrder }
+    ensures containers { OfSuites (setting_of V.is_closeable S.suite_view S.enabled_gives S.registered S.call_gives S.action_gives S.Action.close_gives) ContainersAreMadeInOrder }
 {}

@@ -116,6 +116,7 @@ impl<V, S> Callbacks for Leaves<'_, V, S> {
 }
 
 impl<'a, V: StoreValue + Drop, S: LeafSuite<V>> Suite<V> for Leaves<'a, V, S> {
+    ghost use Rattle.std.specs.Prelude.{false};
     ghost use Rattle.ext_lifecycle.specs.Modes.{is_concurrent};
     ghost use Rattle.ext_engine.specs.LeafSuites.{MakesLeaf, leaves_view};
 
@@ -129,7 +130,7 @@ impl<'a, V: StoreValue + Drop, S: LeafSuite<V>> Suite<V> for Leaves<'a, V, S> {
 
     ghost action_gives = { λ leaves node action. S.action_gives leaves.suite.now node action };
 
-    ghost may_disable = { λ leaves node. S.may_disable leaves.suite.now node };
+    ghost enabled_gives = { λ leaves node answer. answer ≡ false → S.may_disable leaves.suite.now node };
 
     fn mode(&self, _node: ContextNo) -> Mode {
         self.mode

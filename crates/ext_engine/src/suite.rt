@@ -13,7 +13,7 @@ use std::sync::Wait;
 /// All workers of a run share it, and what it says of a node doesn't change. Its calls may come
 /// from several threads at once.
 pub trait Suite<V: StoreValue + Drop>: Callbacks {
-    ghost use Rattle.std.specs.Prelude.{◌≡◌, ◌<◌, ◌≤◌, ℕ, Bool, false, Option, length, slice_get, Some, option_map};
+    ghost use Rattle.std.specs.Prelude.{◌≡◌, ◌<◌, ◌≤◌, ℕ, Bool, true, Option, length, slice_get, Some, option_map};
     ghost use Rattle.ext_locks.specs.Sets.{HeldView};
     ghost use Rattle.ext_store.specs.Stores.{StoreView, StoreLane, IsLaneOf};
     ghost use Rattle.ext_lifecycle.specs.Modes.{is_concurrent};
@@ -59,21 +59,18 @@ pub trait Suite<V: StoreValue + Drop>: Callbacks {
     fn lock<'a>(&'a self, node: ContextNo, i: usize) -> Option<LockRequest<'a>>
         ensures { option_map asks result ≡ slice_get ((suite_view self.now).locks node) i };
 
-    /// The nodes that may be left out of a run: none, unless the suite says otherwise.
-    ghost may_disable: { Self → ℕ → Type 0 } = { λ suite node. ⊥ };
+    /// What the suite may answer to whether a node is to be run: yes, unless it says otherwise.
+    ghost enabled_gives: { Self → ℕ → Bool → Type 0 } = { λ suite node answer. answer ≡ true };
 
     /// Whether the node is to be run. Asked once where a run comes to the node, by the thread that
     /// would run it: after the before-callbacks of its container, and before anything of the node is
     /// called. If not, the node is skipped with all nodes below it. So tests that are known only
     /// when their container starts have nodes of their own: as many as there may be are in the
-    /// tree, and those that did not come are left out. `true`, unless the suite says otherwise.
+    /// tree, and those that did not come are left out.
     /// JUnit 5 User Guide, section "Conditional Test Execution"; that it is asked of nodes in
     /// reserve is an own rule.
-    fn is_enabled(&self, _node: ContextNo) -> bool
-        ensures { (result ≡ false) → may_disable self.now _node }
-    {
-        true
-    }
+    fn is_enabled(&self, node: ContextNo) -> bool
+        ensures { enabled_gives self.now node result };
 
     /// Answers what closes the values of the node's context. A run that closes a context asks for
     /// it once, and gives the context's values to no other action; that it asks for no second one

@@ -5,7 +5,7 @@ ghost use Rattle.ext_ids.specs.Grammar.{IsPartText, part_text, escape_of};
 use std::alloc::{AllocError, Global};
 
 /// The character that is spelled by a `%` and the two bytes at the beginning of `rest`.
-pub fn escape_of(rest: &[u8]) -> Option<char>
+pub(crate) fn escape_of(rest: &[u8]) -> Option<char>
     ensures { result ≡ escape_of rest.now }
 {
     match rest {
@@ -20,7 +20,7 @@ pub fn escape_of(rest: &[u8]) -> Option<char>
 }
 
 /// The part that `part` spells, its escapes decoded.
-pub fn decoded(alloc: Global, part: &str) -> Result<String, AllocError>
+pub(crate) fn decoded(alloc: Global, part: &str) -> Result<String, AllocError>
     requires { IsPartText part.now }
     ensures { IfOk result (λ s. part.now ≡ part_text (string_bytes s)) }
 {
@@ -36,7 +36,7 @@ pub fn decoded(alloc: Global, part: &str) -> Result<String, AllocError>
 }
 
 /// Appends a part to a text, its marks escaped.
-pub fn write_part(part: &str, text: &mut String) -> Result<(), AllocError>
+pub(crate) fn write_part(part: &str, text: &mut String) -> Result<(), AllocError>
     ensures { OnOk result (string_bytes text.new ≡ string_bytes text.old ++ part_text part.now) }
 {
     for c in part.chars() {

@@ -8,8 +8,8 @@ use thiserror::Error;
 
 /// The first fault of a text, from the left, or a failed allocation.
 ///
-/// A place is a byte offset from 0; if the text ends too early, it is the text's length. Each
-/// variant prints as its code and its place, such as `id: I6 at 9`.
+/// An offset counts bytes from 0; if the text ends too early, it is the text's length. Each variant
+/// prints as its code and its offset, such as `id: I6 at 9`.
 #[derive(Clone, Copy, Debug, PartialEq, Eq, Error)]
 pub enum IdFault {
     /// I1: the text is empty.
@@ -20,7 +20,7 @@ pub enum IdFault {
     NoSeparator(usize),
     /// I4: the text ends within a value.
     NoClose(usize),
-    /// I5: the `%` at this place begins none of the six escapes.
+    /// I5: the `%` at this offset begins none of the six escapes.
     BadEscape(usize),
     /// I6: an unescaped mark, or something other than `/` after a segment.
     RawCharacter(usize),

@@ -56,7 +56,7 @@ impl UniqueId {
 
         ensures memory { IfErr result (λ e. e ≡ Memory → (pairs : List Pair) × IsIdText text.now pairs) }
 
-        // The same as one function of the text, for a caller whose own result is one.
+        // What the result is, as one function of the text, for a caller whose own result is one.
         ensures exact { GivesOrMemory result (read_id text.now) }
     {
         check(text.as_bytes())?;

@@ -1,7 +1,7 @@
 //! Unique ids of test contexts: `[type:value]/[type:value]..`, from text to segments and back.
 //!
 //! Contracts see a `UniqueId` as the list of its segments, each a decoded type and value. A text is
-//! refused for its first fault from the left, with its place (`IdFault`), and parts for theirs,
+//! refused for its first fault from the left, with its offset (`IdFault`), and parts for theirs,
 //! with the part's number (`PartFault`).
 //!
 //! Ids are written as JUnit's `UniqueId` writes them.

@@ -53,7 +53,7 @@ impl From<AllocError> for PartFault {
 }
 
 /// The fault of the part that would be segment `at`.
-pub fn fault_at(at: usize, kind: &str, value: &str) -> Option<PartFault>
+pub(crate) fn fault_at(at: usize, kind: &str, value: &str) -> Option<PartFault>
     ensures { result ≡ fault_at at (kind.now, value.now) }
 {
     if at >= MAX_SEGMENTS {
@@ -69,7 +69,7 @@ pub fn fault_at(at: usize, kind: &str, value: &str) -> Option<PartFault>
 }
 
 /// The fault of these parts, if they make no id.
-pub fn parts_fault(parts: &[(&str, &str)]) -> Option<PartFault>
+pub(crate) fn parts_fault(parts: &[(&str, &str)]) -> Option<PartFault>
     ensures { result ≡ parts_fault (pairs_of parts.now) }
 {
     if parts.is_empty() {
@@ -85,7 +85,10 @@ pub fn parts_fault(parts: &[(&str, &str)]) -> Option<PartFault>
 }
 
 /// The segments of these parts.
-pub fn segments_from(alloc: Global, parts: &[(&str, &str)]) -> Result<Vec<Segment>, AllocError>
+pub(crate) fn segments_from(
+    alloc: Global,
+    parts: &[(&str, &str)],
+) -> Result<Vec<Segment>, AllocError>
     ensures { IfOk result (λ segments. segments.items ≡ pairs_of parts.now) }
 {
     let mut segments = Vec::new(alloc);
@@ -97,7 +100,7 @@ pub fn segments_from(alloc: Global, parts: &[(&str, &str)]) -> Result<Vec<Segmen
 }
 
 /// These segments, and behind them one of this part.
-pub fn with_segment(
+pub(crate) fn with_segment(
     alloc: Global,
     segments: &Vec<Segment>,
     kind: &str,

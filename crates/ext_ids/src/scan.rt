@@ -8,10 +8,10 @@ use crate::escape::escape_of;
 use crate::fault::IdFault;
 
 /// The greatest number of segments of an id.
-pub const MAX_SEGMENTS: usize = 16;
+pub(crate) const MAX_SEGMENTS: usize = 16;
 
 /// Checks a whole text, and keeps nothing of it.
-pub fn check(text: &[u8]) -> Result<(), IdFault>
+pub(crate) fn check(text: &[u8]) -> Result<(), IdFault>
     ensures ok { OnOk result (IsOk (read_id text.now)) }
     ensures fault { IfErr result (λ e. read_id text.now ≡ Err e) }
     ensures text { IfErr result (λ e. e ≢ Memory) }
@@ -36,13 +36,13 @@ pub fn check(text: &[u8]) -> Result<(), IdFault>
 
 /// Which part of a segment is read.
 #[derive(Clone, Copy, Debug, PartialEq, Eq)]
-pub enum Part {
+pub(crate) enum Part {
     Type,
     Value,
 }
 
-/// The place of the closing mark of the part that begins at `from`.
-pub fn part_end(text: &[u8], from: usize, part: Part) -> Result<usize, IdFault>
+/// The offset of the closing mark of the part that begins at `from`.
+pub(crate) fn part_end(text: &[u8], from: usize, part: Part) -> Result<usize, IdFault>
     requires { from ≤ length text.now }
     ensures exact { Gives (λ n. n) result (part_end part from false (drop from text.now)) }
     ensures text { IfErr result (λ e. e ≢ Memory) }
@@ -89,14 +89,14 @@ fn at_bracket(part: Part, some: bool, at: usize) -> Result<usize, IdFault>
 
 /// Where the type and the value of a segment end.
 #[derive(Clone, Copy, Debug)]
-pub struct Ends {
+pub(crate) struct Ends {
     pub kind: usize,
     pub value: usize,
 }
 
 /// The ends of the segment that begins at `from`.
 #[tactic(auto, unfolding(crate::specs::Reading::segment_at))]
-pub fn segment_ends(text: &[u8], from: usize) -> Result<Ends, IdFault>
+pub(crate) fn segment_ends(text: &[u8], from: usize) -> Result<Ends, IdFault>
     requires { from ≤ length text.now }
     ensures exact { Gives (λ n. (n.kind, n.value)) result (segment_at text.now from) }
     ensures text { IfErr result (λ e. e ≢ Memory) }

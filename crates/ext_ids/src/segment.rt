@@ -15,7 +15,7 @@ use std::marker::Model;
 
 /// One segment of an id, seen as the pair of its type and its value.
 #[derive(Debug, Drop)]
-pub struct Segment {
+pub(crate) struct Segment {
     kind: String,
     value: String,
 }
@@ -100,7 +100,7 @@ impl Eq for Segment {
 }
 
 /// Appends segments to a text, with `/` between two.
-pub fn write_segments(segments: &[Segment], text: &mut String) -> Result<(), AllocError>
+pub(crate) fn write_segments(segments: &[Segment], text: &mut String) -> Result<(), AllocError>
     ensures { OnOk result (string_bytes text.new ≡ string_bytes text.old ++ id_text segments.now) }
 {
     match segments {

@@ -25,6 +25,6 @@ pub struct Call {
     pub kind: Kind,
     /// The node that registered the callback, a number from 0; for a test the test itself.
     pub from: ContextNo,
-    /// Its place among the callbacks of this kind that the node registered, from 0; for a test 0.
+    /// Its index among the callbacks of this kind that the node registered, from 0; for a test 0.
     pub index: usize,
 }

@@ -10,7 +10,7 @@ use Rattle.ext_lint.specs.declared.note.Note.TheVariants as variants
 use Rattle.ext_lint.specs.declared.said.Said.{Said}
 use Rattle.ext_lint.specs.declared.said_set.SaidSet.{SaidSet}
 use Rattle.ext_lint.specs.declared.speech.Speech.{Speech}
-use Rattle.ext_lint.specs.Notes.{NoteText, idle, missing, unnamed, crowded, lone}
+use Rattle.ext_lint.specs.Notes.{NoteText, idle, missing, empty, unnamed, crowded, lone}
 use Rattle.ext_lint.specs.Places.{place_view}
 use Rattle.ext_lint.specs.Said.{SaidText}
 
@@ -22,6 +22,7 @@ said_view s = record { word = s.word; key = s.key; name = s.name.now; text = s.t
 abbrev pub note_view : Note → NoteText
 note_view (variants.Idle p) = idle (place_view p)
 note_view (variants.Missing p s) = missing (place_view p) (said_view s)
+note_view (variants.Empty call) = empty call
 note_view (variants.Unnamed label) = unnamed label.now
 note_view variants.Crowded = crowded
 note_view (variants.Lone name) = lone name.now

@@ -4,6 +4,7 @@
 --     [engine:x]/[test:a]: step 0 of its test, want srever up: no step stores srever: did you mean server?
 --     [engine:x]/[test:a]: step 1 of its test, want server upp: no step stores upp under server: did you mean up?
 --     [engine:x]: before_each 0: no test is below
+--     [engine:x]: after_each 0: it has no steps
 --     key disk: no step names it
 --     the steps name more than 64 keys
 --     lock db: one test alone takes it
@@ -12,14 +13,15 @@
 use Rattle.std.specs.Prelude.{ℕ, ◌==◌, codes, Bool, not, List, [], ◌∷◌, ◌++◌, length, nat_lt, map, filter, take, Option, Some, None, if◌then◌else◌}
 use Rattle.std.specs.Fmt.{decimal}
 use Rattle.std.specs.List.{flat_map}
+use Rattle.ext_lifecycle.specs.declared.call.Call.{Call}
 use Rattle.ext_lifecycle.specs.declared.call.Kind.{Kind}
 use Rattle.ext_lifecycle.specs.declared.call.Kind.TheVariants as kinds
 use Rattle.ext_plan.specs.Plans.{PlanText}
 use Rattle.ext_plan_reading.specs.Nearest.{nearest}
 use Rattle.ext_races.specs.RaceLines.{found_text, id_of_node, line_limit}
 use Rattle.ext_races.specs.declared.found.Found.TheVariants as found
-use Rattle.ext_lint.specs.Notes.{NoteText, idle, missing, unnamed, crowded, lone, notes, stored_by}
-use Rattle.ext_lint.specs.Places.{PlaceText, places}
+use Rattle.ext_lint.specs.Notes.{NoteText, idle, missing, empty, unnamed, crowded, lone, notes, stored_by}
+use Rattle.ext_lint.specs.Places.{PlaceText, call_at, places}
 use Rattle.ext_lint.specs.Said.{SaidText}
 
 -- A callback by its kind and its number, or the test.
@@ -55,13 +57,16 @@ module _ (plan : PlanText) where
       place_words p ++ codes ", want " ++ s.name ++ codes " " ++ s.text ++ codes ": "
       ++ missing_words s (texts_of s.key stored) (map (λ other. other.name) stored) ++ codes "\n"
 
-  unfoldable pub idle_line : PlaceText → List ℕ
-  idle_line p = id_of_node plan p.node ++ codes ": " ++ call_words p.kind p.index ++ codes ": no test is below\n"
+  -- The line of a callback that ends in these words.
+  unfoldable pub callback_line : Call → List ℕ → List ℕ
+  callback_line call end =
+      id_of_node plan call.from ++ codes ": " ++ call_words call.kind call.index ++ codes ": " ++ end ++ codes "\n"
 
   -- The line of a note, where these are stored.
   abbrev pub note_line : List SaidText → NoteText → List ℕ
-  note_line stored (idle p) = idle_line p
+  note_line stored (idle p) = callback_line (call_at p) (codes "no test is below")
   note_line stored (missing p s) = missing_line stored p s
+  note_line stored (empty call) = callback_line call (codes "it has no steps")
   note_line stored (unnamed label) = codes "key " ++ label ++ codes ": no step names it\n"
   note_line stored crowded = found_text plan found.TooManyKeys
   note_line stored (lone name) = codes "lock " ++ name ++ codes ": one test alone takes it\n"

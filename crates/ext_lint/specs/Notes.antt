@@ -2,8 +2,11 @@
 use Rattle.std.specs.Prelude.{ℕ, ◌==◌, ◌&&◌, ◌||◌, not, Bool, List, [], ◌∷◌, ◌++◌, length, nat_lt, take, map, Option, Some, None, is_some, if◌then◌else◌}
 use Rattle.std.specs.List.{count_by, flat_map, list_any}
 use Rattle.std.specs.Str.{bytes_eq}
+use Rattle.ext_lifecycle.specs.declared.call.Call.{Call}
+use Rattle.ext_lifecycle.specs.declared.call.Kind.{Kind}
+use Rattle.ext_lifecycle.specs.declared.call.Kind.TheVariants as kinds
 use Rattle.ext_tree.specs.Keys.{KeyValue}
-use Rattle.ext_plan.specs.Plans.{KeyText, NodeText, PlanText}
+use Rattle.ext_plan.specs.Plans.{KeyText, NodeText, PlanText, StepText}
 use Rattle.ext_plan.specs.LockNames.{lock_name, lock_names}
 use Rattle.ext_plan.specs.StoreKeys.{is_there, named_key}
 use Rattle.ext_lint.specs.Live.{has_test}
@@ -15,6 +18,8 @@ pub data NoteText : Type 0 where
   idle : PlaceText → NoteText
   -- This step wants a text that no step of the plan stores under its key.
   missing : PlaceText → SaidText → NoteText
+  -- This callback has no steps.
+  empty : Call → NoteText
   -- No step names the key with this label.
   unnamed : List ℕ → NoteText
   -- The steps name more keys than there are places.
@@ -57,6 +62,28 @@ module _ (plan : PlanText) where
   abbrev pub step_notes : List NoteText
   step_notes = numbered notes_at 0 (places plan)
 
+-- ---- of callbacks without steps
+
+abbrev pub empty_if : Call → List StepText → List NoteText
+empty_if call steps = if length steps == 0 then empty call ∷ [] else []
+
+-- Of the callback with this index.
+abbrev pub empty_at : ℕ → Kind → ℕ → List StepText → List NoteText
+empty_at node kind index steps = empty_if (record { kind = kind; from = node; index = index }) steps
+
+abbrev pub empty_of_kind : ℕ → Kind → List (List StepText) → List NoteText
+empty_of_kind node kind callbacks = numbered (empty_at node kind) 0 callbacks
+
+abbrev pub empty_of_node : ℕ → NodeText → List NoteText
+empty_of_node number node =
+    empty_of_kind number kinds.BeforeAll node.before_all
+    ++ empty_of_kind number kinds.BeforeEach node.before_each
+    ++ empty_of_kind number kinds.AfterEach node.after_each
+    ++ empty_of_kind number kinds.AfterAll node.after_all
+
+abbrev pub callback_notes : PlanText → List NoteText
+callback_notes plan = numbered empty_of_node 0 plan.nodes
+
 -- ---- of keys and locks
 
 abbrev pub key_note : List KeyValue → KeyText → List NoteText
@@ -87,5 +114,5 @@ lock_notes nodes = flat_map (lock_note nodes) (lock_names nodes)
 -- More keys than a plan can have places for are told alone.
 abbrev pub notes : PlanText → List NoteText
 notes plan = if nat_lt 1024 (length (keys_said plan)) then crowded ∷ []
-    else step_notes plan ++ key_notes (keys_said plan) plan.keys ++ crowd_notes plan.key_places (keys_said plan)
-    ++ lock_notes plan.nodes
+    else step_notes plan ++ callback_notes plan ++ key_notes (keys_said plan) plan.keys
+    ++ crowd_notes plan.key_places (keys_said plan) ++ lock_notes plan.nodes

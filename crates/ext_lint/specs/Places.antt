@@ -1,6 +1,7 @@
 -- All steps of a plan in its order: of each node the callbacks before all, those before each test, the test's own
 -- steps, and the callbacks after each test and after all. Each step is told with its place, numbered from 0.
 use Rattle.std.specs.Prelude.{ℕ, ◌+◌, List, [], ◌∷◌, ◌++◌}
+use Rattle.ext_lifecycle.specs.declared.call.Call.{Call}
 use Rattle.ext_lifecycle.specs.declared.call.Kind.{Kind}
 use Rattle.ext_lifecycle.specs.declared.call.Kind.TheVariants as kinds
 use Rattle.ext_plan.specs.Plans.{NodeText, PlanText, StepText, step_view}
@@ -17,6 +18,10 @@ pub record PlaceText : Type 0 where
 
 abbrev pub place_view : Place → PlaceText
 place_view p = record { node = p.node; kind = p.kind; index = p.index; at = p.at; step = step_view p.step.now }
+
+-- The callback or the test that the step is of.
+abbrev pub call_at : PlaceText → Call
+call_at p = record { kind = p.kind; from = p.node; index = p.index }
 
 -- What each element gives by its number, one after another. The first has this number.
 abbrev pub numbered : {X Y : Type 0} → (ℕ → X → List Y) → ℕ → List X → List Y

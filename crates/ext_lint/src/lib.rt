@@ -1,6 +1,6 @@
 //! What of a plan is most likely a mistake, although the plan can be read: texts that are wanted and
-//! never stored, callbacks that run for no test, keys that no step names, and locks that one test
-//! alone takes.
+//! never stored, callbacks that run for no test or have no steps, keys that no step names, and locks
+//! that one test alone takes.
 //!
 //! `lint` tells the notes of a plan in lines. In `specs/`, `Places` lists a plan's steps, `Said` what
 //! they say of keys, `Live` which nodes have tests, `Notes` defines the notes, and `NoteLines` their
@@ -9,6 +9,7 @@
 //! JUnit has no such checker.
 #![tactic(auto)]
 
+mod callbacks;
 mod keys;
 mod linting;
 mod live;

@@ -5,6 +5,7 @@ ghost use Rattle.ext_plan.specs.ReadPlans.{IsRunnablePlan};
 ghost use Rattle.ext_lint.specs.NoteLines.{has_notes, lint_text, note_lines};
 ghost use Rattle.ext_lint.specs.Notes.{crowded};
 
+use crate::callbacks::note_callbacks;
 use crate::keys::keys_of;
 use crate::live::nodes_with_tests;
 use crate::note::Note;
@@ -33,6 +34,7 @@ pub struct PlanNotes {
 /// - for each step, in the order of the plan: that it begins a callback with no test at or below its
 ///   node; and that it wants a text that no step of the plan stores under its key, if no step before
 ///   it wanted the same, with the text or the key that may have been meant;
+/// - for each callback without steps, in the order of the plan, that it has none;
 /// - for each declared key that no step names it;
 /// - that the steps name more keys than there are places;
 /// - for each lock that one test alone names it.
@@ -47,7 +49,6 @@ pub fn lint(alloc: Global, plan: &Plan) -> Result<PlanNotes, AllocError>
     ensures text { IfOk result (λ told. string_bytes told.text ≡ lint_text (plan_view plan.now)) }
     ensures found { IfOk result (λ told. told.found ≡ has_notes (plan_view plan.now)) }
 {
-    let tree = plan.tree(alloc)?;
     let places = places_of(alloc, plan)?;
     let made = plan.store_keys(alloc)?;
     let keys = StepKeys::of(plan.keys.as_slice(), made.as_slice());
@@ -56,13 +57,14 @@ pub fn lint(alloc: Global, plan: &Plan) -> Result<PlanNotes, AllocError>
         Err(TreeFault::TooMany) => return crowded(alloc, plan),
         Err(_) => return Err(AllocError),
     };
-    let live = nodes_with_tests(alloc, plan, &tree)?;
+    let live = nodes_with_tests(alloc, plan)?;
     let speech = Speech::of(plan.keys.as_slice(), keys, &directory);
     let stored = speech.stored(alloc, places.as_slice())?;
     let set = SaidSet::of(alloc, stored.as_slice())?;
     let rules = StepRules::of(plan, speech, live, set);
     let mut notes = Vec::new(alloc);
     rules.note_steps(alloc, places.as_slice(), &mut notes)?;
+    note_callbacks(plan, &mut notes)?;
     note_keys(alloc, plan.keys.as_slice(), &directory, &mut notes)?;
     note_crowd(plan.key_places, &directory, &mut notes)?;
     note_locks(alloc, plan, &mut notes)?;

@@ -1,7 +1,6 @@
 //! Which nodes have a test at or below them.
 ghost use Rattle.std.specs.Prelude.{ℕ, ◌≡◌, ◌<◌, ◌==◌, ◌||◌, length, IfOk, OnOk};
 ghost use Rattle.ext_plan.specs.Plans.{node_view, plan_view};
-ghost use Rattle.ext_plan.specs.ReadPlans.{ids_of_nodes};
 ghost use Rattle.ext_races.specs.MadeSteps.{path_of};
 ghost use Rattle.ext_lint.specs.InnerLists.{has_node};
 ghost use Rattle.ext_lint.specs.Live.{has_test, is_among, path_of_test};
@@ -16,11 +15,10 @@ use std::collections::BTreeSet;
 pub(crate) fn nodes_with_tests(
     alloc: Global,
     plan: &Plan,
-    tree: &Tree,
 ) -> Result<BTreeSet<ContextNo>, AllocError>
-    requires { tree.now ≡ ids_of_nodes (plan_view plan.now).nodes }
     ensures { IfOk result (λ set. (node : ℕ) → has_node set node ≡ has_test (plan_view plan.now) node) }
 {
+    let tree = plan.tree();
     let mut set = BTreeSet::new(alloc);
     for (number, node) in plan.nodes.iter().enumerate() {
         add_test(tree, number, node, &mut set)?;

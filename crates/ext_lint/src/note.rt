@@ -1,6 +1,7 @@
 //! The notes of a plan.
 use crate::place::Place;
 use crate::said::Said;
+use ext_lifecycle::Call;
 
 /// What is most likely a mistake in a plan.
 #[derive(Clone, Copy, Debug)]
@@ -9,6 +10,8 @@ pub(crate) enum Note<'p> {
     Idle(Place<'p>),
     /// The step wants a text that no step stores under its key.
     Missing(Place<'p>, Said<'p>),
+    /// The callback has no steps.
+    Empty(Call),
     /// No step names the key with this label.
     Unnamed(&'p str),
     /// The steps name more keys than there are places.

@@ -2,9 +2,9 @@
 ghost use Rattle.std.specs.Prelude.{◌≡◌, ◌++◌, map, option_map, IfOk, OnOk};
 ghost use Rattle.ext_plan.specs.Plans.{node_view, plan_view, step_view, steps_view};
 ghost use Rattle.ext_plan.specs.PlanCalls.{or_no_steps};
-ghost use Rattle.ext_lint.specs.Places.{place_view, places, places_of_kind, places_of_node, places_of_steps};
+ghost use Rattle.ext_lint.specs.Places.{call_at, place_view, places, places_of_kind, places_of_node, places_of_steps};
 
-use ext_lifecycle::Kind;
+use ext_lifecycle::{Call, Kind};
 use ext_model::ContextNo;
 use ext_plan::{Plan, PlanNode, Step};
 use std::alloc::{AllocError, Global};
@@ -17,6 +17,19 @@ pub(crate) struct Place<'p> {
     pub index: usize,
     pub at: usize,
     pub step: &'p Step,
+}
+
+impl Place<'_> {
+    /// The callback or the test that the step is of.
+    pub(crate) fn call(&self) -> Call
+        ensures { result ≡ call_at (place_view self.now) }
+    {
+        Call {
+            kind: self.kind,
+            from: self.node,
+            index: self.index,
+        }
+    }
 }
 
 /// Lists all steps of the plan, in its order. Takes memory for the list.

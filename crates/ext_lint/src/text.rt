@@ -5,13 +5,13 @@ ghost use Rattle.std.specs.List.{flat_map};
 ghost use Rattle.ext_plan.specs.Plans.{plan_view};
 ghost use Rattle.ext_races.specs.RaceLines.{found_text, id_of_node, line_limit};
 ghost use Rattle.ext_lint.specs.InnerLists.{note_view, said_view};
-ghost use Rattle.ext_lint.specs.NoteLines.{call_words, hint, idle_line, missing_line, missing_words, note_line, note_lines, place_words, texts_of};
+ghost use Rattle.ext_lint.specs.NoteLines.{call_words, callback_line, hint, missing_line, missing_words, note_line, note_lines, place_words, texts_of};
 ghost use Rattle.ext_lint.specs.Places.{place_view};
 
 use crate::note::Note;
 use crate::place::Place;
 use crate::said::Said;
-use ext_lifecycle::Kind;
+use ext_lifecycle::{Call, Kind};
 use ext_model::{ContextNo, KeyNo};
 use ext_plan::Plan;
 use ext_plan_reading::nearest;
@@ -82,8 +82,9 @@ fn push_note(
     ensures { OnOk result (string_bytes text.new ≡ string_bytes text.old ++ note_line (plan_view plan.now) (map said_view stored.now) (note_view note.now)) }
 {
     match note {
-        Note::Idle(place) => push_idle(alloc, text, plan, place),
+        Note::Idle(place) => push_callback(text, plan, place.call(), "no test is below"),
         Note::Missing(place, said) => push_missing(alloc, text, plan, stored, place, said),
+        Note::Empty(call) => push_callback(text, plan, *call, "it has no steps"),
         Note::Unnamed(label) => push_named(text, "key ", label, ": no step names it\n"),
         Note::Crowded => push_crowded(alloc, text, plan),
         Note::Lone(name) => push_named(text, "lock ", name, ": one test alone takes it\n"),
@@ -107,19 +108,14 @@ fn push_crowded(alloc: Global, text: &mut String, plan: &Plan) -> Result<(), All
     text.push_str(line.as_str())
 }
 
-/// Adds the line of a callback that runs for no test.
-fn push_idle(
-    alloc: Global,
-    text: &mut String,
-    plan: &Plan,
-    place: &Place<'_>,
-) -> Result<(), AllocError>
-    ensures { OnOk result (string_bytes text.new ≡ string_bytes text.old ++ idle_line (plan_view plan.now) (place_view place.now)) }
+/// Adds the line of a callback that ends in these words.
+fn push_callback(text: &mut String, plan: &Plan, call: Call, end: &str) -> Result<(), AllocError>
+    ensures { OnOk result (string_bytes text.new ≡ string_bytes text.old ++ callback_line (plan_view plan.now) call end.now) }
 {
-    let mut call = String::new(alloc);
-    push_call(&mut call, place.kind, place.index)?;
-    push_id(text, plan, place.node)?;
-    push_named(text, ": ", call.as_str(), ": no test is below\n")
+    push_id(text, plan, call.from)?;
+    text.push_str(": ")?;
+    push_call(text, call.kind, call.index)?;
+    push_named(text, ": ", end, "\n")
 }
 
 /// Adds the line of a step that wants what no step stores.

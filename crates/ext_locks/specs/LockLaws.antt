@@ -56,7 +56,7 @@ NoCall = (lane : Lane) → LaneCalls lane lane []
 
 -- ---- sets
 
--- Requests have at most one merged set, if no name stands twice. Locks promise that by `recall`.
+-- Requests have at most one merged set, if no name stands twice. Locks promise that by `tell_proof`.
 abbrev pub OneMergedSet : Type 0
 OneMergedSet = (names : List (List ℕ)) (requests : List LockRequest) (set other : List (ℕ × LockMode))
     → AreDifferent names → IsMerged names requests set → IsMerged names requests other → set ≡ other

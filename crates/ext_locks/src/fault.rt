@@ -11,10 +11,10 @@ pub enum LockFault {
     /// There are more than 63 names.
     #[error("too many names")]
     TooMany,
-    /// The name at this place, from 0, is the first that also stands before it.
+    /// The name at this index, from 0, is the first that also stands before it.
     #[error("name {0} stands twice")]
     Twice(usize),
-    /// The request at this place, from 0, is the first that names an unknown lock. Only `merge`
+    /// The request at this index, from 0, is the first that names an unknown lock. Only `merge`
     /// answers it.
     #[error("request {0} has an unknown resource")]
     UnknownResource(usize),

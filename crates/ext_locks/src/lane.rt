@@ -45,7 +45,7 @@ impl LockLane {
 
     /// Proves what is true of every lane: all that it has seen is legal, and each history goes on
     /// from the one before it. It does nothing when it runs.
-    pub fn recall(&self)
+    pub fn tell_proof(&self)
         ensures lane { self.now.view.number < self.now.lanes }
         ensures lanes { self.now.lanes ≤ 32 }
         ensures one_history { Follow [] self.now.view.fronts }

@@ -145,7 +145,7 @@ impl Locks {
     /// Proves what is true of all locks: the names are at most 63, different and in the order of
     /// their bytes, and lanes and tries are within their limits. So requests have one merged set.
     /// It does nothing when it runs.
-    pub fn recall(&self)
+    pub fn tell_proof(&self)
         ensures { AreLocks self.now }
     {
         let _tries = self.tries;

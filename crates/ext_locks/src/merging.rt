@@ -5,7 +5,7 @@ ghost use Rattle.std.specs.String.{string_cmp};
 ghost use Rattle.ext_locks.specs.Sets.{AllBelow};
 ghost use Rattle.ext_locks.specs.Names.{IsNumberOf, IsKnown, is_as_strong, IsMerged, IsNotMerged};
 
-use crate::names::place_of;
+use crate::names::index_of;
 use crate::set::MAX_LOCKS;
 use crate::{LockFault, LockMode, LockNo, LockRequest, LockSet, Resource};
 
@@ -18,7 +18,7 @@ fn number_of(names: &[String], resource: &Resource) -> Option<LockNo>
 {
     match resource {
         Resource::Global => Some(0),
-        Resource::Named(name) => match place_of(names, name) {
+        Resource::Named(name) => match index_of(names, name) {
             Some(at) => Some(at + 1),
             None => None,
         },

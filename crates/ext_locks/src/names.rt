@@ -1,4 +1,4 @@
-//! The names of locks: how they are checked at opening, and the place of one among them.
+//! The names of locks: how they are checked at opening, and the index of one among them.
 ghost use Rattle.std.specs.Prelude.{◌≡◌, IfOk, IfSome, MatchOption, Some, None, Contains, IsPermutation, map, slice_get, length, string_bytes};
 ghost use Rattle.std.specs.List.Sorted.{IsSorted};
 ghost use Rattle.std.specs.String.{string_cmp};
@@ -6,7 +6,7 @@ ghost use Rattle.ext_locks.specs.Names.{texts_of, AreDifferent, IsFirstTwice};
 
 use std::alloc::{AllocError, Global};
 
-/// The first place of a name that also stands before it.
+/// The first index of a name that also stands before it.
 pub(crate) fn first_twice(names: &[&str]) -> Option<usize>
     ensures { MatchOption result (AreDifferent (texts_of names.now)) (IsFirstTwice (texts_of names.now)) }
 {
@@ -33,8 +33,8 @@ pub(crate) fn sorted_copies(alloc: Global, names: &[&str]) -> Result<Vec<String>
     Ok(copies)
 }
 
-/// The place of a name among names in the order of their bytes, found by binary search.
-pub(crate) fn place_of(names: &[String], name: &str) -> Option<usize>
+/// The index of a name among names in the order of their bytes, found by binary search.
+pub(crate) fn index_of(names: &[String], name: &str) -> Option<usize>
     requires { IsSorted string_cmp names.now }
     ensures found { IfSome result (λ at. slice_get (map string_bytes names.now) at ≡ Some name.now) }
     ensures absent { result ≡ None → ¬ (Contains (map string_bytes names.now) name.now) }

@@ -26,7 +26,7 @@ impl Model for LockSet {
 impl LockSet {
     ghost use Rattle.std.specs.Prelude.{◌≡◌, slice_get};
 
-    /// The lock at place `i`, from 0, in the order of the locks' numbers, and its mode, or `None`
+    /// The lock at index `i`, from 0, in the order of the locks' numbers, and its mode, or `None`
     /// past the last one.
     pub fn get(&self, i: usize) -> Option<(LockNo, LockMode)>
         ensures { result ≡ slice_get self.now i }

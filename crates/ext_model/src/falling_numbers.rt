@@ -52,7 +52,7 @@ impl<const ROOM: usize> FallingNumbers<ROOM> {
         ensures numbers { self.new ≡ put_in number self.old }
         ensures few { length self.new ≤ length self.old + 1 }
     {
-        let Some(at) = place_for(self.numbers.as_slice(), number) else {
+        let Some(at) = index_for(self.numbers.as_slice(), number) else {
             self.numbers.push(number);
             return;
         };
@@ -73,8 +73,8 @@ impl<const ROOM: usize> FallingNumbers<ROOM> {
     }
 }
 
-// The place of the first number that is not greater than this one.
-fn place_for(numbers: &[u32], number: u32) -> Option<usize>
+// The index of the first number that is not greater than this one.
+fn index_for(numbers: &[u32], number: u32) -> Option<usize>
     ensures within { IfSome result (λ at. at < length numbers.now) }
     ensures not_greater { IfSome result (λ at. slice_index numbers.now at ≤ number) }
     ensures greater { IfSome result (λ at. (k : ℕ) → k < at → number < slice_index numbers.now k) }

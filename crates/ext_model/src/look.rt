@@ -21,7 +21,7 @@ pub enum Look {
     Absent,
     /// A lane computes a value for the context that decides.
     Busy(ContextNo),
-    /// The context that decides is closed.
+    /// The place of the context that decides is sealed: the context is closed or is being closed.
     Closed(ContextNo),
 }
 

@@ -196,6 +196,7 @@ module _ {V A : Type 0} (t : TreeSetting V A) (moves : CallsGoOn t.call_gives) (
         (λ container.
             container_alone depth (λ child s below u. TreeRun (with_calls (CallsAlone t h) t) depth child s below u) (λ c s below u here. tree_alone tree depth c s below u here) tree node r.run.0 r.run.1
             before ran after (on.1 container) r.within r.alone),
+        on.2,
       )
     ],
   )

@@ -195,6 +195,7 @@ module _ {V A : Type 0} (t : TreeSetting V A) (Is : StoreLane V → Type 0) (kee
         (λ test. test_from node run.0 before ran after (on.0 test) all),
         (λ container.
             container_from depth (λ child s below u. TreeRun finer depth child s below u) (λ c s below u r here. tree_from depth c s below u r here) node run.0 before ran after (on.1 container) all),
+        on.2,
       )
     ],
   )

@@ -51,7 +51,7 @@ abbrev none_open : Open
 none_open context key = None
 
 module _ (nodes : List NodeText) (suite : SuiteView) (ran : List Ran) (results : List (ResultOf Fault)) (after : List NodeOutcome)
-    (tests : (node : ℕ) → suite.is_test node ≡ is_some (test_in (slice_get nodes node))) (one : IsOneEach suite (λ node. ⊥) (length nodes) ran results) (shares : ℕ → Open)
+    (tests : (node : ℕ) → suite.is_test node ≡ is_some (test_in (slice_get nodes node))) (one : IsOneEach suite (λ node answer. answer ≡ true) (length nodes) ran results) (shares : ℕ → Open)
     (told : AllToldNear shares ran (skipped_from 0 nodes) after) (once : Once (nodes_of ran)) (as_many : computed_of ran ≡ computed_told ran after) where
   itself : (shared : SharedValues) (a b : NodeOutcome) → a ≡ b → AreToldNear shared a b
   itself shared a b same = subst (λ x. AreToldNear shared a x) same (record { same = refl; counts = refl; exact = λ nothing. refl })

@@ -1,5 +1,5 @@
 -- The results of a run on several lanes and of a plain run, place by place.
-use Rattle.std.proofs.Common.{◌≡◌, inl, inr, ◌⊎◌, ℕ, zero, suc, ◌+◌, ◌<◌, ◌≢◌, List, [], ◌∷◌, length, Some, Contains, refl, ap, sym, subst, ◌∙◌, arith}
+use Rattle.std.proofs.Common.{◌≡◌, inl, inr, ◌⊎◌, ℕ, zero, suc, ◌+◌, ◌<◌, ◌≢◌, true, List, [], ◌∷◌, length, Some, Contains, refl, ap, sym, subst, ◌∙◌, arith}
 use Rattle.std.specs.Prelude.{is_some, slice_get}
 use Rattle.std.proofs.lemmas.Bool.{cases_order}
 use Rattle.std.proofs.lemmas.List.{length-map}
@@ -51,5 +51,5 @@ length_skipped from [] = refl
 length_skipped from (node ∷ nodes) = ap suc (length_skipped (from + 1) nodes)
 
 -- there are as many results as there were before the run
-pub length_results : (nodes : List NodeText) (suite : SuiteView) (ran : List Ran) (results : List (ResultOf Fault)) → IsOneEach suite (λ node. ⊥) (length nodes) ran results → length results ≡ length (skipped_from 0 nodes)
+pub length_results : (nodes : List NodeText) (suite : SuiteView) (ran : List Ran) (results : List (ResultOf Fault)) → IsOneEach suite (λ node answer. answer ≡ true) (length nodes) ran results → length results ≡ length (skipped_from 0 nodes)
 length_results nodes suite ran results one = sym (length-map results (λ r. r.node)) ∙ ap length one.nodes ∙ length-range_with_len 0 (length nodes) ∙ sym (length_skipped 0 nodes)

@@ -1,5 +1,5 @@
 -- Nodes with all nodes below them that share values with nodes beside them: on the lanes and in the plain run they end near.
-use Rattle.std.proofs.Common.{◌≡◌, ◌≢◌, ℕ, zero, suc, ◌+◌, ◌-◌, ◌<◌, ◌≤◌, ◌==◌, ◌&&◌, ◌||◌, eq-eqb, inl, inr, true, false, not, drop, fold, List, [], ◌∷◌, ◌++◌, length, None, Some, ap, refl, sym, subst, ◌∙◌, arith}
+use Rattle.std.proofs.Common.{◌≡◌, ◌≢◌, ℕ, zero, suc, ◌+◌, ◌-◌, ◌<◌, ◌≤◌, ◌==◌, ◌&&◌, ◌||◌, eq-eqb, inl, inr, true, false, not, drop, fold, List, [], ◌∷◌, ◌++◌, length, None, Some, ap, refl, sym, subst, ◌∙◌, arith, true≢false}
 use Rattle.std.specs.Prelude.{All, Contains, is_some}
 use Rattle.std.proofs.lemmas.Bool.{eqb-true}
 use Rattle.std.proofs.lemmas.Grind.{fold-append}
@@ -794,12 +794,12 @@ module _ (plan : PlanText) (run : RunView) (locks : LocksView) (h : History) (to
       elim (bools (is_some (test_of plan node))) [
         | inl test ↦
             let is : node_run plan levels path r ≡ test_node_run plan node path r = node_run-more plan levels path r node true some (start_is (ids_of_nodes plan.nodes) node path in_ids) test in
-            let test_run : TestRun setting node path before ran after = subst (λ p. TestRun setting node p before ran after) same (elim tree_run.2 [ inl left ↦ absurd left.allowed | inr on ↦ on.0 test ]) in
+            let test_run : TestRun setting node path before ran after = subst (λ p. TestRun setting node p before ran after) same (elim tree_run.2 [ inl left ↦ absurd (true≢false (sym left.allowed)) | inr on ↦ on.0 test ]) in
             let ended = tests_end_near plan run locks h touched changes changed shares node path o before ran after r basis path_is test test_run begins (subst D is drawn) in
             subst E (sym is) (record { ends = ended; under = test_under node path before ran after in_ids test_run })
         | inr container ↦
             let is : node_run plan levels path r ≡ container_run plan (node_run plan (levels - 1)) node path r = node_run-more plan levels path r node false some (start_is (ids_of_nodes plan.nodes) node path in_ids) container in
-            let lanes_run : ContainerRun setting (ChildRun setting depth) node path before ran after = subst (λ p. ContainerRun setting (ChildRun setting depth) node p before ran after) same (elim tree_run.2 [ inl left ↦ absurd left.allowed | inr on ↦ on.1 container ]) in
+            let lanes_run : ContainerRun setting (ChildRun setting depth) node path before ran after = subst (λ p. ContainerRun setting (ChildRun setting depth) node p before ran after) same (elim tree_run.2 [ inl left ↦ absurd (true≢false (sym left.allowed)) | inr on ↦ on.1 container ]) in
             let g : Ground = record {
               plan = plan;
               run = run;

@@ -1,5 +1,5 @@
 -- A run whose results tell of no step that may have lacked something lacks nothing: each node tells so of its own calls and closes, and each node that ran has its result.
-use Rattle.std.proofs.Common.{◌≡◌, inl, inr, ◌∙◌, ℕ, zero, suc, Bool, true, false, List, [], ◌∷◌, ◌++◌, Contains, map, map-id, min, length, Option, Some, None, refl, ap, sym, subst}
+use Rattle.std.proofs.Common.{◌≡◌, inl, inr, ◌∙◌, ℕ, zero, suc, Bool, true, false, List, [], ◌∷◌, ◌++◌, Contains, map, map-id, min, length, Option, Some, None, refl, ap, sym, subst, true≢false}
 use Rattle.std.specs.Prelude.{option_map, slice_get, slice_index_or, ◌||◌}
 use Rattle.std.specs.List.{AllByRecursion, FoldsTo, flat_map}
 use Rattle.std.proofs.lemmas.List.{length-map}
@@ -262,12 +262,13 @@ module _ (plan : PlanText) (store : StoreView) (locks : LocksView) where
     run.0,
     run.1,
     elim run.2 [
-      | inl left ↦ absurd left.allowed
+      | inl left ↦ absurd (true≢false (sym left.allowed))
       | inr on ↦ inr (
         (λ test. test_full node run.0 before ran after (on.0 test) spared),
         (λ container.
             container_full (λ child s below u. TreeRun plain_setting depth child s below u) (λ child s below u. TreeRun fully depth child s below u) (λ c s below u made there. tree_full depth c s below u made there)
             node run.0 before ran after (on.1 container) spared),
+        on.2,
       )
     ],
   )
@@ -283,7 +284,7 @@ one-spared (x ∷ results) (suc node) r spared is =
     one-spared results node r (neither x.lacked (may_have_lacked (map (with_fault_told fault_text) results)) spared).1 is
 
 module _ (plan : PlanText) (lanes : ℕ) (results : List (ResultOf Fault)) (read : IsReadPlan plan) (run : ParallelRun plan lanes results) where
-  one_each : IsOneEach (suite_of plan) (λ node. ⊥) (length plan.nodes) run.ran results
+  one_each : IsOneEach (suite_of plan) (λ node answer. answer ≡ true) (length plan.nodes) run.ran results
   one_each =
       let st = run.store in
       let t = setting_of_plan plan st run.locks in
@@ -291,8 +292,8 @@ module _ (plan : PlanText) (lanes : ℕ) (results : List (ResultOf Fault)) (read
       let is_tree = subst (λ ids. IsTree ids) (sym tree) read.runnable.tree in
       let runnable = tree_runnable plan st run.locks tree (λ name there. Contains-permutation (lock_names plan.nodes) run.locks.names name run.locks_are.names there) read.runnable.tests in
       let counted : length st.tree ≡ length plan.nodes = ap length tree ∙ length-map plan.nodes (λ n. n.id) in
-      let one = one_result_each st.tree (suite_of plan) (λ node. ⊥) is_tree 16 run.ran (grown t is_tree runnable 16 0 run.first run.ran run.after run.run) in
-      subst (λ r. IsOneEach (suite_of plan) (λ node. ⊥) (length plan.nodes) run.ran r) (sym run.results_are) (subst (λ n. IsOneEach (suite_of plan) (λ node. ⊥) n run.ran (all_results (suite_of plan) n run.ran)) counted one)
+      let one = one_result_each st.tree (suite_of plan) (λ node answer. answer ≡ true) is_tree 16 run.ran (grown t is_tree runnable 16 0 run.first run.ran run.after run.run) in
+      subst (λ r. IsOneEach (suite_of plan) (λ node answer. answer ≡ true) (length plan.nodes) run.ran r) (sym run.results_are) (subst (λ n. IsOneEach (suite_of plan) (λ node answer. answer ≡ true) n run.ran (all_results (suite_of plan) n run.ran)) counted one)
 
   ran_spared : may_have_lacked (map (with_fault_told fault_text) results) ≡ false → RanSpared run.ran
   ran_spared spared = all-contained (λ r. NodeSpared r.result) run.ran (λ r there. one-spared results r.result.node r.result spared (one_each.of_run r there))

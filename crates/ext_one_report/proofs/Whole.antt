@@ -1,5 +1,5 @@
 -- A run of a plan that lacks nothing is one on a basis of comparison, whose first state is level with that of the plain run; so it tells what the plain run does.
-use Rattle.std.proofs.Common.{◌≡◌, inl, inr, ℕ, zero, suc, ◌<◌, List, [], ◌∷◌, Contains, length, map, refl, ap, sym, subst, ◌∙◌, arith}
+use Rattle.std.proofs.Common.{◌≡◌, inl, inr, ℕ, zero, suc, ◌<◌, true, List, [], ◌∷◌, Contains, length, map, refl, ap, sym, subst, ◌∙◌, arith}
 use Rattle.std.specs.Prelude.{All, slice_index_or}
 use Rattle.std.specs.List.{AllZip}
 use Rattle.std.proofs.lemmas.List.{length-map}
@@ -153,19 +153,19 @@ module _ (plan : PlanText) (lanes : ℕ) (results : List (ResultOf Fault)) (run 
   tree_is read = subst (λ ids. IsTree ids) (sym run.store_is.tree) read.runnable.tree
 
   -- which nodes have run
-  grows : IsReadPlan plan → Grows run.store.tree (suite_of plan) (λ node. ⊥) 16 0 run.ran
+  grows : IsReadPlan plan → Grows run.store.tree (suite_of plan) (λ node answer. answer ≡ true) 16 0 run.ran
   grows read =
       let st = run.store in
       let runnable = tree_runnable plan st run.locks run.store_is.tree (λ name there. Contains-permutation (lock_names plan.nodes) run.locks.names name run.locks_are.names there) read.runnable.tests in
       grown (full_setting plan st run.locks (CallsFully plan st)) (tree_is read) runnable 16 0 run.first run.ran run.after full
 
-  pub one_each : IsReadPlan plan → IsOneEach (suite_of plan) (λ node. ⊥) (length plan.nodes) run.ran results
+  pub one_each : IsReadPlan plan → IsOneEach (suite_of plan) (λ node answer. answer ≡ true) (length plan.nodes) run.ran results
   one_each read =
       let tree = run.store.tree in
       let counted : length tree ≡ length plan.nodes = ap length run.store_is.tree ∙ length-map plan.nodes (λ n. n.id) in
-      let one = one_result_each tree (suite_of plan) (λ node. ⊥) (tree_is read) 16 run.ran (grows read) in
-      subst (λ r. IsOneEach (suite_of plan) (λ node. ⊥) (length plan.nodes) run.ran r) (sym run.results_are) (subst (λ n. IsOneEach (suite_of plan) (λ node. ⊥) n run.ran (all_results (suite_of plan) n run.ran)) counted one)
+      let one = one_result_each tree (suite_of plan) (λ node answer. answer ≡ true) (tree_is read) 16 run.ran (grows read) in
+      subst (λ r. IsOneEach (suite_of plan) (λ node answer. answer ≡ true) (length plan.nodes) run.ran r) (sym run.results_are) (subst (λ n. IsOneEach (suite_of plan) (λ node answer. answer ≡ true) n run.ran (all_results (suite_of plan) n run.ran)) counted one)
 
   -- none of them has run twice
   pub each_once : IsReadPlan plan → Once (nodes_of run.ran)
-  each_once read = ran_once run.store.tree (suite_of plan) (λ node. ⊥) (tree_is read) 16 0 run.ran (grows read)
+  each_once read = ran_once run.store.tree (suite_of plan) (λ node answer. answer ≡ true) (tree_is read) 16 0 run.ran (grows read)

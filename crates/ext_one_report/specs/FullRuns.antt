@@ -1,7 +1,7 @@
 -- Runs of a plan on several lanes that lack nothing: each call and each close finds all memory, numbers, keys and
 -- places that it asks for, and is shown what stands there (JUnit 5 User Guide, "Parallel Execution"). `ParallelRun` of
 -- ext_parallel says what a run of a plan is.
-use Rattle.std.specs.Prelude.{ℕ, ◌≡◌, ◌≢◌, List, All, Option, None, Some, [], IfSome, Result, Ok, Err}
+use Rattle.std.specs.Prelude.{ℕ, ◌≡◌, ◌≢◌, true, List, All, Option, None, Some, [], IfSome, Result, Ok, Err}
 use Rattle.ext_model.specs.declared.look.Fault.{Fault}
 use Rattle.ext_lifecycle.specs.declared.outcome.Outcome.{Outcome}
 use Rattle.ext_lifecycle.specs.FaultTexts.{verdict_text, fault_text}
@@ -75,7 +75,7 @@ full_setting plan store locks calls = record {
   store = store;
   locks = locks;
   suite = suite_of plan;
-  may_disable = λ node. ⊥;
+  enabled_gives = λ node answer. answer ≡ true;
   registered = registered plan;
   call_gives = calls;
   action_gives = IsAction;

@@ -20,12 +20,12 @@ use ext_store::StoreValue;
 /// JUnit 5 User Guide, section "Parallel Execution", on nodes that run concurrently; all else is an
 /// own rule.
 pub fn alone_laws<V: StoreValue + Drop, S: Suite<V>>()
-    ensures whole { OfSuites (setting_of V.is_closeable S.suite_view S.may_disable S.registered S.call_gives S.action_gives S.Action.close_gives) WholeRunsAreAlone }
+    ensures whole { OfSuites (setting_of V.is_closeable S.suite_view S.enabled_gives S.registered S.call_gives S.action_gives S.Action.close_gives) WholeRunsAreAlone }
     ensures fresh { FreshLanesAreAll V }
-    ensures containers { OfSuites (setting_of V.is_closeable S.suite_view S.may_disable S.registered S.call_gives S.action_gives S.Action.close_gives) ContainersAreAlone }
-    ensures children { OfSuites (setting_of V.is_closeable S.suite_view S.may_disable S.registered S.call_gives S.action_gives S.Action.close_gives) ChildrenRunAlone }
-    ensures tests { OfSuites (setting_of V.is_closeable S.suite_view S.may_disable S.registered S.call_gives S.action_gives S.Action.close_gives) TestsAreAlone }
-    ensures calls { OfSuites (setting_of V.is_closeable S.suite_view S.may_disable S.registered S.call_gives S.action_gives S.Action.close_gives) CallsAreAlone }
+    ensures containers { OfSuites (setting_of V.is_closeable S.suite_view S.enabled_gives S.registered S.call_gives S.action_gives S.Action.close_gives) ContainersAreAlone }
+    ensures children { OfSuites (setting_of V.is_closeable S.suite_view S.enabled_gives S.registered S.call_gives S.action_gives S.Action.close_gives) ChildrenRunAlone }
+    ensures tests { OfSuites (setting_of V.is_closeable S.suite_view S.enabled_gives S.registered S.call_gives S.action_gives S.Action.close_gives) TestsAreAlone }
+    ensures calls { OfSuites (setting_of V.is_closeable S.suite_view S.enabled_gives S.registered S.call_gives S.action_gives S.Action.close_gives) CallsAreAlone }
 {}
 
 /// Proves that a node is alone on the cells that no node beside it changes.
@@ -40,9 +40,9 @@ pub fn alone_laws<V: StoreValue + Drop, S: Suite<V>>()
 /// own rule.
 pub fn apart_laws<V: StoreValue + Drop, S: Suite<V>>()
     ensures acts { ActsAreOnly V }
-    ensures changed { OfCells (setting_of V.is_closeable S.suite_view S.may_disable S.registered S.call_gives S.action_gives S.Action.close_gives) RunsChangeOnly }
-    ensures alone { OfCells (setting_of V.is_closeable S.suite_view S.may_disable S.registered S.call_gives S.action_gives S.Action.close_gives) AloneOnCells }
-    ensures calls { OfCells (setting_of V.is_closeable S.suite_view S.may_disable S.registered S.call_gives S.action_gives S.Action.close_gives) CallsAreAloneOnCells }
-    ensures sees { OfCells (setting_of V.is_closeable S.suite_view S.may_disable S.registered S.call_gives S.action_gives S.Action.close_gives) AloneSeesItsOwn }
-    ensures left { OfCells (setting_of V.is_closeable S.suite_view S.may_disable S.registered S.call_gives S.action_gives S.Action.close_gives) ApartIsLeft }
+    ensures changed { OfCells (setting_of V.is_closeable S.suite_view S.enabled_gives S.registered S.call_gives S.action_gives S.Action.close_gives) RunsChangeOnly }
+    ensures alone { OfCells (setting_of V.is_closeable S.suite_view S.enabled_gives S.registered S.call_gives S.action_gives S.Action.close_gives) AloneOnCells }
+    ensures calls { OfCells (setting_of V.is_closeable S.suite_view S.enabled_gives S.registered S.call_gives S.action_gives S.Action.close_gives) CallsAreAloneOnCells }
+    ensures sees { OfCells (setting_of V.is_closeable S.suite_view S.enabled_gives S.registered S.call_gives S.action_gives S.Action.close_gives) AloneSeesItsOwn }
+    ensures left { OfCells (setting_of V.is_closeable S.suite_view S.enabled_gives S.registered S.call_gives S.action_gives S.Action.close_gives) ApartIsLeft }
 {}

@@ -2,7 +2,7 @@
 -- its nodes is run over them, and then each lane meets the next. The engine's definitions follow the JUnit 5 User
 -- Guide, "Parallel Execution", "Synchronization" and "Keeping State in Extensions". How many numbers and tries a run's
 -- store has, and that lanes meet at its end, is not from JUnit.
-use Rattle.std.specs.Prelude.{◌≡◌, ◌⊎◌, ℕ, List, length, map, Option, Result}
+use Rattle.std.specs.Prelude.{◌≡◌, ◌⊎◌, ℕ, true, List, length, map, Option, Result}
 use Rattle.ext_model.specs.declared.look.Fault.{Fault}
 use Rattle.ext_lifecycle.specs.declared.call.Call.{Call}
 use Rattle.ext_lifecycle.specs.declared.outcome.Outcome.{Outcome}
@@ -43,7 +43,7 @@ setting_of_plan plan store locks = record {
   store = store;
   locks = locks;
   suite = suite_of plan;
-  may_disable = λ node. ⊥;
+  enabled_gives = λ node answer. answer ≡ true;
   registered = registered plan;
   call_gives = MakesCall plan store;
   action_gives = IsAction;

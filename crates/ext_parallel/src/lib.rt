@@ -11,6 +11,7 @@
 //! close does, and `specs/StoreSteps` what a sequence of steps does.
 #![tactic(auto)]
 
+mod contexts;
 mod lacks;
 mod laws;
 mod meeting;

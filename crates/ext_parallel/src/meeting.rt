@@ -19,7 +19,7 @@ pub(crate) fn meet_all<V: StoreValue + Drop>(store: &Store<V>, lanes: &mut [Lane
     ensures shared { ShareHistory store.now lanes.old }
     ensures numbered { ShareKeys lanes.old }
 {
-    recall_all(lanes);
+    tell_proof_of_all(lanes);
     turn_all(store, lanes);
     agree_all(store, lanes);
 }
@@ -44,7 +44,7 @@ fn meet_rest<V: StoreValue + Drop>(store: &Store<V>, lane: &mut Lane<V>, others:
 {
     if let Some((next, more)) = others.split_first_mut() {
         store.meet(lane, next);
-        next.recall();
+        next.tell_proof();
         meet_rest(store, next, more);
         store.meet(next, lane);
     }
@@ -80,10 +80,10 @@ fn agree_rest<V: StoreValue + Drop>(store: &Store<V>, first: &mut Lane<V>, other
 }
 
 /// Shows what is true of each of these lanes, and does nothing when it runs.
-fn recall_all<V: StoreValue + Drop>(lanes: &[Lane<V>])
+fn tell_proof_of_all<V: StoreValue + Drop>(lanes: &[Lane<V>])
     ensures { All HasRecalled lanes.now }
 {
     for lane in lanes {
-        lane.recall();
+        lane.tell_proof();
     }
 }

@@ -7,6 +7,7 @@ ghost use Rattle.ext_store.specs.Stores.{IsLaneOf, closers_below, fresh_store_la
 ghost use Rattle.ext_locks.specs.Opening as locking;
 ghost use Rattle.ext_parallel.specs.Opened.{IsLocksOf, IsStoreOf};
 
+use crate::contexts::tree_of;
 use ext_locks::{LockFault, LockLane, Locks};
 use ext_plan::Plan;
 use ext_store::{Closer, Lane, Limits, Store, StoreFault, StoreValue};
@@ -29,7 +30,7 @@ pub(crate) fn open_store<V: StoreValue + Drop>(
     ensures own_lanes { IfOk result (λ r. All (IsLaneOf r.0.id) r.1.items) }
     ensures closers { IfOk result (λ r. r.2.items ≡ closers_below r.0.id.cells (length r.0.tree)) }
 {
-    let tree = plan.tree(alloc)?;
+    let tree = tree_of(alloc, plan)?;
     let _most = plan.size.lanes();
     let limits = Limits {
         lanes,

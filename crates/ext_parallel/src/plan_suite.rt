@@ -112,6 +112,10 @@ impl<'a, L: RunListener + Sync> Suite<StoredValue<'a>> for PlanSuite<'a, L> {
         Some(request(lock))
     }
 
+    fn is_enabled(&self, _node: ContextNo) -> bool {
+        true
+    }
+
     /// An action that closes the node's values, and reports each fault to the listener.
     fn action(&self, node: ContextNo) -> PlanAction<'a, L> {
         PlanAction::new(self.alloc, node, self.listener)

@@ -12,13 +12,11 @@ use Rattle.ext_plain.specs.ValueStates.{ValueState, refusal}
 use Rattle.ext_tree.specs.Keys.{KeyValue}
 use Rattle.ext_plan.specs.Values.{ValueText}
 
-pub state_is : (keeps : Bool) (places m n : ℕ) (a b : State Place) (keys : List KeyValue) (v w : List ValueText) → m ≡ n → a ≡ b → v ≡ w
-    → (let old : ValueState = record { keep_faults = keeps; places = places; numbers = m; store = a; keys = keys; values = v; memory = [] } in
-    let new : ValueState = record { keep_faults = keeps; places = places; numbers = n; store = b; keys = keys; values = w; memory = [] } in old ≡ new)
-state_is keeps places m n a b keys v w d e f =
-    ap (λ k. record { keep_faults = keeps; places = places; numbers = k; store = a; keys = keys; values = v; memory = [] }) d
-    ∙ ap (λ s. record { keep_faults = keeps; places = places; numbers = n; store = s; keys = keys; values = v; memory = [] }) e
-    ∙ ap (λ u. record { keep_faults = keeps; places = places; numbers = n; store = b; keys = keys; values = u; memory = [] }) f
+pub state_is : (keeps : Bool) (p q m n : ℕ) (a b : State Place) (keys : List KeyValue) (v w : List ValueText) → p ≡ q → m ≡ n → a ≡ b → v ≡ w
+    → (let old : ValueState = record { keep_faults = keeps; places = p; numbers = m; store = a; keys = keys; values = v; memory = [] } in
+    let new : ValueState = record { keep_faults = keeps; places = q; numbers = n; store = b; keys = keys; values = w; memory = [] } in old ≡ new)
+state_is keeps p q m n a b keys v w c d e f =
+    λ i. record { keep_faults = keeps; places = c i; numbers = d i; store = e i; keys = keys; values = f i; memory = [] }
 
 -- an answer that isn't a fault is none of the refusals
 pub reply_ok : {A : Type 0} (value : Option ℕ → A) (r : Reply) (x : A) → result_of value r ≡ Some (Ok x) → refusal r ≡ None

@@ -3,6 +3,8 @@ pub mod Memories
 pub mod Stepping
 pub mod Sealing
 pub mod Acts
+pub mod Places
+pub mod ContextSeals
 pub mod Lacks
 pub mod KeyedSteps
 pub mod Numberings

@@ -25,7 +25,6 @@ use Rattle.ext_plain.specs.PlainRun.{RunState, body_run, container_run, node_end
 use Rattle.ext_plain.specs.ValueStates.{Memory, ValueState, with_memory}
 use Rattle.ext_lifecycle.specs.Modes.{in_run_order}
 use Rattle.ext_plan.specs.ReadPlans.{ids_of_nodes}
-use Rattle.ext_plan.proofs.NodeIds.{ids-map}
 use Rattle.ext_plain.proofs.Nodes.{child_path, node_run-more, node_run-zero, start_is}
 use Rattle.ext_plain.proofs.Below.{all-filter, parents-all}
 use Rattle.ext_plain.proofs.Elsewhere.{longer, set-at, siblings-keep}
@@ -79,7 +78,7 @@ own-spared setting at is_test os s results new path is_path is spared =
 
 -- the plan's nodes are those of the tree
 tree-is : (setting : Setting) → setting.tree.now ≡ ids_of_nodes (plan_in setting).nodes
-tree-is setting = setting.planted ∙ ids-map setting.plan.now.nodes.items
+tree-is setting = setting.planted
 
 -- what is put in a node's place changes nothing below it
 children-keep : (setting : Setting) (at child : ℕ) (path : List ℕ) (results : List NodeOutcome) (x : NodeOutcome) → IsTree setting.tree.now → IsPathOf setting.tree.now at path → IsParentOf setting.tree.now at child
@@ -312,7 +311,7 @@ both-run setting other at levels old mid new tree within same first second = rec
       let seconds : whole_spared → ChildrenSpared setting.tree.now at (chosen false (concurrent_of plan)) path new.results = λ spared child parent is_other. spared child parent refl in (
         one.0,
         two.1 ∙ ap (λ r. each_child plan levels path r (chosen_of setting false ids)) one.1 ∙ sym whole
-            ∙ ap (λ cs. each_child plan levels path (run_with one.0 old) (in_run_order (concurrent_of plan) cs)) (ap (λ is. children_of is at) (setting.planted ∙ ids-map setting.plan.now.nodes.items) ∙ ap (children_of (ids_of_nodes plan.nodes)) (sym start)),
+            ∙ ap (λ cs. each_child plan levels path (run_with one.0 old) (in_run_order (concurrent_of plan) cs)) (ap (λ is. children_of is at) setting.planted ∙ ap (children_of (ids_of_nodes plan.nodes)) (sym start)),
         tells-both old.lacked mid.lacked new.lacked one.0 two.0 later (ChildrenSpared setting.tree.now at (chosen true (concurrent_of plan)) path mid.results) (ChildrenSpared setting.tree.now at (chosen false (concurrent_of plan)) path new.results) whole_spared firsts seconds one.2 two.2,
       );
 }

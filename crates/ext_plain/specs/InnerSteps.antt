@@ -5,7 +5,7 @@ use Rattle.ext_model.specs.declared.event.Act.TheVariants.{Abandon}
 use Rattle.ext_model.specs.declared.plain_fault.PlainFault.{PlainFault}
 use Rattle.ext_model.specs.declared.plain_fault.PlainFault.TheVariants as plain
 use Rattle.ext_model.specs.Events as events
-use Rattle.ext_model.specs.Plain.{Place, state_of}
+use Rattle.ext_model.specs.Plain.{Place}
 use Rattle.ext_lifecycle.specs.declared.call.Call.{Call}
 use Rattle.ext_model.specs.declared.closed.Closed as counts
 use Rattle.ext_lifecycle.specs.declared.outcome.Outcome.{Outcome}
@@ -29,6 +29,7 @@ use Rattle.ext_plain.specs.declared.lack.StepLack.TheVariants as step_lacks
 use Rattle.ext_plain.specs.declared.plain.PlainRunner.{PlainRunner}
 use Rattle.ext_plain.specs.declared.setting.Setting.{Setting}
 use Rattle.ext_plain.specs.declared.value_store.ValueStore.{ValueStore}
+use Rattle.ext_plain.specs.InnerPlaces.{numbers_in, shown}
 use Rattle.ext_plain.specs.NodeCalls.{CallsEnd, call_run}
 use Rattle.ext_tree.specs.Trees.{Id, IsTree, IsParentOf, IsPathOf}
 use Rattle.ext_plain.specs.PlainRun.{RunState, may_lack_memory, node_end}
@@ -40,9 +41,9 @@ use Rattle.ext_plain.specs.ValueStates.{Memory, enough, no_key, no_value, no_num
 abbrev pub state_view : ValueStore → ValueState
 state_view s = record {
   keep_faults = s.keep_faults;
-  places = s.places;
-  numbers = s.store.numbers;
-  store = state_of s.store;
+  places = s.store.places;
+  numbers = numbers_in s.store;
+  store = shown s.store;
   keys = s.keys;
   values = map value_view s.values.items;
   memory = [];

@@ -1,6 +1,8 @@
 pub mod Ancestors
 pub mod ContextEnds
+pub mod InnerPlaces
 pub mod InnerSteps
+pub mod InnerUsed
 pub mod PlainRunLaws
 pub mod NodeCalls
 pub mod PlainRun

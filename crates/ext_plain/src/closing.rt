@@ -3,6 +3,7 @@ ghost use Rattle.std.specs.Prelude.{◌≡◌, ◌≤◌, length, map, option_ma
 ghost use Rattle.ext_plan.specs.Values.{close_fault, value_view};
 ghost use Rattle.ext_plain.specs.ValueStates.{value_of};
 ghost use Rattle.ext_plain.specs.ContextEnds.{seal_keys, numbers_left, closeables};
+ghost use Rattle.ext_plain.specs.InnerPlaces.{SparesUnused};
 ghost use Rattle.ext_plain.specs.InnerSteps.{state_view, only_closeable, HasClosed};
 
 use crate::value_store::ValueStore;
@@ -12,21 +13,28 @@ use ext_plan::{PlanValue, close_fault};
 use std::alloc::{AllocError, Global};
 
 impl<'a> ValueStore<'a> {
-    /// Seals the first `keys` keys of a context, in order, and returns the numbers that the seals
-    /// keep, the greatest first.
-    pub fn seal_keys(
-        &mut self,
-        keys: usize,
-        at: ContextNo,
-    ) -> Result<FallingNumbers<1024>, AllocError>
-        requires { keys ≤ 1024 }
-        ensures state { OnOk result (state_view self.new ≡ seal_keys keys at (state_view self.old)) }
-        ensures numbers { IfOk result (λ numbers. numbers ≡ numbers_left keys at (state_view self.new)) }
+    /// Seals all places of a context, and returns the numbers that the seals keep, the greatest
+    /// first. It costs as much as places of the context were used.
+    pub fn seal_context(&mut self, at: ContextNo) -> Result<FallingNumbers<1024>, AllocError>
+        ensures state { OnOk result (state_view self.new ≡ seal_keys (state_view self.old).places at (state_view self.old)) }
+        ensures numbers { IfOk result (λ numbers. numbers ≡ numbers_left (state_view self.old).places at (state_view self.new)) }
+    {
+        self.store.end(at)?;
+        self.seal_used(at)
+    }
+
+    /// Seals the used places of a context whose others are sealed.
+    fn seal_used(&mut self, at: ContextNo) -> Result<FallingNumbers<1024>, AllocError>
+        requires { SparesUnused at self.old.store }
+        ensures state { OnOk result (state_view self.new ≡ seal_keys (state_view self.old).places at (state_view self.old)) }
+        ensures numbers { IfOk result (λ numbers. numbers ≡ numbers_left (state_view self.old).places at (state_view self.new)) }
     {
         let mut numbers = FallingNumbers::new();
-        for key in 0..keys {
+        let mut from = 0;
+        while let Some(key) = self.store.next_used(at, from) {
             let kept = self.seal(at, key)?;
             numbers.put_in_kept(kept);
+            from = key + 1;
         }
         Ok(numbers)
     }

@@ -18,6 +18,7 @@ mod found;
 mod keyed;
 mod lack;
 mod laws;
+mod place_store;
 mod plain;
 mod reasons;
 mod said;

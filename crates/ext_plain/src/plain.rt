@@ -39,8 +39,8 @@ pub struct PlainRun {
 }
 
 /// Runs a plan on this thread and returns one result for each node, in the order of the plan.
-/// `tree` has to be the tree of its nodes' contexts. The listener is notified when a node starts,
-/// on lane 0, of each fault of its calls and closes as it comes, and when the node has ended.
+/// The listener is notified when a node starts, on lane 0, of each fault of its calls and closes as
+/// it comes, and when the node has ended.
 ///
 /// If the plan keeps faults, the fault of a factory stays in its place until it is removed or
 /// replaced. The steps that meet it report it, and it is never closed. Otherwise the fault comes
@@ -65,23 +65,20 @@ pub struct PlainRun {
 pub fn run_plain<'x, L: RunListener>(
     alloc: Global,
     plan: &'x Plan,
-    tree: &'x Tree,
     listener: &'x L,
 ) -> Result<PlainRun, AllocError>
     requires namespaces { NamespacesHaveParts (plan_view plan.now) }
-    requires tree { IsTree tree.now }
-    requires nodes { tree.now ≡ map (λ n. n.id) plan.now.nodes.items }
     requires short { StepListsAreShort (plan_view plan.now) }
     requires called { CallbacksAreFew (plan_view plan.now) }
     requires places { HasKeyPlaces (plan_view plan.now) }
     ensures results { IfOk result (λ run. ArePlain (plan_view plan.now) (results_view run.results.items) run.lacked) }
-    ensures in_tree { IfOk result (λ run. All (λ r. r.node < length tree.now) run.results.items) }
+    ensures in_tree { IfOk result (λ run. All (λ r. r.node < length plan.now.nodes.items) run.results.items) }
 {
     let made = plan.store_keys(alloc)?;
     let caller = NodeCaller {
         alloc,
         listener,
-        setting: Setting::of(plan, made.as_slice(), tree),
+        setting: Setting::of(plan, made.as_slice()),
         store: ValueStore::new(
             alloc,
             plan.keep_faults,
@@ -96,7 +93,7 @@ pub fn run_plain<'x, L: RunListener>(
         results: skipped(alloc, plan.nodes.as_slice())?,
     };
     // No tree is deeper than it has nodes, so this many levels reach all of them.
-    let levels = plan.nodes.len();
+    let levels = plan.tree().len();
     runner.run_node(alloc, levels, 0)?;
     Ok(PlainRun {
         lacked: runner.caller.lacked,
@@ -242,8 +239,7 @@ impl<'a, L: RunListener> PlainRunner<'a, L> {
         ensures end { OnOk result (EndsNode self.old.caller.setting at is_test tally (run_view self.old) (run_view self.new)) }
         ensures setting { OnOk result (self.new.caller.setting ≡ self.old.caller.setting) }
     {
-        let places = self.caller.store.places();
-        let numbers = self.caller.store.seal_keys(places, at)?;
+        let numbers = self.caller.store.seal_context(at)?;
         let listener = self.caller.listener;
         let closes = self
             .caller

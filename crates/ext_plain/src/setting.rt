@@ -3,7 +3,7 @@ ghost use Rattle.std.specs.Prelude.{◌≡◌, ◌≤◌, is_some, length, map};
 ghost use Rattle.std.proofs.Props.{props};
 ghost use Rattle.ext_plan.specs.Plans.{keys_view, plan_view, step_view};
 ghost use Rattle.ext_plan.specs.StoreKeys.{named_key};
-ghost use Rattle.ext_plan.specs.ReadPlans.{CallbacksAreFew, StepListsAreShort};
+ghost use Rattle.ext_plan.specs.ReadPlans.{CallbacksAreFew, StepListsAreShort, ids_of_nodes};
 ghost use Rattle.ext_plan.specs.Steps.{step_limit};
 
 use ext_lifecycle::{Call, Callbacks, Kind};
@@ -18,7 +18,7 @@ pub struct Setting<'a> {
     pub keys: StepKeys<'a>,
     pub tree: &'a Tree,
     ghost keyed: { keys_view keys.keys.now ≡ keys_view plan.now.keys.items },
-    ghost planted: { tree.now ≡ map (λ n. n.id) plan.now.nodes.items },
+    ghost planted: { tree.now ≡ ids_of_nodes (plan_view plan.now).nodes },
     ghost short: { StepListsAreShort (plan_view plan.now) } by { Prim.hlevel props },
     ghost called: { CallbacksAreFew (plan_view plan.now) },
 }
@@ -27,19 +27,18 @@ impl<'a> Setting<'a> {
     ghost use Rattle.ext_plain.specs.InnerSteps.{plan_in};
     ghost use Rattle.ext_plan.specs.PlanCalls.{steps_of_call, test_of, concurrent_of};
 
-    /// Joins the plan with its tree and the keys of the store that its labels name, in order.
-    pub fn of(plan: &'a Plan, made: &'a [Key], tree: &'a Tree) -> Setting<'a>
+    /// Joins the plan with the keys of the store that its labels name, in order.
+    pub fn of(plan: &'a Plan, made: &'a [Key]) -> Setting<'a>
         requires keys { made.now ≡ map named_key (keys_view plan.now.keys.items) }
-        requires nodes { tree.now ≡ map (λ n. n.id) plan.now.nodes.items }
         requires short { StepListsAreShort (plan_view plan.now) }
         requires called { CallbacksAreFew (plan_view plan.now) }
         ensures plan { plan_in result ≡ plan_view plan.now }
-        ensures tree { result.tree.now ≡ tree.now }
+        ensures tree { result.tree.now ≡ ids_of_nodes (plan_view plan.now).nodes }
     {
         Setting {
             plan,
             keys: StepKeys::of(plan.keys.as_slice(), made),
-            tree,
+            tree: plan.tree(),
         }
     }
 

@@ -1,5 +1,5 @@
 //! The store of a plain run, with the values of its numbers.
-ghost use Rattle.std.specs.Prelude.{◌≡◌, ◌≤◌, None, Some, option_map, IfErr, IfOk, OnErr, OnOk};
+ghost use Rattle.std.specs.Prelude.{◌≡◌, ◌≤◌, true, None, Some, option_map, IfErr, IfOk, OnErr, OnOk};
 ghost use Rattle.ext_model.specs.declared.event.Act.TheVariants as act;
 ghost use Rattle.ext_model.specs.declared.slot.Slot.TheVariants as slot;
 ghost use Rattle.ext_model.specs.State.{lookup};
@@ -7,11 +7,13 @@ ghost use Rattle.ext_model.specs.Plain.{any_lane, under};
 ghost use Rattle.ext_model.specs.Closing.{kept_by};
 ghost use Rattle.ext_plan.specs.Values.{value_view};
 ghost use Rattle.ext_plain.specs.declared.lack.Lack.TheVariants as lacks;
+ghost use Rattle.ext_plain.specs.InnerUsed.{is_used};
 ghost use Rattle.ext_plain.specs.ValueStates.{after_act, why_refused, value_of, value_opening};
 
 use crate::lack::{Lack, StepLack};
+use crate::place_store::PlaceStore;
 use crate::reasons::told;
-use ext_model::{ContextNo, KeyNo, LaneNo, Look, PlainFault, PlainStore};
+use ext_model::{ContextNo, KeyNo, LaneNo, Look, PlainFault};
 use ext_plan::{PlanValue, Reason};
 use ext_tree::{Directory, Key};
 use std::alloc::{AllocError, Global};
@@ -24,15 +26,12 @@ const LANE: LaneNo = 0;
 #[derive(Drop)]
 pub struct ValueStore<'a> {
     keep_faults: bool,
-    /// How many keys can have numbers.
-    places: usize,
-    store: PlainStore,
+    pub store: PlaceStore,
     /// The keys that have a number.
     keys: Directory,
     /// The kept values; the first has number 1. The text of a kept fault is among them, as a value
     /// that is not closeable.
     values: Vec<PlanValue<'a>>,
-    ghost few: { places ≤ 1024 },
 }
 
 impl<'a> ValueStore<'a> {
@@ -46,8 +45,7 @@ impl<'a> ValueStore<'a> {
     {
         ValueStore {
             keep_faults,
-            places,
-            store: PlainStore::new(alloc, numbers),
+            store: PlaceStore::new(alloc, places, numbers),
             keys: Directory::new(alloc),
             values: Vec::new(alloc),
         }
@@ -60,14 +58,6 @@ impl<'a> ValueStore<'a> {
         self.keep_faults
     }
 
-    /// How many keys can have numbers.
-    pub fn places(&self) -> usize
-        ensures places { result ≡ (state_view self.now).places }
-        ensures few { result ≤ 1024 }
-    {
-        self.places
-    }
-
     /// Declares a key: returns its number, the next one if it had none, or why it gets none.
     pub fn declare(&mut self, key: &Key) -> Result<Result<KeyNo, Reason>, StepLack>
         ensures { Declares key.now (state_view self.old) (state_view self.new) result }
@@ -75,13 +65,13 @@ impl<'a> ValueStore<'a> {
         if let Some(number) = self.keys.number_of(key) {
             return Ok(Ok(number));
         }
-        if self.keys.len() >= self.places {
+        if self.keys.len() >= self.store.places {
             return Ok(Err(Reason::DirectoryFull));
         }
         let Ok(copy) = key.clone() else {
             return Err(StepLack::Number);
         };
-        match self.keys.declare(copy, self.places) {
+        match self.keys.declare(copy, self.store.places) {
             Ok(number) => Ok(Ok(number)),
             Err(_) => Err(StepLack::Number),
         }
@@ -163,8 +153,7 @@ impl<'a> ValueStore<'a> {
         requires { under (state_view self.old).store key at ≡ Some (slot.Claim any_lane) }
         ensures { state_view self.new ≡ after_act (act.Fill (at, key) number) (state_view self.old) }
     {
-        // A fill is never refused: a claimed place is in use already, so the fill takes no memory.
-        let _ = self.store.fill(at, key, LANE, number);
+        self.store.fill(at, key, LANE, number);
     }
 
     /// Stores the number of a kept fault in a claimed place.
@@ -172,8 +161,7 @@ impl<'a> ValueStore<'a> {
         requires { under (state_view self.old).store key at ≡ Some (slot.Claim any_lane) }
         ensures { state_view self.new ≡ after_act (act.Fail (at, key) number) (state_view self.old) }
     {
-        // Like a fill, it is never refused.
-        let _ = self.store.fail(at, key, LANE, number);
+        self.store.fail(at, key, LANE, number);
     }
 
     /// Ends a claim: the place is empty.
@@ -184,8 +172,10 @@ impl<'a> ValueStore<'a> {
         self.store.abandon(at, key, LANE);
     }
 
-    /// Seals a place, and returns the number that the seal keeps.
+    /// Seals a used place, and returns the number that the seal keeps.
     pub fn seal(&mut self, at: ContextNo, key: KeyNo) -> Result<Option<u32>, AllocError>
+        requires { is_used self.old.store.used (at, key) ≡ true }
+        ensures used { self.new.store.used ≡ self.old.store.used }
         ensures state { OnOk result (state_view self.new ≡ after_act (act.Seal (at, key)) (state_view self.old)) }
         ensures kept { IfOk result (λ kept. kept ≡ kept_by (under (state_view self.new).store key at)) }
     {

@@ -17,7 +17,6 @@
 #![tactic(auto)]
 
 mod call_key;
-mod contexts;
 mod keys;
 mod lock_names;
 mod plan;

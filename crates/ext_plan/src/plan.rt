@@ -1,12 +1,11 @@
 //! The data of a plan.
-ghost use Rattle.std.specs.Prelude.{◌≡◌, Some, map};
-ghost use Rattle.ext_plan.specs.Plans.{node_view, step_view};
-ghost use Rattle.ext_plan.specs.PlanCalls.{steps_called};
+ghost use Rattle.std.specs.Prelude.{◌≡◌, map};
 
 use crate::{KeyedStep, StepParts, Word};
 use ext_ids::UniqueId;
 use ext_lifecycle::{Call, Kind, Mode};
 use ext_model::{ContextNo, Size};
+use ext_tree::Tree;
 
 /// The number of a label: the index of its key in `Plan::keys`. Two labels may name the same key of
 /// the store.
@@ -14,7 +13,7 @@ pub type LabelNo = usize;
 
 /// What a run does: the declared keys, the nodes with their callbacks and tests, how many keys the
 /// store has places for, how large it may be, and whether it keeps the faults of factories.
-#[derive(Debug, Drop)]
+#[derive(Drop)]
 pub struct Plan {
     /// Whether the store keeps the fault of a factory that fails.
     pub keep_faults: bool,
@@ -29,13 +28,24 @@ pub struct Plan {
     /// The nodes, in the order of the plan, at least one. The first is the root, and each other one
     /// is a child of one before it.
     pub nodes: Vec<PlanNode>,
+    /// The tree of the nodes' contexts, numbered in the order of the plan.
+    pub tree: Tree,
+    pub ghost contexts: { tree ≡ map (λ n. n.id) nodes.items },
 }
 
 impl Plan {
     ghost use Rattle.std.specs.Prelude.{is_some};
     ghost use Rattle.ext_lifecycle.specs.Modes.{is_concurrent};
-    ghost use Rattle.ext_plan.specs.Plans.{lock_view, plan_view};
+    ghost use Rattle.ext_plan.specs.Plans.{lock_view, plan_view, step_view};
     ghost use Rattle.ext_plan.specs.PlanCalls.{concurrent_of, isolated_of, locks_of, registered, steps_of_call, test_of};
+    ghost use Rattle.ext_plan.specs.ReadPlans.{ids_of_nodes};
+
+    /// Returns the tree of the nodes' contexts, numbered in the order of the plan.
+    pub fn tree(&self) -> &Tree
+        ensures { result.now ≡ ids_of_nodes (plan_view self.now).nodes }
+    {
+        &self.tree
+    }
 
     /// Tests whether the node at this index is a test; `false` if the plan has no such node.
     /// Source: Javadoc type `TestDescriptor`, `isTest`.
@@ -99,26 +109,8 @@ impl Plan {
         ensures { map step_view result.now ≡ steps_of_call (plan_view self.now) call.now }
     {
         match self.nodes.get(call.from) {
-            Some(node) => steps_in(node, call.kind, call.index),
+            Some(node) => node.steps_called(call.kind, call.index),
             None => &[],
-        }
-    }
-}
-
-/// The steps of the node's test, or of its callback of this kind and index.
-fn steps_in(node: &PlanNode, kind: Kind, index: usize) -> &[Step]
-    ensures { map step_view result.now ≡ steps_called kind index (Some (node_view node.now)) }
-{
-    match kind {
-        Kind::Test => match &node.test {
-            Some(steps) => steps.as_slice(),
-            None => &[],
-        },
-        Kind::BeforeAll | Kind::BeforeEach | Kind::AfterEach | Kind::AfterAll => {
-            match node.callbacks(kind).get(index) {
-                Some(steps) => steps.as_slice(),
-                None => &[],
-            }
         }
     }
 }
@@ -165,8 +157,9 @@ pub struct PlanNode {
 }
 
 impl PlanNode {
-    ghost use Rattle.std.specs.Prelude.{◌≡◌, map};
-    ghost use Rattle.ext_plan.specs.Plans.{steps_view, node_view, callbacks_of};
+    ghost use Rattle.std.specs.Prelude.{Some};
+    ghost use Rattle.ext_plan.specs.Plans.{callbacks_of, node_view, step_view, steps_view};
+    ghost use Rattle.ext_plan.specs.PlanCalls.{steps_called};
 
     /// Returns the callbacks of a kind that the node registers, each with its steps, in the order
     /// of registration. There are none of `Kind::Test`: a test is no callback.
@@ -179,6 +172,24 @@ impl PlanNode {
             Kind::Test => &[],
             Kind::AfterEach => self.after_each.as_slice(),
             Kind::AfterAll => self.after_all.as_slice(),
+        }
+    }
+
+    /// The steps of the node's test, or of its callback of this kind and index.
+    fn steps_called(&self, kind: Kind, index: usize) -> &[Step]
+        ensures { map step_view result.now ≡ steps_called kind index (Some (node_view self.now)) }
+    {
+        match kind {
+            Kind::Test => match &self.test {
+                Some(steps) => steps.as_slice(),
+                None => &[],
+            },
+            Kind::BeforeAll | Kind::BeforeEach | Kind::AfterEach | Kind::AfterAll => {
+                match self.callbacks(kind).get(index) {
+                    Some(steps) => steps.as_slice(),
+                    None => &[],
+                }
+            }
         }
     }
 }
@@ -194,7 +205,6 @@ pub enum PlanLock {
 }
 
 impl PlanLock {
-    ghost use Rattle.std.specs.Prelude.{◌≡◌};
     ghost use Rattle.ext_plan.specs.LockNames.{lock_name};
     ghost use Rattle.ext_plan.specs.Plans.{lock_view};
 
@@ -288,7 +298,7 @@ pub enum Step {
 
 impl Step {
     ghost use Rattle.std.specs.Prelude.{option_map};
-    ghost use Rattle.ext_plan.specs.Plans.{parts_view, step_key_view};
+    ghost use Rattle.ext_plan.specs.Plans.{parts_view, step_key_view, step_view};
     ghost use Rattle.ext_plan.specs.Steps.{height, step_key};
 
     /// Takes the step apart. A step `none` or `remove` has the empty text.

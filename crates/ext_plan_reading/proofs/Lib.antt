@@ -19,4 +19,3 @@ pub mod TestDepths
 pub mod TopReading
 pub mod TreeTests
 pub mod Turns
-pub use Rattle.ext_plan.proofs.NodeIds

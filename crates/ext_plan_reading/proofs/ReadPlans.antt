@@ -26,7 +26,7 @@ use Rattle.ext_plan_reading.specs.Depths.{Outline, least_test_depth}
 use Rattle.ext_plan_reading.specs.Faults.{check, Gives}
 use Rattle.ext_plan_reading.specs.Fields.{has_only, array_of, places_in, field_or}
 use Rattle.ext_plan_reading.specs.KeyReading.{keys_after}
-use Rattle.ext_plan_reading.specs.NodeReading.{ids_of, outlines_of, has_children, sketches_after, with_repetitions, nodes_of_tables}
+use Rattle.ext_plan_reading.specs.NodeReading.{Sketch, ids_of, outlines_of, has_children, sketches_after, with_repetitions, nodes_after, nodes_of_tables}
 use Rattle.ext_plan_reading.specs.Reading.{top_fields, plan_of, plan_of_tables}
 use Rattle.ext_plan_reading.proofs.ChildDepths.{ids_in-sketches}
 use Rattle.ext_plan_reading.proofs.Gave.{ok_value, both_gave, passed}
@@ -105,6 +105,15 @@ stays_below_root labels plan fit = record {
 ids_in-nodes : (nodes : List NodeText) → map (λ o. o.0) (outlines_of_nodes nodes) ≡ ids_of_nodes nodes
 ids_in-nodes nodes = map-map (λ (o : Outline). o.0) outline_of_node nodes
 
+same_ids : (nodes : List NodeText) (all : List Sketch) → outlines_of_nodes nodes ≡ outlines_of all → ids_of_nodes nodes ≡ ids_of all
+same_ids nodes all same = sym (ids_in-nodes nodes) ∙ ap (map (λ o. o.0)) same ∙ ids_in-sketches all
+
+-- nodes that were read have the ids of their sketches
+pub ids_are_kept : (labels : List (List ℕ)) (all : List Sketch) (nodes : List NodeText) → nodes_after labels all [] all ≡ Ok nodes → ids_of_nodes nodes ≡ ids_of all
+ids_are_kept labels all nodes h =
+    let read = nodes_are_read labels all [] all nodes (All-nil (FitsIn (length labels) (outlines_of all))) (λ k less d. absurd (omega (arith, less))) h in
+    same_ids nodes all read.of_sketches
+
 is_read : (size : Size) (top : Members) (plan : PlanText) → plan_of size top ≡ Ok plan → IsReadPlan plan
 unfolding plan_of plan_of_tables nodes_of_tables
 is_read size top plan h =
@@ -127,7 +136,7 @@ is_read size top plan h =
     let count : length (labels_of keys.0) ≡ length keys.0 = length-map keys.0 (λ k. k.label) in
     let fit : All (FitsIn (length keys.0) (outlines_of_nodes nodes.0)) nodes.0 =
     subst (λ outlines. All (FitsIn (length keys.0) outlines) nodes.0) (sym read.of_sketches) (subst (λ n. All (FitsIn n (outlines_of all)) nodes.0) count read.fit) in
-    let ids : ids_of_nodes nodes.0 ≡ ids_of all = sym (ids_in-nodes nodes.0) ∙ ap (map (λ o. o.0)) read.of_sketches ∙ ids_in-sketches all in
+    let ids = same_ids nodes.0 all read.of_sketches in
     rw (← ok_value (record { keep_faults = keep_faults.0; key_places = key_places.0; size = size; keys = keys.0; nodes = nodes.0 }) plan _ refl few_locks.2) (record {
       runnable = record {
         tree = subst IsTree (sym ids) tree.tree;

@@ -53,34 +53,37 @@ pub(crate) struct NodeSketch<'a> {
     pub repeat: Option<usize>,
 }
 
-/// The nodes in the tables, in order, of a plan of this size.
+/// The nodes in the tables, in order, of a plan of this size, and the tree of their contexts.
 #[tactic(auto, unfolding(crate::specs::NodeReading::nodes_of_tables))]
 pub(crate) fn nodes_of_tables(
     alloc: Global,
     size: Size,
     labels: &Labels<'_>,
     tables: &[&Table],
-) -> Result<Vec<PlanNode>, PlanFault>
-    ensures exact { Gives (λ v. nodes_view v.items) result (nodes_of_tables size labels.now (map (λ t. table_view t.now) tables.now)) }
-    ensures few { IfOk result (λ v. length v.items ≤ most_contexts size) }
+) -> Result<(Vec<PlanNode>, Tree), PlanFault>
+    ensures exact { Gives (λ v. nodes_view v.0.items) result (nodes_of_tables size labels.now (map (λ t. table_view t.now) tables.now)) }
+    ensures few { IfOk result (λ v. length v.0.items ≤ most_contexts size) }
+    ensures contexts { IfOk result (λ v. v.1 ≡ map (λ n. n.id) v.0.items) }
 {
     let sketches = sketches_of(alloc, tables)?;
     let sketches = with_repetitions(alloc, size.contexts(), sketches)?;
     nodes_of(alloc, size, labels, sketches.as_slice())
 }
 
-/// The nodes of these sketches, in order, of a plan of this size.
+/// The nodes of these sketches, in order, of a plan of this size, and the tree of their contexts.
 fn nodes_of(
     alloc: Global,
     size: Size,
     labels: &Labels<'_>,
     sketches: &[NodeSketch<'_>],
-) -> Result<Vec<PlanNode>, PlanFault>
-    ensures exact { Gives (λ v. nodes_view v.items) result (nodes_of_sketches size labels.now (map sketch_view sketches.now)) }
-    ensures few { IfOk result (λ v. length v.items ≤ most_contexts size) }
+) -> Result<(Vec<PlanNode>, Tree), PlanFault>
+    ensures exact { Gives (λ v. nodes_view v.0.items) result (nodes_of_sketches size labels.now (map sketch_view sketches.now)) }
+    ensures few { IfOk result (λ v. length v.0.items ≤ most_contexts size) }
+    ensures contexts { IfOk result (λ v. v.1 ≡ map (λ n. n.id) v.0.items) }
 {
     let tree = tree_of(alloc, size, sketches)?;
-    nodes_in_order(alloc, labels, &tree, sketches)
+    let nodes = nodes_in_order(alloc, labels, &tree, sketches)?;
+    Ok((nodes, tree))
 }
 
 /// The first pass over the tables of the nodes, in order.

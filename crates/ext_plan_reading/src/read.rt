@@ -116,7 +116,7 @@ pub(crate) fn plan_of_tables(
     ensures { Gives plan_view result (plan_of_tables size keep_faults key_places (map (λ t. table_view t.now) key_tables.now) (map (λ t. table_view t.now) node_tables.now)) }
 {
     let keys = keys_of(alloc, key_tables)?;
-    let nodes = nodes_of_tables(alloc, size, &keys.labels, node_tables)?;
+    let (nodes, tree) = nodes_of_tables(alloc, size, &keys.labels, node_tables)?;
     if !keys_are_few(alloc, keys.keys.as_slice(), key_places)? {
         return Err(PlanFault::TooMany);
     }
@@ -129,5 +129,6 @@ pub(crate) fn plan_of_tables(
         size,
         keys: keys.keys,
         nodes,
+        tree,
     })
 }

@@ -1,23 +1,24 @@
 //! Which nodes may run beside one another.
 ghost use Rattle.std.specs.Prelude.{◌≡◌};
 ghost use Rattle.ext_plan.specs.Plans.{plan_view};
-ghost use Rattle.ext_plan.specs.ReadPlans.{ids_of_nodes};
 ghost use Rattle.ext_races.specs.Beside.{are_beside, comes_by_other, nodes_beside};
 
 use crate::made::path_in;
 use ext_model::ContextNo;
 use ext_plan::Plan;
-use ext_tree::Tree;
 
 /// Tests whether two nodes of the plan may run beside one another.
-pub(crate) fn nodes_beside(plan: &Plan, tree: &Tree, first: ContextNo, second: ContextNo) -> bool
-    requires { tree.now ≡ ids_of_nodes (plan_view plan.now).nodes }
+pub(crate) fn nodes_beside(plan: &Plan, first: ContextNo, second: ContextNo) -> bool
     ensures { result ≡ nodes_beside (plan_view plan.now) first second }
 {
     if first >= plan.nodes.len() || second >= plan.nodes.len() {
         return false;
     }
-    are_beside(plan, path_in(tree, first), path_in(tree, second))
+    are_beside(
+        plan,
+        path_in(plan.tree(), first),
+        path_in(plan.tree(), second),
+    )
 }
 
 /// Tests whether nodes with these paths may run beside one another.

@@ -24,8 +24,7 @@ pub fn count_keys(alloc: Global, plan: &Plan) -> Result<Option<usize>, AllocErro
     ensures few { IfOk result (λ count. IfSome count (λ n. n ≤ 1024)) }
     ensures many { result ≡ Ok None → 1024 < length (keys_named (plan_view plan.now)) }
 {
-    let tree = plan.tree(alloc)?;
-    let made = steps_made(alloc, plan, &tree)?;
+    let made = steps_made(alloc, plan)?;
     let declared = plan.store_keys(alloc)?;
     let keys = StepKeys::of(plan.keys.as_slice(), declared.as_slice());
     match keys_named(alloc, &keys, made.as_slice(), KEYS) {

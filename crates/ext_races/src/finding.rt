@@ -1,7 +1,7 @@
 //! The races of a plan.
 ghost use Rattle.std.specs.Prelude.{◌≡◌, ◌==◌, ◌&&◌, IfOk, length, nat_lt};
 ghost use Rattle.ext_plan.specs.Plans.{plan_view};
-ghost use Rattle.ext_plan.specs.ReadPlans.{IsRunnablePlan, ids_of_nodes};
+ghost use Rattle.ext_plan.specs.ReadPlans.{IsRunnablePlan};
 ghost use Rattle.ext_races.specs.Found.{IsFound, IsWithin};
 ghost use Rattle.ext_races.specs.InnerGroups.{IsGrouped, groups_view};
 ghost use Rattle.ext_races.specs.Touches.{touches_made};
@@ -15,7 +15,7 @@ use crate::telling::races_told;
 use crate::touch::Touch;
 use crate::{Found, Race};
 use ext_plan::{Plan, StepKey, StepKeys};
-use ext_tree::{Tree, TreeFault};
+use ext_tree::TreeFault;
 use std::alloc::{AllocError, Global};
 
 /// Lists at most `most` races of a plan, without repetition, or reports a limit that its steps
@@ -39,8 +39,7 @@ pub fn races<'p>(alloc: Global, plan: &'p Plan, most: usize) -> Result<Found<'p>
     requires { IsRunnablePlan (plan_view plan.now) }
     ensures { IfOk result (IsFound (plan_view plan.now) most) }
 {
-    let tree = plan.tree(alloc)?;
-    let made = steps_made(alloc, plan, &tree)?;
+    let made = steps_made(alloc, plan)?;
     let declared = plan.store_keys(alloc)?;
     let keys = StepKeys::of(plan.keys.as_slice(), declared.as_slice());
     let (directory, names) = match keys_named(alloc, &keys, made.as_slice(), plan.key_places) {
@@ -52,10 +51,11 @@ pub fn races<'p>(alloc: Global, plan: &'p Plan, most: usize) -> Result<Found<'p>
     if numbers_drawn(plan, made.as_slice()) > numbers {
         return Ok(Found::TooManyNumbers);
     }
-    let standing = standing_of(alloc, &keys, &directory, plan, &tree, made.as_slice())?;
-    let groups = groups_of(alloc, &keys, &directory, &tree, &standing, made.as_slice())?;
+    let standing = standing_of(alloc, &keys, &directory, plan, made.as_slice())?;
+    let tree = plan.tree();
+    let groups = groups_of(alloc, &keys, &directory, tree, &standing, made.as_slice())?;
     let keys = directory.len();
-    found_in(alloc, plan, &tree, keys, groups.as_slice(), most, names)
+    found_in(alloc, plan, keys, groups.as_slice(), most, names)
 }
 
 /// At most `most` races of the touches in these groups, of which each context has one for each of
@@ -63,22 +63,20 @@ pub fn races<'p>(alloc: Global, plan: &'p Plan, most: usize) -> Result<Found<'p>
 fn found_in<'p>(
     alloc: Global,
     plan: &Plan,
-    tree: &Tree,
     keys: usize,
     groups: &[Vec<Touch<'p>>],
     most: usize,
     names: Vec<&'p StepKey>,
 ) -> Result<Found<'p>, AllocError>
-    requires tree { tree.now ≡ ids_of_nodes (plan_view plan.now).nodes }
     requires groups { IsGrouped keys (touches_made (plan_view plan.now)) (groups_view groups.now) }
     requires within { IsWithin (plan_view plan.now) names.items }
     ensures { IfOk result (IsFound (plan_view plan.now) most) }
 {
-    let races = races_told(alloc, plan, tree, groups, most)?;
+    let races = races_told(alloc, plan, groups, most)?;
     if !is_free(races.as_slice(), most) {
         return Ok(Found::Races { races, names });
     }
-    let proved = proved_of(alloc, plan, tree, keys, groups)?;
+    let proved = proved_of(alloc, plan, keys, groups)?;
     Ok(Found::NoRaces(proved))
 }
 

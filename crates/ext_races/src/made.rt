@@ -45,18 +45,14 @@ impl Callbacks for PlanCallbacks<'_> {
 
 /// Lists the steps that a run of the plan may make, in the order of its nodes. Takes memory for the
 /// list: 24 bytes for each step.
-pub(crate) fn steps_made<'p>(
-    alloc: Global,
-    plan: &'p Plan,
-    tree: &Tree,
-) -> Result<Vec<MadeStep<'p>>, AllocError>
-    requires tree { tree.now ≡ ids_of_nodes (plan_view plan.now).nodes }
-    requires few { CallbacksAreFew (plan_view plan.now) }
+pub(crate) fn steps_made<'p>(alloc: Global, plan: &'p Plan) -> Result<Vec<MadeStep<'p>>, AllocError>
+    requires { CallbacksAreFew (plan_view plan.now) }
     ensures { IfOk result (λ v. made_views [] v.items ≡ steps_made (plan_view plan.now)) }
 {
+    let tree = plan.tree();
     let mut made = Vec::new(alloc);
     for node in 0..tree.len() {
-        push_node(alloc, plan, tree, node, &mut made)?;
+        push_node(alloc, plan, node, &mut made)?;
     }
     Ok(made)
 }
@@ -64,16 +60,14 @@ pub(crate) fn steps_made<'p>(
 fn push_node<'p>(
     alloc: Global,
     plan: &'p Plan,
-    tree: &Tree,
     node: ContextNo,
     made: &mut Vec<MadeStep<'p>>,
 ) -> Result<(), AllocError>
-    requires tree { tree.now ≡ ids_of_nodes (plan_view plan.now).nodes }
     requires few { CallbacksAreFew (plan_view plan.now) }
-    requires node { node < length tree.now }
+    requires node { node < length (ids_of_nodes (plan_view plan.now).nodes) }
     ensures { OnOk result (made_views [] made.new.items ≡ made_views [] made.old.items ++ made_of_node (plan_view plan.now) node) }
 {
-    let (calls, afters) = calls_of(alloc, plan, tree, node)?;
+    let (calls, afters) = calls_of(alloc, plan, node)?;
     push_in_turn(plan, node, calls.as_slice(), made)?;
     push_each(plan, node, afters.as_slice(), made)?;
     Ok(())
@@ -83,16 +77,14 @@ fn push_node<'p>(
 fn calls_of(
     alloc: Global,
     plan: &Plan,
-    tree: &Tree,
     node: ContextNo,
 ) -> Result<(Vec<Call>, Vec<Call>), AllocError>
-    requires tree { tree.now ≡ ids_of_nodes (plan_view plan.now).nodes }
     requires few { CallbacksAreFew (plan_view plan.now) }
-    requires node { node < length tree.now }
+    requires node { node < length (ids_of_nodes (plan_view plan.now).nodes) }
     ensures calls { IfOk result (λ v. v.0.items ≡ calls_before (plan_view plan.now) node ++ test_call node ∷ []) }
     ensures afters { IfOk result (λ v. v.1.items ≡ calls_after (plan_view plan.now) node) }
 {
-    let path = path_in(tree, node);
+    let path = path_in(plan.tree(), node);
     let callbacks = PlanCallbacks { plan };
     let (mut calls, afters) = calls_round(alloc, &callbacks, plan.is_test(node), node, path)?;
     calls.push(Call {
@@ -107,12 +99,10 @@ fn calls_of(
 pub(crate) fn calls_before(
     alloc: Global,
     plan: &Plan,
-    tree: &Tree,
     node: ContextNo,
 ) -> Result<Vec<Call>, AllocError>
-    requires tree { tree.now ≡ ids_of_nodes (plan_view plan.now).nodes }
     requires few { CallbacksAreFew (plan_view plan.now) }
-    requires node { node < length tree.now }
+    requires node { node < length (ids_of_nodes (plan_view plan.now).nodes) }
     ensures { IfOk result (λ v. v.items ≡ calls_before (plan_view plan.now) node) }
 {
     let callbacks = PlanCallbacks { plan };
@@ -121,7 +111,7 @@ pub(crate) fn calls_before(
         &callbacks,
         plan.is_test(node),
         node,
-        path_in(tree, node),
+        path_in(plan.tree(), node),
     )
 }
 

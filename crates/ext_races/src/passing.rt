@@ -66,19 +66,13 @@ pub(crate) fn none_passed<'p>(
 }
 
 /// Notes the touches of a group, in place of all that was noted on their paths.
-pub(crate) fn note_group<'p>(
-    plan: &Plan,
-    tree: &Tree,
-    group: &[Touch<'p>],
-    passed: &mut [Option<Passed<'p>>],
-)
-    requires tree { tree.now ≡ ids_of_nodes (plan_view plan.now).nodes }
-    requires count { length passed.old ≡ length tree.now }
+pub(crate) fn note_group<'p>(plan: &Plan, group: &[Touch<'p>], passed: &mut [Option<Passed<'p>>])
+    requires { length passed.old ≡ length (ids_of_nodes (plan_view plan.now).nodes) }
     ensures { AreNoted (plan_view plan.now) passed.new (map touch_view group.now) }
 {
-    forget_paths(tree, group, passed);
+    forget_paths(plan.tree(), group, passed);
     for touch in group {
-        note_touch(plan, tree, touch, passed);
+        note_touch(plan, touch, passed);
     }
 }
 
@@ -100,13 +94,12 @@ fn forget_path(path: &[ContextNo], passed: &mut [Option<Passed<'_>>])
 }
 
 /// Notes a touch at each container that it passes by a concurrent child.
-fn note_touch<'p>(plan: &Plan, tree: &Tree, touch: &Touch<'p>, passed: &mut [Option<Passed<'p>>])
-    requires tree { tree.now ≡ ids_of_nodes (plan_view plan.now).nodes }
-    requires count { length passed.old ≡ length tree.now }
+fn note_touch<'p>(plan: &Plan, touch: &Touch<'p>, passed: &mut [Option<Passed<'p>>])
+    requires { length passed.old ≡ length (ids_of_nodes (plan_view plan.now).nodes) }
     ensures kept { Keeps passed.old passed.new }
     ensures noted { touch.now.node < length (plan_view plan.now).nodes → IsNoted (plan_view plan.now) passed.new (touch_view touch.now) }
 {
-    let path = path_in(tree, touch.node);
+    let path = path_in(plan.tree(), touch.node);
     for at in 1..path.len() {
         note_turn(plan, path[at - 1], path[at], touch, passed);
     }
@@ -145,18 +138,16 @@ fn with_touch<'p>(before: Option<Passed<'p>>, child: ContextNo, touch: &Touch<'p
 /// it; if `differing`, only where not all touches are alike, so that they may race.
 pub(crate) fn may_meet(
     plan: &Plan,
-    tree: &Tree,
     passed: &[Option<Passed<'_>>],
     node: ContextNo,
     differing: bool,
 ) -> bool
-    requires { tree.now ≡ ids_of_nodes (plan_view plan.now).nodes }
     ensures { result ≡ may_meet (plan_view plan.now) passed.now differing node }
 {
     if node >= plan.nodes.len() {
         return false;
     }
-    path_meets(plan, passed, path_in(tree, node), differing)
+    path_meets(plan, passed, path_in(plan.tree(), node), differing)
 }
 
 /// Tests whether a path passes a container by a concurrent child where touches may meet.

@@ -16,7 +16,6 @@ use crate::passing::{Passed, may_meet, none_passed, note_group};
 use crate::proved::Proved;
 use crate::touch::Touch;
 use ext_plan::Plan;
-use ext_tree::Tree;
 use std::alloc::{AllocError, Global};
 
 /// What is proved of a plan without races whose touches are in these groups, of which each context
@@ -24,19 +23,17 @@ use std::alloc::{AllocError, Global};
 pub(crate) fn proved_of<'p>(
     alloc: Global,
     plan: &Plan,
-    tree: &Tree,
     keys: usize,
     groups: &[Vec<Touch<'p>>],
 ) -> Result<Proved, AllocError>
-    requires tree { tree.now ≡ ids_of_nodes (plan_view plan.now).nodes }
     requires groups { IsGrouped keys (touches_made (plan_view plan.now)) (groups_view groups.now) }
     requires free { (race : Race) → ¬ IsRace (plan_view plan.now) race }
     requires places { length (keys_named (plan_view plan.now)) ≤ (plan_view plan.now).key_places }
     requires numbers { numbers_drawn (plan_view plan.now) ≤ most_numbers (plan_view plan.now).size }
     ensures { IfOk result (IsProved (plan_view plan.now)) }
 {
-    let mut passed = none_passed(alloc, tree.len())?;
-    if groups_share(plan, tree, groups, passed.as_mut_slice()) {
+    let mut passed = none_passed(alloc, plan.tree().len())?;
+    if groups_share(plan, groups, passed.as_mut_slice()) {
         Ok(Proved::NearReport)
     } else {
         Ok(Proved::OneReport)
@@ -47,16 +44,14 @@ pub(crate) fn proved_of<'p>(
 /// same one in that place, or finds it. What is noted in `passed` before does not matter.
 fn groups_share<'p>(
     plan: &Plan,
-    tree: &Tree,
     groups: &[Vec<Touch<'p>>],
     passed: &mut [Option<Passed<'p>>],
 ) -> bool
-    requires tree { tree.now ≡ ids_of_nodes (plan_view plan.now).nodes }
-    requires count { length passed.old ≡ length tree.now }
+    requires { length passed.old ≡ length (ids_of_nodes (plan_view plan.now).nodes) }
     ensures { result ≡ groups_share (plan_view plan.now) (groups_view groups.now) }
 {
     for group in groups {
-        if group_shares(plan, tree, group.as_slice(), passed) {
+        if group_shares(plan, group.as_slice(), passed) {
             return true;
         }
     }
@@ -64,21 +59,15 @@ fn groups_share<'p>(
 }
 
 /// The same in one group.
-fn group_shares<'p>(
-    plan: &Plan,
-    tree: &Tree,
-    group: &[Touch<'p>],
-    passed: &mut [Option<Passed<'p>>],
-) -> bool
-    requires tree { tree.now ≡ ids_of_nodes (plan_view plan.now).nodes }
-    requires count { length passed.old ≡ length tree.now }
+fn group_shares<'p>(plan: &Plan, group: &[Touch<'p>], passed: &mut [Option<Passed<'p>>]) -> bool
+    requires { length passed.old ≡ length (ids_of_nodes (plan_view plan.now).nodes) }
     ensures { result ≡ group_shares (plan_view plan.now) (map touch_view group.now) }
 {
     if !computes_any(group) {
         return false;
     }
-    note_group(plan, tree, group, passed);
-    any_shares(plan, tree, group, passed)
+    note_group(plan, group, passed);
+    any_shares(plan, group, passed)
 }
 
 /// Tests whether a touch of the group computes a value.
@@ -89,47 +78,40 @@ fn computes_any(group: &[Touch<'_>]) -> bool
 }
 
 /// The same as `group_shares`, by what is noted of the group.
-fn any_shares(plan: &Plan, tree: &Tree, group: &[Touch<'_>], passed: &[Option<Passed<'_>>]) -> bool
-    requires { tree.now ≡ ids_of_nodes (plan_view plan.now).nodes }
+fn any_shares(plan: &Plan, group: &[Touch<'_>], passed: &[Option<Passed<'_>>]) -> bool
     ensures { result ≡ list_any (λ t. has_share (plan_view plan.now) passed.now group.now (touch_view t)) group.now }
 {
     group
         .iter()
-        .any(|touch| has_share(plan, tree, group, passed, touch))
+        .any(|touch| has_share(plan, group, passed, touch))
 }
 
 /// Tests whether this computes a value, and a touch of the group the same one, or finds it, by a
 /// node that may run beside its node.
 fn has_share(
     plan: &Plan,
-    tree: &Tree,
     group: &[Touch<'_>],
     passed: &[Option<Passed<'_>>],
     touch: &Touch<'_>,
 ) -> bool
-    requires { tree.now ≡ ids_of_nodes (plan_view plan.now).nodes }
     ensures { result ≡ has_share (plan_view plan.now) passed.now group.now (touch_view touch.now) }
 {
     touch.computes_value()
-        && may_meet(plan, tree, passed, touch.node, false)
-        && any_share(plan, tree, group, touch)
+        && may_meet(plan, passed, touch.node, false)
+        && any_share(plan, group, touch)
 }
 
 /// Tests whether a touch of the group shares the value of this one.
-fn any_share(plan: &Plan, tree: &Tree, group: &[Touch<'_>], touch: &Touch<'_>) -> bool
-    requires { tree.now ≡ ids_of_nodes (plan_view plan.now).nodes }
+fn any_share(plan: &Plan, group: &[Touch<'_>], touch: &Touch<'_>) -> bool
     ensures { result ≡ list_any (λ u. share_beside (plan_view plan.now) (touch_view touch.now) (touch_view u)) group.now }
 {
-    group
-        .iter()
-        .any(|other| share_beside(plan, tree, touch, other))
+    group.iter().any(|other| share_beside(plan, touch, other))
 }
 
 /// Tests whether one computes a value, and the other the same one there, or finds it, by nodes that
 /// may run beside one another.
-fn share_beside(plan: &Plan, tree: &Tree, touch: &Touch<'_>, other: &Touch<'_>) -> bool
-    requires { tree.now ≡ ids_of_nodes (plan_view plan.now).nodes }
+fn share_beside(plan: &Plan, touch: &Touch<'_>, other: &Touch<'_>) -> bool
     ensures { result ≡ share_beside (plan_view plan.now) (touch_view touch.now) (touch_view other.now) }
 {
-    touch.shares_value(other) && nodes_beside(plan, tree, touch.node, other.node)
+    touch.shares_value(other) && nodes_beside(plan, touch.node, other.node)
 }

@@ -19,7 +19,7 @@ use crate::naming::store_key;
 use ext_lifecycle::Call;
 use ext_model::{ContextNo, KeyNo};
 use ext_plan::{KeyedStep, Plan, Step, StepKey, StepKeys, Word};
-use ext_tree::{Directory, Tree};
+use ext_tree::Directory;
 use std::alloc::{AllocError, Global};
 
 /// A compute: for which key, in which context, with which word and text.
@@ -115,16 +115,14 @@ pub(crate) fn standing_of<'p>(
     keys: &StepKeys<'_>,
     directory: &Directory,
     plan: &'p Plan,
-    tree: &Tree,
     made: &[MadeStep<'p>],
 ) -> Result<Standing<'p>, AllocError>
     requires plan { IsRunnablePlan (plan_view plan.now) }
-    requires tree { tree.now ≡ ids_of_nodes (plan_view plan.now).nodes }
     requires keys { keys_in keys.now ≡ (plan_view plan.now).keys }
     requires made { made_views [] made.now ≡ steps_made (plan_view plan.now) }
-    ensures { IfOk result (TellsAbove tree.now directory.now (standing (plan_view plan.now))) }
+    ensures { IfOk result (TellsAbove (ids_of_nodes (plan_view plan.now).nodes) directory.now (standing (plan_view plan.now))) }
 {
-    let computes = computes_made(alloc, keys, directory, plan, tree)?;
+    let computes = computes_made(alloc, keys, directory, plan)?;
     let removed = keys_removed(alloc, keys, directory, made)?;
     Ok(Standing { computes, removed })
 }
@@ -135,15 +133,14 @@ fn computes_made<'p>(
     keys: &StepKeys<'_>,
     directory: &Directory,
     plan: &'p Plan,
-    tree: &Tree,
 ) -> Result<Vec<Vec<Compute<'p>>>, AllocError>
-    requires tree { tree.now ≡ ids_of_nodes (plan_view plan.now).nodes }
-    requires few { CallbacksAreFew (plan_view plan.now) }
-    ensures { IfOk result (λ v. AreComputed (plan_view plan.now) (keys_in keys.now) directory.now (length tree.now) (computes_view v.items)) }
+    requires { CallbacksAreFew (plan_view plan.now) }
+    ensures { IfOk result (λ v. AreComputed (plan_view plan.now) (keys_in keys.now) directory.now (length (ids_of_nodes (plan_view plan.now).nodes)) (computes_view v.items)) }
 {
+    let tree = plan.tree();
     let mut lists = Vec::new(alloc);
     for node in 0..tree.len() {
-        let computes = computes_before(alloc, keys, directory, plan, tree, node)?;
+        let computes = computes_before(alloc, keys, directory, plan, node)?;
         lists.push(computes)?;
     }
     Ok(lists)
@@ -155,20 +152,19 @@ fn computes_before<'p>(
     keys: &StepKeys<'_>,
     directory: &Directory,
     plan: &'p Plan,
-    tree: &Tree,
     node: ContextNo,
 ) -> Result<Vec<Compute<'p>>, AllocError>
-    requires tree { tree.now ≡ ids_of_nodes (plan_view plan.now).nodes }
     requires few { CallbacksAreFew (plan_view plan.now) }
-    requires node { node < length tree.now }
-    ensures { IfOk result (λ v. children_of tree.now node ≢ [] → AreFirst (keys_in keys.now) directory.now (plan_path (plan_view plan.now) node) (map act_of (steps_before (plan_view plan.now) node)) v.items) }
+    requires node { node < length (ids_of_nodes (plan_view plan.now).nodes) }
+    ensures { IfOk result (λ v. children_of (ids_of_nodes (plan_view plan.now).nodes) node ≢ [] → AreFirst (keys_in keys.now) directory.now (plan_path (plan_view plan.now) node) (map act_of (steps_before (plan_view plan.now) node)) v.items) }
 {
+    let tree = plan.tree();
     let mut computes = Vec::new(alloc);
     if tree.children(node).is_empty() {
         return Ok(computes);
     }
     let path = path_in(tree, node);
-    let calls = calls_before(alloc, plan, tree, node)?;
+    let calls = calls_before(alloc, plan, node)?;
     note_calls(
         alloc,
         keys,

@@ -12,25 +12,22 @@ use crate::beside::nodes_beside;
 use crate::passing::{Passed, may_meet, none_passed, note_group};
 use crate::touch::Touch;
 use ext_plan::Plan;
-use ext_tree::Tree;
 use std::alloc::{AllocError, Global};
 
 /// Lists at most `most` races in these groups, without repetition. Takes memory for the list.
 pub(crate) fn races_told<'p>(
     alloc: Global,
     plan: &Plan,
-    tree: &Tree,
     groups: &[Vec<Touch<'p>>],
     most: usize,
 ) -> Result<Vec<Race>, AllocError>
-    requires { tree.now ≡ ids_of_nodes (plan_view plan.now).nodes }
     ensures { IfOk result (λ told. told.items ≡ groups_told (plan_view plan.now) most (groups_view groups.now)) }
 {
     let mut told = Vec::new(alloc);
-    let mut passed = none_passed(alloc, tree.len())?;
+    let mut passed = none_passed(alloc, plan.tree().len())?;
     for group in groups {
         let passed = passed.as_mut_slice();
-        tell_group(plan, tree, group.as_slice(), passed, most, &mut told)?;
+        tell_group(plan, group.as_slice(), passed, most, &mut told)?;
     }
     Ok(told)
 }
@@ -38,14 +35,12 @@ pub(crate) fn races_told<'p>(
 /// Adds the races in a group. What is noted in `passed` before does not matter.
 fn tell_group<'p>(
     plan: &Plan,
-    tree: &Tree,
     group: &[Touch<'p>],
     passed: &mut [Option<Passed<'p>>],
     most: usize,
     told: &mut Vec<Race>,
 ) -> Result<(), AllocError>
-    requires tree { tree.now ≡ ids_of_nodes (plan_view plan.now).nodes }
-    requires count { length passed.old ≡ length tree.now }
+    requires { length passed.old ≡ length (ids_of_nodes (plan_view plan.now).nodes) }
     ensures { OnOk result (told.new.items ≡ group_told (plan_view plan.now) most told.old.items (map touch_view group.now)) }
 {
     if told.len() >= most {
@@ -54,10 +49,10 @@ fn tell_group<'p>(
     if !changes_any(group) {
         return Ok(());
     }
-    note_group(plan, tree, group, passed);
+    note_group(plan, group, passed);
     for touch in group {
-        if may_meet(plan, tree, passed, touch.node, true) {
-            tell_touch(plan, tree, touch, group, most, told)?;
+        if may_meet(plan, passed, touch.node, true) {
+            tell_touch(plan, touch, group, most, told)?;
         }
     }
     Ok(())
@@ -73,13 +68,11 @@ fn changes_any(group: &[Touch<'_>]) -> bool
 /// Adds the races of a touch with others of its group.
 fn tell_touch(
     plan: &Plan,
-    tree: &Tree,
     touch: &Touch<'_>,
     group: &[Touch<'_>],
     most: usize,
     told: &mut Vec<Race>,
 ) -> Result<(), AllocError>
-    requires { tree.now ≡ ids_of_nodes (plan_view plan.now).nodes }
     ensures { OnOk result (told.new.items ≡ touch_told (plan_view plan.now) most (map touch_view group.now) told.old.items (touch_view touch.now)) }
 {
     if !touch.changes {
@@ -89,7 +82,7 @@ fn tell_touch(
         return Ok(());
     }
     for other in group {
-        tell_pair(plan, tree, touch, other, most, told)?;
+        tell_pair(plan, touch, other, most, told)?;
     }
     Ok(())
 }
@@ -97,16 +90,14 @@ fn tell_touch(
 /// Adds the race of two touches, if there is one.
 fn tell_pair(
     plan: &Plan,
-    tree: &Tree,
     touch: &Touch<'_>,
     other: &Touch<'_>,
     most: usize,
     told: &mut Vec<Race>,
 ) -> Result<(), AllocError>
-    requires { tree.now ≡ ids_of_nodes (plan_view plan.now).nodes }
     ensures { OnOk result (told.new.items ≡ pair_told (plan_view plan.now) most (touch_view touch.now) told.old.items (touch_view other.now)) }
 {
-    if touch.clashes(other) && nodes_beside(plan, tree, touch.node, other.node) {
+    if touch.clashes(other) && nodes_beside(plan, touch.node, other.node) {
         tell(touch.race_with(other), most, told)?;
     }
     Ok(())

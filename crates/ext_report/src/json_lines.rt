@@ -39,8 +39,9 @@ pub fn json_report(
     json_report_with(alloc, tree, results, &[])
 }
 
-/// The same, with what is known of the nodes beside their results. The extras stand in the order of
-/// the contexts; there may be fewer, or none.
+/// Returns the report of results as JSON lines as `json_report` does, with what is known of the
+/// nodes beside their results. The extras stand in the order of the contexts; there may be fewer,
+/// or none.
 ///
 /// Where a node's time is known, its object has a further member `millis`, and that of a successful
 /// node that passed at its second attempt or a later one has `attempt`, the last of all. The object

@@ -41,8 +41,9 @@ pub fn junit_report(
     junit_report_with(alloc, tree, results, &[])
 }
 
-/// The same, with what is known of the nodes beside their results. The extras stand in the order of
-/// the contexts; there may be fewer, or none.
+/// Returns the report of results in JUnit's XML as `junit_report` does, with what is known of the
+/// nodes beside their results. The extras stand in the order of the contexts; there may be fewer,
+/// or none.
 ///
 /// Where a node's time is known, the suite of its context has it, and so has the case of a test.
 /// The time of context 0 is that of all suites. A successful case that took several attempts has a

@@ -24,9 +24,9 @@ pub fn report_text(alloc: Global, tree: &Tree, results: &[NodeResult]) -> Result
     report_text_with(alloc, tree, results, &[])
 }
 
-/// The same, where the line of a node also tells what is known of it beside its result: how long it
-/// took, and at which attempt it passed. The extras stand in the order of the contexts; there may
-/// be fewer, or none.
+/// Returns the report of results as text as `report_text` does, where the line of a node also tells
+/// what is known of it beside its result: how long it took, and at which attempt it passed. The
+/// extras stand in the order of the contexts; there may be fewer, or none.
 pub fn report_text_with(
     alloc: Global,
     tree: &Tree,

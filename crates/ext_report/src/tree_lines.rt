@@ -33,8 +33,8 @@ pub fn tree_report(alloc: Global, tree: &Tree, results: &[NodeResult]) -> Result
     tree_report_with(alloc, tree, results, &[])
 }
 
-/// The same, where the line of a node also tells what is known of it beside its result, as in
-/// `report_text_with`.
+/// Returns the report of results as a tree as `tree_report` does, where the line of a node also
+/// tells what is known of it beside its result, as in `report_text_with`.
 pub fn tree_report_with(
     alloc: Global,
     tree: &Tree,

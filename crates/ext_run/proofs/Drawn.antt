@@ -1,18 +1,17 @@
--- What is drawn of a node, the faults of one node more, and a text with more behind it.
+-- What is drawn of a node, and the faults of one node more.
 use Rattle.std.proofs.Common.{◌≡◌, ℕ, suc, ◌+◌, Bool, List, [], ◌++◌, codes, length, string_bytes, refl, ap, sym, ◌∙◌, add-one}
-use Rattle.std.specs.Prelude.{option_map, Result, Ok, Err}
+use Rattle.std.specs.Prelude.{option_map}
 use Rattle.std.specs.List.{flat_map}
 use Rattle.std.proofs.lemmas.List.Folds.{flat_map-map}
 use Rattle.ext_ids.specs.Grammar.{Pair}
 use Rattle.ext_tree.specs.Trees.{Id, id_at}
 use Rattle.ext_lifecycle.specs.Modes.{is_concurrent}
 use Rattle.ext_plan_reading.specs.PlanNode.{PlanNode}
-use Rattle.ext_plan_reading.specs.Plans.{PlanText, lock_view, locks_view, node_view, steps_view}
+use Rattle.ext_plan_reading.specs.Plans.{lock_view, locks_view, node_view, steps_view}
 use Rattle.ext_report.proofs.Lines.{joined}
-use Rattle.ext_run.specs.Drawings.{IsTextOf, lock_words, node_words, test_words, word_if}
+use Rattle.ext_run.specs.Drawings.{lock_words, node_words, test_words, word_if}
 use Rattle.ext_run.specs.Failures.{Listing, failures_at, failures_below}
 use Rattle.ext_run.specs.declared.failures.NodeFault.{NodeFault}
-use Rattle.ext_run.specs.declared.fault.RunFault.{RunFault}
 
 -- four writes in a row are what is drawn
 pub words-written : (node : PlanNode) (concurrent : Bool) (text a b c d : List ℕ) → concurrent ≡ is_concurrent node.mode
@@ -41,9 +40,3 @@ pub failures-more : (line : Listing) (ids : List Id) (faults : List NodeFault) (
     → more ≡ failures_below line ids faults (n + 1)
 failures-more line ids faults n id text more at so is =
     is ∙ ap (λ t. t ++ failures_at line id n faults) so ∙ ap (λ i. failures_below line ids faults n ++ failures_at line i n faults) at ∙ sym (below-suc line ids faults n) ∙ ap (failures_below line ids faults) (sym (add-one n))
-
--- the text of what was read, with this behind it
-pub text-more : (of : PlanText → List ℕ) (more : List ℕ) (read : Result PlanText RunFault) (text new : List ℕ) → new ≡ text ++ more → IsTextOf of read text
-    → IsTextOf (λ plan. of plan ++ more) read new
-text-more of more (Ok plan) text new written is = written ∙ ap (λ t. t ++ more) is
-text-more of more (Err fault) text new written is = is

@@ -1,5 +1,5 @@
 -- What a run that lacked nothing gave, of a plan that has one report.
-use Rattle.std.proofs.Common.{◌≡◌, ℕ, Bool, true, false, List, map, Some, Result, Ok, Err, IfOk, refl, ap, sym, subst, ◌∙◌}
+use Rattle.std.proofs.Common.{◌≡◌, ℕ, Bool, true, false, List, map, Some, Ok, refl, ap, sym, subst, ◌∙◌}
 use Rattle.ext_lifecycle.specs.FaultTexts.{NodeOutcome}
 use Rattle.ext_plain.specs.PlainRun.{plain_run}
 use Rattle.ext_parallel.specs.Lacking.{may_have_lacked}
@@ -14,10 +14,7 @@ use Rattle.ext_plan_reading.specs.ReadPlans.{ids_of_nodes}
 use Rattle.ext_report.specs.Report.{sums_of}
 use Rattle.ext_report.specs.declared.form.ReportForm.{ReportForm}
 use Rattle.ext_run.proofs.NearForms.{bare, bare_lists, failed_same, near_form, same_sums}
-use Rattle.ext_run.specs.declared.fault.RunFault.{RunFault}
 use Rattle.ext_run.specs.declared.options.Options.{Options}
-use Rattle.ext_run.specs.declared.runs.Output.{Output}
-use Rattle.ext_run.specs.InnerOutputs.{output_view}
 use Rattle.ext_run.specs.OneReports.{IsOneReport, ReportsOne, plain_report, tells_each}
 use Rattle.ext_run.specs.Reports.{IsReportOf, IsRunBy, RunReport, run_report_of}
 
@@ -87,7 +84,5 @@ module _ (options : Options) (plan : PlanText) (given : RunReport) (read : IsRea
     sums = λ has off. given_is ∙ same_report (shares_in plan) of.results (plain_run plan) (near_is plan options.lanes of.results given.lacked nothing read has options.plain of.run) options.form plan off;
   }
 
-pub ReportsOne-read : (options : Options) (r : Result Output RunFault) (text : PlanText) (read : Result PlanText RunFault) → IsReadPlan text → IfOk r (λ o. IsReportOf options text (output_view o)) → read ≡ Ok text
-    → IfOk r (λ o. ReportsOne options read (output_view o))
-ReportsOne-read options (Ok o) text read good given is = subst (λ p. ReportsOne options p (output_view o)) (sym is) (λ nothing. is_one options text (output_view o) good given nothing)
-ReportsOne-read options (Err e) text read good given is = tt
+pub reports_one : (options : Options) (plan : PlanText) (given : RunReport) → IsReadPlan plan → IsReportOf options plan given → ReportsOne options (Ok plan) given
+reports_one options plan given read of = λ nothing. is_one options plan given read of nothing

@@ -1,6 +1,6 @@
 -- What a run gives, from its parts.
 use Rattle.std.proofs.Common.{◌≡◌, ◌≤◌, ℕ, Bool, true, false, List, [], ◌∷◌, length, map, Option, Some, None, Result, Ok, Err, IfOk, IfErr, refl, ap, sym, subst, ◌∙◌}
-use Rattle.std.specs.Prelude.{IfSome, IsOk}
+use Rattle.std.specs.Prelude.{IfSome}
 use Rattle.std.specs.Result.{IsErrAnd}
 use Rattle.std.proofs.lemmas.Bool.{le-ltb}
 use Rattle.std.specs.Str.{IsUtf8, is_utf8}
@@ -12,14 +12,14 @@ use Rattle.ext_model.specs.declared.size.Size.{Size}
 use Rattle.ext_plan_reading.specs.declared.fault.PlanFault.{PlanFault}
 use Rattle.ext_plan_reading.specs.declared.fault.PlanFault.TheVariants as plan
 use Rattle.ext_plan_reading.specs.Plans.{PlanText}
-use Rattle.ext_plan_reading.specs.Faults.{Fails}
+use Rattle.ext_plan_reading.specs.Faults.{Fails, Gives}
 use Rattle.ext_plan_reading.specs.Reading.{plan_of_text}
 use Rattle.ext_run.specs.declared.fault.RunFault.{RunFault}
 use Rattle.ext_run.specs.declared.fault.RunFault.TheVariants as faults
 use Rattle.ext_run.specs.declared.options.Options.{Options}
-use Rattle.ext_run.specs.declared.runs.Output.{Output}
-use Rattle.ext_run.specs.Reports.{IsReportOf, Reports, RunReport, input_limit, plan_of_bytes, plan_of_input, plan_or_fault, RefusedAs, RefusedBy}
-use Rattle.ext_run.specs.InnerOutputs.{output_view, ReportsAs, IsPlanFault}
+use Rattle.ext_run.specs.declared.options.Summary.{Summary}
+use Rattle.ext_run.specs.Reports.{RunReport, input_limit, plan_of_bytes, plan_of_input, plan_or_fault, RefusedAs, RefusedPlan}
+use Rattle.ext_run.specs.InnerOutputs.{IsPlanFault}
 
 pub plan_of_utf8 : (size : Size) (input : List ℕ) → IsUtf8 input → plan_of_bytes size input ≡ plan_or_fault (plan_of_text size input)
 unfolding plan_of_bytes
@@ -34,33 +34,41 @@ unfolding plan_of_bytes
 plan_of_others size input h = rw (not_true (is_utf8 input) (λ e. h (IsUtf8-from_is_utf8 input e))) refl
 
 -- a refused plan is refused with its fault
-pub RefusedBy-plan : (plain : Bool) (lanes : ℕ) (fault : PlanFault) (read : Result PlanText PlanFault) → Fails fault read → RefusedBy plain lanes (faults.Plan fault) (plan_or_fault read)
-RefusedBy-plan plain lanes plan.Memory read h = tt
-RefusedBy-plan plain lanes plan.NotUtf8 read h = rw h refl
-RefusedBy-plan plain lanes plan.NotToml read h = rw h refl
-RefusedBy-plan plain lanes (plan.UnknownField place) read h = rw h refl
-RefusedBy-plan plain lanes (plan.BadField place) read h = rw h refl
-RefusedBy-plan plain lanes (plan.BadLabel key) read h = rw h refl
-RefusedBy-plan plain lanes (plan.BadId node) read h = rw h refl
-RefusedBy-plan plain lanes plan.BadTree read h = rw h refl
-RefusedBy-plan plain lanes (plan.BadStep node) read h = rw h refl
-RefusedBy-plan plain lanes (plan.BadLock node) read h = rw h refl
-RefusedBy-plan plain lanes (plan.BadTest node) read h = rw h refl
-RefusedBy-plan plain lanes plan.TooMany read h = rw h refl
+refused_with : (fault : PlanFault) (read : Result PlanText PlanFault) → Fails fault read → RefusedPlan fault (plan_or_fault read)
+refused_with plan.Memory read h = tt
+refused_with plan.NotUtf8 read h = rw h refl
+refused_with plan.NotToml read h = rw h refl
+refused_with (plan.UnknownField place) read h = rw h refl
+refused_with (plan.BadField place) read h = rw h refl
+refused_with (plan.BadLabel key) read h = rw h refl
+refused_with (plan.BadId node) read h = rw h refl
+refused_with plan.BadTree read h = rw h refl
+refused_with (plan.BadStep node) read h = rw h refl
+refused_with (plan.BadLock node) read h = rw h refl
+refused_with (plan.BadTest node) read h = rw h refl
+refused_with plan.TooMany read h = rw h refl
+
+-- what reading the text of these bytes gives
+module _ {X : Type 0} (view : X → PlanText) (size : Size) (bytes text : List ℕ) (utf8 : IsUtf8 bytes) (same : text ≡ bytes) where
+  bytes_are : plan_of_bytes size bytes ≡ plan_or_fault (plan_of_text size text)
+  bytes_are = plan_of_utf8 size bytes utf8 ∙ ap (λ t. plan_or_fault (plan_of_text size t)) (sym same)
+
+  pub bytes_read : (r : Result X PlanFault) → Gives view r (plan_of_text size text) → IfOk r (λ x. plan_of_bytes size bytes ≡ Ok (view x))
+  bytes_read (Ok x) given = bytes_are ∙ ap plan_or_fault given
+  bytes_read (Err e) given = tt
+
+  pub bytes_refused : (r : Result X PlanFault) → Gives view r (plan_of_text size text) → IfErr r (λ fault. RefusedPlan fault (plan_of_bytes size bytes))
+  bytes_refused (Ok x) given = tt
+  bytes_refused (Err e) given = subst (RefusedPlan e) (sym bytes_are) (refused_with e (plan_of_text size text) given)
 
 -- a fault of the run of a plan that was read
-RefusedAs-read : (options : Options) (text : PlanText) (fault : RunFault) → IsPlanFault options text fault → RefusedAs options fault (Ok text)
+pub RefusedAs-read : (options : Options) (text : PlanText) (fault : RunFault) → IsPlanFault options text fault → RefusedAs options fault (Ok text)
 RefusedAs-read options text faults.Read why = absurd why
 RefusedAs-read options text faults.Write why = absurd why
 RefusedAs-read options text faults.TooLong why = absurd why
 RefusedAs-read options text (faults.Plan fault) why = absurd why
 RefusedAs-read options text (faults.Engine fault) why = why
 RefusedAs-read options text faults.Memory why = tt
-
-pub ReportsAs-read : (options : Options) (r : Result Output RunFault) (text : PlanText) (read : Result PlanText RunFault) → IfOk r (λ o. IsReportOf options text (output_view o)) → IfErr r (IsPlanFault options text)
-    → read ≡ Ok text → ReportsAs options r read
-ReportsAs-read options (Ok o) text read given why is = rw is given
-ReportsAs-read options (Err e) text read given why is = rw is (RefusedAs-read options text e why)
 
 pub run_report_is : (report report' : List ℕ) (failed failed' lacked : Bool) → report ≡ report' → failed ≡ failed'
     → (let old : RunReport = record { report = report; failed = failed; lacked = lacked } in let new : RunReport = record { report = report'; failed = failed'; lacked = lacked } in old ≡ new)
@@ -77,25 +85,36 @@ plan_of_short : (size : Size) (input : List ℕ) → length input ≤ input_limi
 unfolding plan_of_input
 plan_of_short size input short = rw (le-ltb (input_limit size) (length input) short) refl
 
--- what was written of it, if this holds of what was read and given
-pub written : (size : Size) (Gives : Result PlanText RunFault → RunReport → Type 0) (whole : Option (List ℕ)) (items bytes : List ℕ) (report wrote : List ℕ) (failed lacked : Bool) (Written : List ℕ → Type 0)
-    → IfSome whole (λ input. items ≡ input) → length items ≤ input_limit size → bytes ≡ items → Gives (plan_of_bytes size bytes) (record { report = report; failed = failed; lacked = lacked }) → wrote ≡ report → Written wrote
-    → IfSome whole (λ input. (x : List ℕ) × Gives (plan_of_input size input) (record { report = x; failed = failed; lacked = lacked }) × Written x)
-written size Gives None items bytes report wrote failed lacked Written same short read given is done = tt
-written size Gives (Some input) items bytes report wrote failed lacked Written same short read given is done =
-    let plan_is : plan_of_input size input ≡ plan_of_bytes size bytes = ap (plan_of_input size) (sym same) ∙ plan_of_short size items short ∙ ap (plan_of_bytes size) (sym read) in
-    (report, subst (λ p. Gives p (record { report = report; failed = failed; lacked = lacked })) (sym plan_is) given, subst Written is done)
+-- what was read of it
+module _ (size : Size) (whole : Option (List ℕ)) (items bytes : List ℕ) (same : IfSome whole (λ input. items ≡ input)) (short : length items ≤ input_limit size) (all : bytes ≡ items) where
+  pub of_whole : (P : Result PlanText RunFault → Type 0) → P (plan_of_bytes size bytes) → IfSome whole (λ input. P (plan_of_input size input))
+  of_whole P h = each whole same where
+    each : (given : Option (List ℕ)) → IfSome given (λ input. items ≡ input) → IfSome given (λ input. P (plan_of_input size input))
+    each None is = tt
+    each (Some input) is = subst P (sym (ap (plan_of_input size) (sym is) ∙ plan_of_short size items short ∙ ap (plan_of_bytes size) (sym all))) h
 
-reported : (options : Options) (read : Result PlanText RunFault) (given : RunReport) → Reports options read given → IsOk read
-reported options (Ok text) given h = refl
-reported options (Err fault) given h = absurd h
+  -- what was written of it, if this holds of the plan that was read
+  pub written : (Gives : Result PlanText RunFault → RunReport → Type 0) (text : PlanText) (r : Result Summary RunFault) (Written : List ℕ → Type 0) → plan_of_bytes size bytes ≡ Ok text
+      → IfOk r (λ s. (x : List ℕ) × Gives (Ok text) (record { report = x; failed = s.failed; lacked = s.lacked }) × Written x)
+      → IfOk r (λ s. IfSome whole (λ input. (x : List ℕ) × Gives (plan_of_input size input) (record { report = x; failed = s.failed; lacked = s.lacked }) × Written x))
+  written Gives text (Err e) Written read done = tt
+  written Gives text (Ok s) Written read done =
+      of_whole (λ p. (x : List ℕ) × Gives p (record { report = x; failed = s.failed; lacked = s.lacked }) × Written x)
+      (subst (λ p. (x : List ℕ) × Gives p (record { report = x; failed = s.failed; lacked = s.lacked }) × Written x) (sym read) done)
 
--- the write of its report failed
-pub unwritten : {A : Type 0} (options : Options) (whole : Option (List ℕ)) (items bytes : List ℕ) (given : RunReport) (r : Result A RunFault) (told : RunFault) → IfSome whole (λ input. items ≡ input)
-    → length items ≤ input_limit options.size → bytes ≡ items → Reports options (plan_of_bytes options.size bytes) given → IsErrAnd r (λ e. e ≡ told) → told ≡ faults.Write
-    → IfErr r (λ fault. IfSome whole (λ input. RefusedAs options fault (plan_of_input options.size input)))
-unwritten options whole items bytes given (Ok x) told same short read reports errs is = tt
-unwritten options None items bytes given (Err e) told same short read reports errs is = tt
-unwritten options (Some input) items bytes given (Err e) told same short read reports errs is =
-    let plan_is : plan_of_input options.size input ≡ plan_of_bytes options.size bytes = ap (plan_of_input options.size) (sym same) ∙ plan_of_short options.size items short ∙ ap (plan_of_bytes options.size) (sym read) in
-    subst (λ fault. RefusedAs options fault (plan_of_input options.size input)) (sym (errs ∙ is)) (subst IsOk (sym plan_is) (reported options (plan_of_bytes options.size bytes) given reports))
+  -- and why not
+  pub refused : {A : Type 0} (options : Options) (text : PlanText) (r : Result A RunFault) → plan_of_bytes size bytes ≡ Ok text → IfErr r (λ fault. RefusedAs options fault (Ok text))
+      → IfErr r (λ fault. IfSome whole (λ input. RefusedAs options fault (plan_of_input size input)))
+  refused options text (Ok x) read why = tt
+  refused options text (Err e) read why = of_whole (RefusedAs options e) (subst (RefusedAs options e) (sym read) why)
+
+-- ---- the report of a plan that was read
+
+pub reported : (Gives : RunReport → Type 0) (report wrote : List ℕ) (failed lacked : Bool) (Written : List ℕ → Type 0) → Gives (record { report = report; failed = failed; lacked = lacked }) → wrote ≡ report → Written wrote
+    → (x : List ℕ) × Gives (record { report = x; failed = failed; lacked = lacked }) × Written x
+reported Gives report wrote failed lacked Written given is done = (report, given, subst Written is done)
+
+-- the write of it failed
+pub unwritten : {A : Type 0} (options : Options) (text : PlanText) (r : Result A RunFault) (told : RunFault) → IsErrAnd r (λ e. e ≡ told) → told ≡ faults.Write → IfErr r (λ fault. RefusedAs options fault (Ok text))
+unwritten options text (Ok x) told errs is = tt
+unwritten options text (Err e) told errs is = subst (λ fault. RefusedAs options fault (Ok text)) (sym (errs ∙ is)) refl

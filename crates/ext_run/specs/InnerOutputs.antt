@@ -12,7 +12,7 @@ use Rattle.ext_run.specs.declared.runs.Output.{Output}
 use Rattle.ext_run.specs.Checks.{IsCountsOf, RefusedUnrun}
 use Rattle.ext_run.specs.IdText.{id_line}
 use Rattle.ext_run.specs.Requests.{IsFaultOf}
-use Rattle.ext_run.specs.Reports.{IsReadFault, RefusedAs, Reports, RunReport}
+use Rattle.ext_run.specs.Reports.{IsReadFault, RunReport}
 
 -- ---- the input
 
@@ -52,11 +52,6 @@ IsPlanFault options plan faults.Memory = Unit {0}
 
 abbrev pub output_view : Output → RunReport
 output_view o = record { report = o.report.items; failed = o.failed; lacked = o.lacked }
-
--- A function returned the report of what was read, or a fault that fits it.
-abbrev pub ReportsAs : Options → Result Output RunFault → Result PlanText RunFault → Type 0
-ReportsAs options (Ok output) read = Reports options read (output_view output)
-ReportsAs options (Err fault) read = RefusedAs options fault read
 
 -- ---- the line of a plan that is not run
 

@@ -12,9 +12,10 @@ use crate::fault::RunFault;
 use crate::input::read_input;
 use crate::list_form::ListForm;
 use crate::options::Summary;
+use crate::reading::plan_of;
 use crate::runs::write_whole;
 use ext_model::Size;
-use ext_plan_reading::{Plan, PlanFault, PlanNode, read_plan_within};
+use ext_plan_reading::{Plan, PlanFault, PlanNode};
 use ext_races::{Found, count_keys, races, races_json, races_text};
 use std::alloc::{AllocError, Global};
 use std::io::{Read, Write};
@@ -93,7 +94,6 @@ pub fn check_races<I: Read, W: Write>(
 
 /// The text of the races of the plan in these bytes, and whether there is one or a limit is
 /// exceeded.
-#[tactic(auto, unfolding(crate::specs::Reports::plan_of_bytes))]
 fn races_of(
     alloc: Global,
     input: &[u8],
@@ -104,10 +104,7 @@ fn races_of(
     ensures refused { IfErr result (λ fault. RefusedUnrun fault (plan_of_bytes size input.now)) }
     ensures unwritten { IfErr result (λ fault. fault ≢ RunFault.Write) }
 {
-    let Ok(text) = std::str::from_utf8(input) else {
-        return Err(RunFault::Plan(PlanFault::NotUtf8));
-    };
-    let plan = match read_plan_within(alloc, text, size) {
+    let plan = match plan_of(alloc, input, size) {
         Ok(plan) => plan,
         Err(fault) => return Err(RunFault::Plan(fault)),
     };
@@ -149,14 +146,10 @@ fn is_free(found: &Found<'_>) -> bool
 }
 
 /// The line of the plan in these bytes.
-#[tactic(auto, unfolding(crate::specs::Reports::plan_of_bytes))]
 fn line_of(alloc: Global, input: &[u8], size: Size) -> Result<String, RunFault>
     ensures { ChecksAs string_bytes result (plan_of_bytes size input.now) }
 {
-    let Ok(text) = std::str::from_utf8(input) else {
-        return Err(RunFault::Plan(PlanFault::NotUtf8));
-    };
-    match read_plan_within(alloc, text, size) {
+    match plan_of(alloc, input, size) {
         Ok(plan) => Ok(counts_line(alloc, &plan)?),
         Err(fault) => Err(RunFault::Plan(fault)),
     }
@@ -190,10 +183,7 @@ fn counts_line(alloc: Global, plan: &Plan) -> Result<String, AllocError>
 pub fn explain_keys(alloc: Global, input: &[u8], size: Size) -> Result<Option<String>, AllocError>
     ensures explained { IfOk result (λ line. option_map string_bytes line ≡ keys_explained (plan_of_bytes size input.now)) }
 {
-    let Ok(text) = std::str::from_utf8(input) else {
-        return Ok(None);
-    };
-    match read_plan_within(alloc, text, size) {
+    match plan_of(alloc, input, size) {
         Ok(plan) => line_of_plan(alloc, &plan),
         Err(fault) => no_line(fault),
     }

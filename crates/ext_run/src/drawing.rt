@@ -3,16 +3,16 @@ ghost use Rattle.std.specs.Prelude.{◌≡◌, ◌≢◌, ◌≤◌, ◌+◌, �
 ghost use Rattle.std.specs.Io.KnownBytes.{Consumes, Appends};
 ghost use Rattle.std.specs.List.{flat_map, slice_get};
 ghost use Rattle.ext_plan_reading.specs.Plans.{lock_view, node_view, nodes_view, plan_view, steps_view};
-ghost use Rattle.ext_plan_reading.specs.ReadPlans.{IsRunnablePlan};
 ghost use Rattle.ext_run.specs.Reports.{input_limit, plan_of_bytes, plan_of_input};
 ghost use Rattle.ext_run.specs.Checks.{RefusedUnrun};
 ghost use Rattle.ext_run.specs.Drawings.{IsTextOf, TextAs, drawing_of, drawn_line, lock_words, node_line, node_words, test_words, word_if};
 
 use crate::fault::RunFault;
 use crate::input::read_input;
+use crate::reading::plan_of;
 use crate::runs::write_whole;
 use ext_model::Size;
-use ext_plan_reading::{Plan, PlanFault, PlanLock, PlanNode, Step, read_plan_within};
+use ext_plan_reading::{Plan, PlanLock, PlanNode, Step};
 use ext_report::{depth_first, write_head};
 use std::alloc::{AllocError, Global};
 use std::io::{Read, Write};
@@ -44,25 +44,19 @@ pub fn draw<I: Read, W: Write>(
 }
 
 /// The drawing of the plan in these bytes.
-#[tactic(auto, unfolding(crate::specs::Reports::plan_of_bytes))]
 fn text_of(alloc: Global, input: &[u8], size: Size) -> Result<String, RunFault>
     ensures { TextAs string_bytes drawing_of result (plan_of_bytes size input.now) }
 {
-    let Ok(text) = std::str::from_utf8(input) else {
-        return Err(RunFault::Plan(PlanFault::NotUtf8));
-    };
-    match read_plan_within(alloc, text, size) {
+    match plan_of(alloc, input, size) {
         Ok(plan) => Ok(drawing_of(alloc, &plan)?),
         Err(fault) => Err(RunFault::Plan(fault)),
     }
 }
 
 fn drawing_of(alloc: Global, plan: &Plan) -> Result<String, AllocError>
-    requires { IsRunnablePlan (plan_view plan.now) }
     ensures { IfOk result (λ text. string_bytes text ≡ drawing_of (plan_view plan.now)) }
 {
-    let tree = plan.tree(alloc)?;
-    let order = depth_first(alloc, &tree)?;
+    let order = depth_first(alloc, plan.tree())?;
     drawing_in(alloc, plan.nodes.as_slice(), order.as_slice())
 }
 

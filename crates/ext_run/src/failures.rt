@@ -2,23 +2,19 @@
 ghost use Rattle.std.specs.Prelude.{◌≡◌, ◌++◌, [], false, string_bytes, IfOk, OnOk, OnErr};
 ghost use Rattle.ext_lifecycle.specs.FaultTexts.{fault_text};
 ghost use Rattle.ext_plan_reading.specs.Plans.{plan_view};
-ghost use Rattle.ext_plan_reading.specs.ReadPlans.{IsRunnablePlan};
-ghost use Rattle.ext_run.specs.Reports.{plan_of_bytes};
 ghost use Rattle.ext_report.specs.Groups.{shown};
 ghost use Rattle.ext_run.specs.FailureForms.{line_in, lost_as, lost_line, told_as};
 ghost use Rattle.ext_run.specs.Failures.{IsAdded, NotesFault, call_text, callback_of, failure_line, failures_of, place_text};
-ghost use Rattle.ext_run.specs.InnerFailures.{failures_in, lines_of, nodes_of};
-ghost use Rattle.ext_run.specs.Drawings.{TextAs};
+ghost use Rattle.ext_run.specs.InnerFailures.{lines_of, nodes_of};
 ghost use Rattle.ext_tree.specs.Trees.{id_at};
 ghost use Rattle.ext_ids.specs.Grammar.{id_text};
 
 use crate::failure_json::write_object;
-use crate::fault::RunFault;
 use crate::list_form::ListForm;
 use ext_ids::UniqueId;
 use ext_lifecycle::{Call, FaultPlace, Kind, NodeResult, RunListener};
-use ext_model::{ContextNo, Fault, Size};
-use ext_plan_reading::{Plan, PlanFault, read_plan_within};
+use ext_model::{ContextNo, Fault};
+use ext_plan_reading::Plan;
 use ext_report::grouped;
 use ext_tree::Tree;
 use std::alloc::{AllocError, Global};
@@ -140,8 +136,7 @@ impl<R: Wait, L: RunListener> RunListener for Failures<'_, R, L> {
 
 /// Returns the faults that were reported of a plan's nodes, each on a line. The nodes are in the
 /// order of the plan, and the faults of each node in the order in which they were reported. A last
-/// line says that faults were lost, if some were (`lost_line`). The bytes are the plan's, which is
-/// of at most this size, as a run reads them.
+/// line says that faults were lost, if some were (`lost_line`).
 ///
 /// A line is `ID: FAULT (PLACE)`. The place is for instance `test, step 1` or `before_each 0 of
 /// [engine:x], step 1`, or `close` for a value that could not be closed. As JSON it is an object
@@ -150,18 +145,17 @@ impl<R: Wait, L: RunListener> RunListener for Failures<'_, R, L> {
 /// field, and `of` the id of the node that registered it: both are null if it is none. `step` is
 /// null for `close`.
 ///
-/// Refused as `Plan` if the plan is refused, and as `Memory` if memory for the plan's tree, for a
-/// list of each node's faults or for the text is. Takes memory for these and for the plan.
+/// Takes memory for a list of each node's faults and for the text; fails with `AllocError` only if
+/// that is refused.
 pub fn failures_text(
     alloc: Global,
-    input: &[u8],
-    size: Size,
+    plan: &Plan,
     told: &ToldFaults,
     form: ListForm,
-) -> Result<String, RunFault>
-    ensures { TextAs string_bytes (told_as form told.now) result (plan_of_bytes size input.now) }
+) -> Result<String, AllocError>
+    ensures { IfOk result (λ text. string_bytes text ≡ told_as form told.now (plan_view plan.now)) }
 {
-    let mut text = failures_in(alloc, input, size, told.faults.as_slice(), form)?;
+    let mut text = failures_of_tree(alloc, plan.tree(), told.faults.as_slice(), form)?;
     write_lost(&mut text, told.lost, form)?;
     Ok(text)
 }
@@ -187,41 +181,7 @@ pub fn lost_line(form: ListForm) -> &'static str
     }
 }
 
-/// The faults of a plan's nodes in this form.
-#[tactic(auto, unfolding(crate::specs::Reports::plan_of_bytes))]
-fn failures_in(
-    alloc: Global,
-    input: &[u8],
-    size: Size,
-    faults: &[NodeFault],
-    form: ListForm,
-) -> Result<String, RunFault>
-    ensures { TextAs string_bytes (failures_in form faults.now) result (plan_of_bytes size input.now) }
-{
-    let Ok(text) = std::str::from_utf8(input) else {
-        return Err(RunFault::Plan(PlanFault::NotUtf8));
-    };
-    match read_plan_within(alloc, text, size) {
-        Ok(plan) => Ok(failures_of_plan(alloc, &plan, faults, form)?),
-        Err(fault) => Err(RunFault::Plan(fault)),
-    }
-}
-
-/// The same for a plan that was read.
-fn failures_of_plan(
-    alloc: Global,
-    plan: &Plan,
-    faults: &[NodeFault],
-    form: ListForm,
-) -> Result<String, AllocError>
-    requires { IsRunnablePlan (plan_view plan.now) }
-    ensures { IfOk result (λ text. string_bytes text ≡ failures_in form faults.now (plan_view plan.now)) }
-{
-    let tree = plan.tree(alloc)?;
-    failures_of_tree(alloc, &tree, faults, form)
-}
-
-/// The same for the tree of the plan's nodes.
+/// The faults of the nodes of a tree in this form.
 fn failures_of_tree(
     alloc: Global,
     tree: &Tree,

@@ -39,8 +39,9 @@ pub fn read_input<R: Read>(alloc: Global, reader: &mut R, size: Size) -> Result<
     Err(RunFault::TooLong)
 }
 
-/// How many bytes a plan of this size has at most.
-fn input_limit(size: Size) -> usize
+/// How many bytes a plan of this size has at most: 1,048,576 of usual size, and 67,108,864 of a large
+/// one. JUnit has no plans.
+pub fn input_limit(size: Size) -> usize
     ensures { result ≡ input_limit size }
 {
     match size {

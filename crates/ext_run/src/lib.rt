@@ -3,7 +3,7 @@
 //! `run` reads a plan, runs it and writes the report. It runs on several lanes over a store for
 //! several threads (`ext_parallel`), or on one thread over the one-thread store (`ext_plain`). If a
 //! plan is refused or a device fails, that is a `RunFault`. `specs/Reports.antt` defines what a run
-//! answers to its input.
+//! answers to its input. `plan_of` and `run_plan` are its two halves, with a listener.
 //!
 //! `check` reads a plan without running it, `check_lint` notes its mistakes, and `draw` draws it.
 //! `Failures` keeps the faults that a run reports, and `failures_text` repeats them. `read_input`,
@@ -27,6 +27,7 @@ mod linting;
 mod list_form;
 mod options;
 mod plan_faults;
+mod reading;
 mod request_fault;
 mod results;
 mod runs;
@@ -47,10 +48,11 @@ pub use ext_tree::Tree;
 pub use failures::{Failures, NodeFault, ToldFaults, failures_text, lost_line};
 pub use fault::RunFault;
 pub use id_lines::{id_text, make_id, read_id};
-pub use input::read_input;
+pub use input::{input_limit, read_input};
 pub use linting::check_lint;
 pub use list_form::ListForm;
 pub use options::{Options, Summary};
 pub use plan_faults::faults_of_plan;
+pub use reading::plan_of;
 pub use request_fault::{RequestFault, status_of};
-pub use runs::{report_text, run, run_with_listener};
+pub use runs::{report_text, run, run_plan};

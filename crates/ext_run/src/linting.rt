@@ -10,10 +10,11 @@ ghost use Rattle.ext_run.specs.Reports.{input_limit, plan_of_bytes, plan_of_inpu
 use crate::fault::RunFault;
 use crate::input::read_input;
 use crate::options::Summary;
+use crate::reading::plan_of;
 use crate::runs::write_whole;
 use ext_lint::lint;
 use ext_model::Size;
-use ext_plan_reading::{Plan, PlanFault, read_plan_within};
+use ext_plan_reading::Plan;
 use std::alloc::{AllocError, Global};
 use std::io::{Read, Write};
 
@@ -53,16 +54,12 @@ pub fn check_lint<I: Read, W: Write>(
 }
 
 /// The text of the notes of the plan in these bytes, and whether there is one.
-#[tactic(auto, unfolding(crate::specs::Reports::plan_of_bytes))]
 fn notes_of(alloc: Global, input: &[u8], size: Size) -> Result<(String, bool), RunFault>
     ensures told { IfOk result (λ told. IsNotesOf (plan_of_bytes size input.now) (string_bytes told.0) told.1) }
     ensures refused { IfErr result (λ fault. RefusedUnrun fault (plan_of_bytes size input.now)) }
     ensures unwritten { IfErr result (λ fault. fault ≢ RunFault.Write) }
 {
-    let Ok(text) = std::str::from_utf8(input) else {
-        return Err(RunFault::Plan(PlanFault::NotUtf8));
-    };
-    let plan = match read_plan_within(alloc, text, size) {
+    let plan = match plan_of(alloc, input, size) {
         Ok(plan) => plan,
         Err(fault) => return Err(RunFault::Plan(fault)),
     };

@@ -1,6 +1,6 @@
 //! The results of a run of a plan.
 ghost use Rattle.std.specs.Prelude.{◌≡◌, ◌≤◌, ◌<◌, false, length, IfOk, IfErr, All};
-ghost use Rattle.ext_plan_reading.specs.ReadPlans.{IsRunnablePlan, ids_of_nodes};
+ghost use Rattle.ext_plan_reading.specs.ReadPlans.{IsRunnablePlan};
 ghost use Rattle.ext_plan_reading.specs.Plans.{plan_view};
 ghost use Rattle.ext_lifecycle.specs.FaultTexts.{results_view};
 ghost use Rattle.ext_plain.specs.PlainRun.{ArePlain};
@@ -13,7 +13,6 @@ use ext_lifecycle::{NodeResult, RunListener};
 use ext_parallel::{may_have_lacked, parallel_results};
 use ext_plain::run_plain;
 use ext_plan_reading::Plan;
-use ext_tree::Tree;
 use std::alloc::{AllocError, Global};
 use std::sync::Wait;
 use std::thread::Threads;
@@ -31,19 +30,17 @@ pub(crate) fn results_of<R: Threads + Wait + Sync, L: RunListener + Sync>(
     rt: &R,
     alloc: Global,
     plan: &Plan,
-    tree: &Tree,
     options: Options,
     listener: &L,
 ) -> Result<PlanResults, RunFault>
     requires lanes { options.plain ≡ false → (1 ≤ options.lanes) × (options.lanes ≤ 16) }
     requires runnable { IsRunnablePlan (plan_view plan.now) }
-    requires contexts { tree.now ≡ ids_of_nodes (plan_view plan.now).nodes }
     ensures run { IfOk result (λ told. IsRunAs options (plan_view plan.now) (results_view told.results.items) told.lacked) }
-    ensures in_tree { IfOk result (λ told. All (λ r. r.node < length tree.now) told.results.items) }
+    ensures in_tree { IfOk result (λ told. All (λ r. r.node < length plan.now.nodes.items) told.results.items) }
     ensures fault { IfErr result (IsPlanFault options (plan_view plan.now)) }
 {
     if options.plain {
-        return Ok(plain_results(alloc, plan, tree, listener)?);
+        return Ok(plain_results(alloc, plan, listener)?);
     }
     match parallel_results(rt, alloc, plan, options.lanes, listener) {
         Ok(results) => {
@@ -58,15 +55,13 @@ pub(crate) fn results_of<R: Threads + Wait + Sync, L: RunListener + Sync>(
 fn plain_results<L: RunListener>(
     alloc: Global,
     plan: &Plan,
-    tree: &Tree,
     listener: &L,
 ) -> Result<PlanResults, AllocError>
-    requires runnable { IsRunnablePlan (plan_view plan.now) }
-    requires contexts { tree.now ≡ ids_of_nodes (plan_view plan.now).nodes }
+    requires { IsRunnablePlan (plan_view plan.now) }
     ensures run { IfOk result (λ told. ArePlain (plan_view plan.now) (results_view told.results.items) told.lacked) }
-    ensures in_tree { IfOk result (λ told. All (λ r. r.node < length tree.now) told.results.items) }
+    ensures in_tree { IfOk result (λ told. All (λ r. r.node < length plan.now.nodes.items) told.results.items) }
 {
-    let run = run_plain(alloc, plan, tree, listener)?;
+    let run = run_plain(alloc, plan, listener)?;
     Ok(PlanResults {
         results: run.results,
         lacked: run.lacked,

@@ -1,20 +1,21 @@
 //! A run from the bytes of a plan to those of its report.
-ghost use Rattle.std.specs.Prelude.{◌≡◌, ◌≢◌, ◌≤◌, ◌<◌, ◌+◌, ℕ, false, List, length, string_bytes, IfOk, IfErr, IfSome, OnOk, All};
+ghost use Rattle.std.specs.Prelude.{◌≡◌, ◌≢◌, ◌≤◌, ◌<◌, ◌+◌, ℕ, false, List, Ok, length, string_bytes, IfOk, IfErr, IfSome, OnOk, All};
 ghost use Rattle.std.specs.Io.KnownBytes.{Consumes, Appends};
 ghost use Rattle.ext_plan_reading.specs.Plans.{plan_view};
-ghost use Rattle.ext_plan_reading.specs.ReadPlans.{IsRunnablePlan};
+ghost use Rattle.ext_plan_reading.specs.ReadPlans.{IsReadPlan};
 ghost use Rattle.ext_lifecycle.specs.FaultTexts.{results_view};
 ghost use Rattle.ext_report.specs.Report.{report_of};
 ghost use Rattle.ext_run.specs.OneReports.{ReportsOne};
-ghost use Rattle.ext_run.specs.Reports.{input_limit, IsReportOf, plan_of_bytes, plan_of_input, RefusedAs, Reports};
-ghost use Rattle.ext_run.specs.InnerOutputs.{output_view, IsPlanFault, ReportsAs};
+ghost use Rattle.ext_run.specs.Reports.{input_limit, plan_of_input, RefusedAs, Reports};
+ghost use Rattle.ext_run.specs.InnerOutputs.{output_view};
 
 use crate::fault::RunFault;
 use crate::input::read_input;
 use crate::options::{Options, Summary};
+use crate::reading::plan_of;
 use crate::results::results_of;
 use ext_lifecycle::{NoListener, NodeResult, RunListener};
-use ext_plan_reading::{Plan, PlanFault, read_plan_within};
+use ext_plan_reading::Plan;
 use ext_report::{any_failed, report_in};
 use ext_tree::Tree;
 use std::alloc::Global;
@@ -65,6 +66,7 @@ struct Output {
 /// Takes memory for the input, the plan, the values, the results and the report, and gives all of
 /// it back. It waits for the reader and the writer, and on several lanes for its threads and for
 /// their steps.
+#[tactic(auto, unfolding(crate::specs::Reports::plan_of_input))]
 pub fn run<R: Threads + Wait + Sync, I: Read, W: Write>(
     rt: &R,
     alloc: Global,
@@ -85,37 +87,42 @@ pub fn run<R: Threads + Wait + Sync, I: Read, W: Write>(
     ensures taken { (bytes : List ℕ) × (length bytes ≤ input_limit options.size + 1)
         × Consumes (I.remaining reader.old) (I.remaining reader.new) bytes }
 {
-    run_with_listener(rt, alloc, reader, writer, options, &NoListener)
+    let input = read_input(alloc, reader, options.size)?;
+    let plan = match plan_of(alloc, input.as_slice(), options.size) {
+        Ok(plan) => plan,
+        Err(fault) => return Err(RunFault::Plan(fault)),
+    };
+    run_plan(rt, alloc, writer, &plan, options, &NoListener)
 }
 
-/// Reads and runs a plan like `run`, and notifies the listener when a node starts, of each of its
-/// faults, and when it has ended.
+/// Runs a plan that was read, and writes its report like `run`. It notifies the listener when a node
+/// starts, of each of its faults, and when it has ended.
 ///
 /// The listener is called on the threads that run the nodes, and has no effect on what is written.
-#[tactic(auto, unfolding(crate::specs::Reports::plan_of_input))]
-pub fn run_with_listener<R: Threads + Wait + Sync, I: Read, W: Write, L: RunListener + Sync>(
+///
+/// Refused as `Engine` or `Memory`, with nothing written, or as `Write`. Takes memory for the
+/// values, the results and the report, and gives all of it back. It waits for the writer, and on
+/// several lanes for its threads and for their steps.
+pub fn run_plan<R: Threads + Wait + Sync, W: Write, L: RunListener + Sync>(
     rt: &R,
     alloc: Global,
-    reader: &mut I,
     writer: &mut W,
+    plan: &Plan,
     options: Options,
     listener: &L,
 ) -> Result<Summary, RunFault>
     requires lanes { options.plain ≡ false → (1 ≤ options.lanes) × (options.lanes ≤ 16) }
-    ensures written { IfOk result (λ summary. IfSome (I.remaining reader.old) (λ input. (report : List ℕ)
-        × Reports options (plan_of_input options.size input) (record { report = report; failed = summary.failed; lacked = summary.lacked })
-        × Appends (W.contents writer.old) (W.contents writer.new) report)) }
-    ensures one_report { IfOk result (λ summary. IfSome (I.remaining reader.old) (λ input. (report : List ℕ)
-        × ReportsOne options (plan_of_input options.size input) (record { report = report; failed = summary.failed; lacked = summary.lacked })
-        × Appends (W.contents writer.old) (W.contents writer.new) report)) }
-    ensures refused { IfErr result (λ fault. IfSome (I.remaining reader.old)
-        (λ input. RefusedAs options fault (plan_of_input options.size input))) }
+    requires plan { IsReadPlan (plan_view plan.now) }
+    ensures written { IfOk result (λ summary. (report : List ℕ)
+        × Reports options (Ok (plan_view plan.now)) (record { report = report; failed = summary.failed; lacked = summary.lacked })
+        × Appends (W.contents writer.old) (W.contents writer.new) report) }
+    ensures one_report { IfOk result (λ summary. (report : List ℕ)
+        × ReportsOne options (Ok (plan_view plan.now)) (record { report = report; failed = summary.failed; lacked = summary.lacked })
+        × Appends (W.contents writer.old) (W.contents writer.new) report) }
+    ensures refused { IfErr result (λ fault. RefusedAs options fault (Ok (plan_view plan.now))) }
     ensures unwritten { IfErr result (λ fault. fault ≢ RunFault.Write → writer.new ≡ writer.old) }
-    ensures taken { (bytes : List ℕ) × (length bytes ≤ input_limit options.size + 1)
-        × Consumes (I.remaining reader.old) (I.remaining reader.new) bytes }
 {
-    let input = read_input(alloc, reader, options.size)?;
-    let output = output_for(rt, alloc, input.as_slice(), options, listener)?;
+    let output = output_of(rt, alloc, plan, options, listener)?;
     write_whole(writer, output.report.as_slice())?;
     Ok(Summary {
         failed: output.failed,
@@ -146,28 +153,6 @@ pub(crate) fn write_whole<W: Write>(writer: &mut W, bytes: &[u8]) -> Result<(), 
     Ok(())
 }
 
-/// The report of the plan in these bytes.
-#[tactic(auto, unfolding(crate::specs::Reports::plan_of_bytes))]
-fn output_for<R: Threads + Wait + Sync, L: RunListener + Sync>(
-    rt: &R,
-    alloc: Global,
-    input: &[u8],
-    options: Options,
-    listener: &L,
-) -> Result<Output, RunFault>
-    requires lanes { options.plain ≡ false → (1 ≤ options.lanes) × (options.lanes ≤ 16) }
-    ensures run { ReportsAs options result (plan_of_bytes options.size input.now) }
-    ensures one { IfOk result (λ o. ReportsOne options (plan_of_bytes options.size input.now) (output_view o)) }
-{
-    let Ok(text) = std::str::from_utf8(input) else {
-        return Err(RunFault::Plan(PlanFault::NotUtf8));
-    };
-    match read_plan_within(alloc, text, options.size) {
-        Ok(plan) => output_of(rt, alloc, &plan, options, listener),
-        Err(fault) => Err(RunFault::Plan(fault)),
-    }
-}
-
 /// The report of a run of a plan.
 fn output_of<R: Threads + Wait + Sync, L: RunListener + Sync>(
     rt: &R,
@@ -177,16 +162,16 @@ fn output_of<R: Threads + Wait + Sync, L: RunListener + Sync>(
     listener: &L,
 ) -> Result<Output, RunFault>
     requires lanes { options.plain ≡ false → (1 ≤ options.lanes) × (options.lanes ≤ 16) }
-    requires runnable { IsRunnablePlan (plan_view plan.now) }
-    ensures ok { IfOk result (λ o. IsReportOf options (plan_view plan.now) (output_view o)) }
-    ensures fault { IfErr result (IsPlanFault options (plan_view plan.now)) }
+    requires plan { IsReadPlan (plan_view plan.now) }
+    ensures run { IfOk result (λ o. Reports options (Ok (plan_view plan.now)) (output_view o)) }
+    ensures one { IfOk result (λ o. ReportsOne options (Ok (plan_view plan.now)) (output_view o)) }
+    ensures fault { IfErr result (λ fault. RefusedAs options fault (Ok (plan_view plan.now))) }
 {
-    let tree = plan.tree(alloc)?;
-    let told = match results_of(rt, alloc, plan, &tree, options, listener) {
+    let told = match results_of(rt, alloc, plan, options, listener) {
         Ok(told) => told,
         Err(fault) => return Err(fault),
     };
-    let report = report_in(alloc, options.form, &tree, told.results.as_slice())?;
+    let report = report_in(alloc, options.form, plan.tree(), told.results.as_slice())?;
     Ok(Output {
         report,
         failed: any_failed(told.results.as_slice()),

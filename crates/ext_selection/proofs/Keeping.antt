@@ -19,7 +19,7 @@ holds_none nodes flags clear = record {
   back = λ j k below stands. absurd (omega arith);
 }
 
--- A flag that is set stays, and the one at its place is.
+-- A flag that is set stays, and the one at its index is.
 flag_set : (flags : List Bool) (at k : ℕ) (b : Bool) → at < length flags → k ≡ at → flag_at (set flags at b) k ≡ b
 flag_set flags at k b fits same = ap (λ i. get_or (set flags at b) i false) same ∙ get_or-set_same flags at b false fits
 
@@ -94,151 +94,151 @@ settled_all nodes wanted kept h = record {
   );
 }
 
--- What `marked` leaves at each place.
-pub record IsMarked (before after : List Bool) (place above : ℕ) (is_kept : Bool) : Type 0 where
-  pub here : flag_at after place ≡ is_kept
-  pub later : (k : ℕ) → place < k → flag_at after k ≡ flag_at before k
-  pub others : (k : ℕ) → (k ≡ place → ⊥)
-      → (flag_at after k ≡ flag_at before k) ⊎ ((is_kept ≡ true) × (k ≡ above) × (above < place))
-  pub stays : (k : ℕ) → (k ≡ place → ⊥) → flag_at before k ≡ true → flag_at after k ≡ true
-  pub up : is_kept ≡ true → above < place → flag_at after above ≡ true
+-- What `marked` leaves at each index.
+pub record IsMarked (before after : List Bool) (index above : ℕ) (is_kept : Bool) : Type 0 where
+  pub here : flag_at after index ≡ is_kept
+  pub later : (k : ℕ) → index < k → flag_at after k ≡ flag_at before k
+  pub others : (k : ℕ) → (k ≡ index → ⊥)
+      → (flag_at after k ≡ flag_at before k) ⊎ ((is_kept ≡ true) × (k ≡ above) × (above < index))
+  pub stays : (k : ℕ) → (k ≡ index → ⊥) → flag_at before k ≡ true → flag_at after k ≡ true
+  pub up : is_kept ≡ true → above < index → flag_at after above ≡ true
 
 -- Only the node's own mark is written.
-marked_alone : (flags : List Bool) (place above : ℕ) (b : Bool) → place < length flags → (b ≡ true → above < place → ⊥)
-    → IsMarked flags (set flags place b) place above b
-marked_alone flags place above b fits alone = record {
-  here = flag_set flags place place b fits refl;
-  later = λ k after. flag_other flags place k b (λ (same : k ≡ place). omega arith);
-  others = λ k apart. inl (flag_other flags place k b apart);
-  stays = λ k apart is. flag_other flags place k b apart ∙ is;
+marked_alone : (flags : List Bool) (index above : ℕ) (b : Bool) → index < length flags → (b ≡ true → above < index → ⊥)
+    → IsMarked flags (set flags index b) index above b
+marked_alone flags index above b fits alone = record {
+  here = flag_set flags index index b fits refl;
+  later = λ k after. flag_other flags index k b (λ (same : k ≡ index). omega arith);
+  others = λ k apart. inl (flag_other flags index k b apart);
+  stays = λ k apart is. flag_other flags index k b apart ∙ is;
   up = λ is less. absurd (alone is less);
 }
 
-marked_up : (flags : List Bool) (place above : ℕ) → place < length flags → above < place
-    → IsMarked flags (set (set flags place true) above true) place above true
-marked_up flags place above fits less =
-    let once : List Bool = set flags place true in
+marked_up : (flags : List Bool) (index above : ℕ) → index < length flags → above < index
+    → IsMarked flags (set (set flags index true) above true) index above true
+marked_up flags index above fits less =
+    let once : List Bool = set flags index true in
     let size : above < length once = omega (arith, length-set {A = Bool}) in
     record {
-      here = flag_other once above place true (λ (same : place ≡ above). omega arith) ∙ flag_set flags place place true fits refl;
+      here = flag_other once above index true (λ (same : index ≡ above). omega arith) ∙ flag_set flags index index true fits refl;
       later = λ k after. flag_other once above k true (λ (same : k ≡ above). omega arith)
-          ∙ flag_other flags place k true (λ (same : k ≡ place). omega arith);
+          ∙ flag_other flags index k true (λ (same : k ≡ index). omega arith);
       others = λ k apart. ⊎_elim
           (λ (same : k ≡ above). inr (refl, same, less))
-          (λ (other : k ≡ above → ⊥). inl (flag_other once above k true other ∙ flag_other flags place k true apart))
+          (λ (other : k ≡ above → ⊥). inl (flag_other once above k true other ∙ flag_other flags index k true apart))
           (cases_eq k above);
       stays = λ k apart is. ⊎_elim
           (λ (same : k ≡ above). flag_set once above k true size same)
-          (λ (other : k ≡ above → ⊥). flag_other once above k true other ∙ flag_other flags place k true apart ∙ is)
+          (λ (other : k ≡ above → ⊥). flag_other once above k true other ∙ flag_other flags index k true apart ∙ is)
           (cases_eq k above);
       up = λ is below. flag_set once above above true size refl;
     }
 
-marked_cases : (flags : List Bool) (place above : ℕ) (b less : Bool) → place < length flags
-    → (less ≡ true → above < place) → (less ≡ false → above < place → ⊥)
-    → IsMarked flags (cond (b && less) (set (set flags place b) above true) (set flags place b)) place above b
-marked_cases flags place above true true fits up past = marked_up flags place above fits (up refl)
-marked_cases flags place above true false fits up past = marked_alone flags place above true fits (λ is. past refl)
-marked_cases flags place above false less fits up past =
-    marked_alone flags place above false fits (λ is. let same : false ≡ true = is in cc)
+marked_cases : (flags : List Bool) (index above : ℕ) (b less : Bool) → index < length flags
+    → (less ≡ true → above < index) → (less ≡ false → above < index → ⊥)
+    → IsMarked flags (cond (b && less) (set (set flags index b) above true) (set flags index b)) index above b
+marked_cases flags index above true true fits up past = marked_up flags index above fits (up refl)
+marked_cases flags index above true false fits up past = marked_alone flags index above true fits (λ is. past refl)
+marked_cases flags index above false less fits up past =
+    marked_alone flags index above false fits (λ is. let same : false ≡ true = is in cc)
 
 -- The marks once a node is settled, as the code writes them.
-pub marked_is : (flags : List Bool) (place above : ℕ) (b : Bool) → place < length flags
-    → IsMarked flags (marked flags place above b) place above b
-marked_is flags place above b fits = marked_cases flags place above b (ltb above place) fits
-    (λ is. ltb-true above place is) (λ is less. let past : place ≤ above = ltb-false above place is in omega arith)
+pub marked_is : (flags : List Bool) (index above : ℕ) (b : Bool) → index < length flags
+    → IsMarked flags (marked flags index above b) index above b
+marked_is flags index above b fits = marked_cases flags index above b (ltb above index) fits
+    (λ is. ltb-true above index is) (λ is less. let past : index ≤ above = ltb-false above index is in omega arith)
 
 -- A node is settled: by its own wish if it is a test, and else by the mark that those in it left.
-pub settled_more : (nodes : List Node) (wanted before after : List Bool) (place above : ℕ) (is_kept : Bool)
-    → place < length nodes → (node_at nodes place).above ≡ above
-    → (IsTest nodes place × (is_kept ≡ flag_at wanted place))
-    ⊎ ((IsTest nodes place → ⊥) × (is_kept ≡ flag_at before place))
-    → IsMarked before after place above is_kept
-    → IsSettled nodes wanted before (place + 1) → IsSettled nodes wanted after place
-settled_more nodes wanted before after place above is_kept within named choice m h = record {
+pub settled_more : (nodes : List Node) (wanted before after : List Bool) (index above : ℕ) (is_kept : Bool)
+    → index < length nodes → (node_at nodes index).above ≡ above
+    → (IsTest nodes index × (is_kept ≡ flag_at wanted index))
+    ⊎ ((IsTest nodes index → ⊥) × (is_kept ≡ flag_at before index))
+    → IsMarked before after index above is_kept
+    → IsSettled nodes wanted before (index + 1) → IsSettled nodes wanted after index
+settled_more nodes wanted before after index above is_kept within named choice m h = record {
   tests = λ k from below test. ⊎_elim
-      (λ (same : k ≡ place). ⊎_elim
-      (λ (own : IsTest nodes place × (is_kept ≡ flag_at wanted place)).
+      (λ (same : k ≡ index). ⊎_elim
+      (λ (own : IsTest nodes index × (is_kept ≡ flag_at wanted index)).
       ap (flag_at after) same ∙ m.here ∙ own.1 ∙ ap (flag_at wanted) (sym same))
-      (λ (not_own : (IsTest nodes place → ⊥) × (is_kept ≡ flag_at before place)).
+      (λ (not_own : (IsTest nodes index → ⊥) × (is_kept ≡ flag_at before index)).
       absurd (not_own.0 (subst (IsTest nodes) same test)))
       choice)
-      (λ (apart : k ≡ place → ⊥). m.later k (omega (arith, apart)) ∙ h.tests k (omega (arith, apart)) below test)
-      (cases_eq k place);
+      (λ (apart : k ≡ index → ⊥). m.later k (omega (arith, apart)) ∙ h.tests k (omega (arith, apart)) below test)
+      (cases_eq k index);
   to = λ k below free is. ⊎_elim
-      (λ (same : k ≡ place). to_here k same below free is)
-      (λ (apart : k ≡ place → ⊥). ⊎_elim
+      (λ (same : k ≡ index). to_here k same below free is)
+      (λ (apart : k ≡ index → ⊥). ⊎_elim
       (λ (kept_so : flag_at after k ≡ flag_at before k). found k (h.to k below (wider k free) (sym kept_so ∙ is)))
-      (λ (up : (is_kept ≡ true) × (k ≡ above) × (above < place)). (
-        place,
+      (λ (up : (is_kept ≡ true) × (k ≡ above) × (above < index)). (
+        index,
         omega arith,
         m.here ∙ up.0,
         record { within = within; before = omega (arith, up.1, up.2); named = named ∙ sym up.1 },
       ))
       (m.others k apart))
-      (cases_eq k place);
+      (cases_eq k index);
   back = λ j k below free from is stands. ⊎_elim
-      (λ (same : j ≡ place).
+      (λ (same : j ≡ index).
       let kept_here : is_kept ≡ true = sym m.here ∙ ap (flag_at after) (sym same) ∙ is in
       let at : above ≡ k = sym named ∙ ap (λ n. (node_at nodes n).above) (sym same) ∙ stands.named in
       let less : k < j = stands.before in
       ap (flag_at after) (sym at) ∙ m.up kept_here (omega arith))
-      (λ (apart : j ≡ place → ⊥).
-      let later : place < j = omega (arith, apart) in
+      (λ (apart : j ≡ index → ⊥).
+      let later : index < j = omega (arith, apart) in
       let was : flag_at before k ≡ true = h.back j k below (wider k free) (omega arith) (sym (m.later j later) ∙ is) stands in
       ⊎_elim
-      (λ (same : k ≡ place). ap (flag_at after) same ∙ m.here ∙ here_is k same free was)
-      (λ (other : k ≡ place → ⊥). m.stays k other was)
-      (cases_eq k place))
-      (cases_eq j place);
+      (λ (same : k ≡ index). ap (flag_at after) same ∙ m.here ∙ here_is k same free was)
+      (λ (other : k ≡ index → ⊥). m.stays k other was)
+      (cases_eq k index))
+      (cases_eq j index);
 }
   where
-    wider : (k : ℕ) → (k < place) ⊎ (IsTest nodes k → ⊥) → (k < place + 1) ⊎ (IsTest nodes k → ⊥)
-    wider k free = ⊎_elim (λ (less : k < place). inl (omega arith)) (λ (isnt : IsTest nodes k → ⊥). inr isnt) free
+    wider : (k : ℕ) → (k < index) ⊎ (IsTest nodes k → ⊥) → (k < index + 1) ⊎ (IsTest nodes k → ⊥)
+    wider k free = ⊎_elim (λ (less : k < index). inl (omega arith)) (λ (isnt : IsTest nodes k → ⊥). inr isnt) free
 
-    found : (k : ℕ) → (j : ℕ) × (place + 1 ≤ j) × (flag_at before j ≡ true) × StandsIn nodes j k
-        → (j : ℕ) × (place ≤ j) × (flag_at after j ≡ true) × StandsIn nodes j k
+    found : (k : ℕ) → (j : ℕ) × (index + 1 ≤ j) × (flag_at before j ≡ true) × StandsIn nodes j k
+        → (j : ℕ) × (index ≤ j) × (flag_at after j ≡ true) × StandsIn nodes j k
     found k f = (f.0, omega (arith, f.1), m.later f.0 (omega (arith, f.1)) ∙ f.2, f.3)
 
-    own_mark : (k : ℕ) → k ≡ place → (k < place) ⊎ (IsTest nodes k → ⊥) → is_kept ≡ flag_at before place
+    own_mark : (k : ℕ) → k ≡ index → (k < index) ⊎ (IsTest nodes k → ⊥) → is_kept ≡ flag_at before index
     own_mark k same free = ⊎_elim
-        (λ (own : IsTest nodes place × (is_kept ≡ flag_at wanted place)). ⊎_elim
-        (λ (less : k < place). absurd (omega arith))
+        (λ (own : IsTest nodes index × (is_kept ≡ flag_at wanted index)). ⊎_elim
+        (λ (less : k < index). absurd (omega arith))
         (λ (isnt : IsTest nodes k → ⊥). absurd (isnt (subst (IsTest nodes) (sym same) own.0)))
         free)
-        (λ (not_own : (IsTest nodes place → ⊥) × (is_kept ≡ flag_at before place)). not_own.1)
+        (λ (not_own : (IsTest nodes index → ⊥) × (is_kept ≡ flag_at before index)). not_own.1)
         choice
 
-    here_is : (k : ℕ) → k ≡ place → (k < place) ⊎ (IsTest nodes k → ⊥) → flag_at before k ≡ true → is_kept ≡ true
+    here_is : (k : ℕ) → k ≡ index → (k < index) ⊎ (IsTest nodes k → ⊥) → flag_at before k ≡ true → is_kept ≡ true
     here_is k same free was = own_mark k same free ∙ ap (flag_at before) (sym same) ∙ was
 
-    to_here : (k : ℕ) → k ≡ place → k < length nodes → (k < place) ⊎ (IsTest nodes k → ⊥) → flag_at after k ≡ true
-        → (j : ℕ) × (place ≤ j) × (flag_at after j ≡ true) × StandsIn nodes j k
+    to_here : (k : ℕ) → k ≡ index → k < length nodes → (k < index) ⊎ (IsTest nodes k → ⊥) → flag_at after k ≡ true
+        → (j : ℕ) × (index ≤ j) × (flag_at after j ≡ true) × StandsIn nodes j k
     to_here k same below free is = found k (h.to k below (wider k free)
         (ap (flag_at before) same ∙ sym (own_mark k same free) ∙ sym m.here ∙ ap (flag_at after) (sym same) ∙ is))
 
 -- ---- one step of each loop
 
 -- The tests are those nodes that are given something and that no node stands in.
-wish : (nodes : List Node) (wanted before : List Bool) (place : ℕ) (given holder is_kept : Bool)
-    → (node_at nodes place).is_test ≡ given → (holder ≡ true ↔ ((j : ℕ) × StandsIn nodes j place))
-    → is_kept ≡ cond (given && not holder) (flag_at wanted place) (flag_at before place)
-    → (IsTest nodes place × (is_kept ≡ flag_at wanted place)) ⊎ ((IsTest nodes place → ⊥) × (is_kept ≡ flag_at before place))
-wish nodes wanted before place true true is_kept is holds e =
-    inr (λ test. let some : (j : ℕ) × StandsIn nodes j place = holds.0 refl in test.last some.0 some.1, e)
-wish nodes wanted before place true false is_kept is holds e =
+wish : (nodes : List Node) (wanted before : List Bool) (index : ℕ) (given holder is_kept : Bool)
+    → (node_at nodes index).is_test ≡ given → (holder ≡ true ↔ ((j : ℕ) × StandsIn nodes j index))
+    → is_kept ≡ cond (given && not holder) (flag_at wanted index) (flag_at before index)
+    → (IsTest nodes index × (is_kept ≡ flag_at wanted index)) ⊎ ((IsTest nodes index → ⊥) × (is_kept ≡ flag_at before index))
+wish nodes wanted before index true true is_kept is holds e =
+    inr (λ test. let some : (j : ℕ) × StandsIn nodes j index = holds.0 refl in test.last some.0 some.1, e)
+wish nodes wanted before index true false is_kept is holds e =
     inl (record { given = is; last = λ j stands. let clash : false ≡ true = holds.1 (j, stands) in cc }, e)
-wish nodes wanted before place false holder is_kept is holds e =
-    inr (λ test. let clash : (node_at nodes place).is_test ≡ true = test.given in cc, e)
+wish nodes wanted before index false holder is_kept is holds e =
+    inr (λ test. let clash : (node_at nodes index).is_test ≡ true = test.given in cc, e)
 
-pub settled_step : (nodes : List Node) (wanted holders before after : List Bool) (place above : ℕ) (is_kept : Bool)
-    → AreHolders nodes holders → place < length nodes → length before ≡ length nodes → above ≡ (node_at nodes place).above
-    → is_kept ≡ kept_by nodes wanted holders before place → after ≡ marked before place above is_kept
-    → IsSettled nodes wanted before (place + 1) → IsSettled nodes wanted after place
-settled_step nodes wanted holders before after place above is_kept known within size named wished written h =
-    settled_more nodes wanted before after place above is_kept within (sym named)
-    (wish nodes wanted before place (node_at nodes place).is_test (flag_at holders place) is_kept refl (known.each place) wished)
-    (subst (λ flags. IsMarked before flags place above is_kept) (sym written) (marked_is before place above is_kept (omega arith)))
+pub settled_step : (nodes : List Node) (wanted holders before after : List Bool) (index above : ℕ) (is_kept : Bool)
+    → AreHolders nodes holders → index < length nodes → length before ≡ length nodes → above ≡ (node_at nodes index).above
+    → is_kept ≡ kept_by nodes wanted holders before index → after ≡ marked before index above is_kept
+    → IsSettled nodes wanted before (index + 1) → IsSettled nodes wanted after index
+settled_step nodes wanted holders before after index above is_kept known within size named wished written h =
+    settled_more nodes wanted before after index above is_kept within (sym named)
+    (wish nodes wanted before index (node_at nodes index).is_test (flag_at holders index) is_kept refl (known.each index) wished)
+    (subst (λ flags. IsMarked before flags index above is_kept) (sym written) (marked_is before index above is_kept (omega arith)))
     h
 
 -- The same from the number of nodes that are not settled yet.

@@ -1,4 +1,4 @@
--- Places stand once, among so many, when they are chosen and when they are put in another order.
+-- Indices stand once, among so many, when they are chosen and when they are put in another order.
 use Rattle.std.proofs.Common.{◌≡◌, ◌≢◌, ◌==◌, ◌∙◌, ℕ, zero, suc, ◌<◌, Bool, true, false, cond, List, [], ◌∷◌, length, filter, All, Contains, IsPermutation, sym, ap, subst, arith, zero-add}
 use Rattle.std.specs.Prelude.{AllPairs, slice_index_or}
 use Rattle.std.specs.Bool.{Decides, one_answer}
@@ -25,8 +25,8 @@ range_once n = λ i j d less below same.
     let first = get_or-range_with_len 0 n i d (omega arith) in
     let second = get_or-range_with_len 0 n j d (omega arith) in omega (arith, first, second, same, less)
 
-pub chosen_places : (nodes : List Node) (wanted : List Bool) (places : List ℕ) → AreChosen nodes wanted places → ArePlaces (length nodes) places
-chosen_places nodes wanted places h =
+pub chosen_places : (nodes : List Node) (wanted : List Bool) (indices : List ℕ) → AreChosen nodes wanted indices → ArePlaces (length nodes) indices
+chosen_places nodes wanted indices h =
     subst (ArePlaces (length nodes)) (sym h.exact)
     (record {
       within = All-filter h.kept (λ k. k < length nodes) (range_with_len 0 (length nodes)) (range_within (length nodes));
@@ -39,14 +39,14 @@ flips x y =
     (λ is. sym ((Decides-eqb y x).0 is), λ e. (Decides-eqb y x).1 (sym e)) in
     one_answer (x == y) (y == x) (Decides-eqb x y) turned
 
-pub moved_places : (count : ℕ) (places order : List ℕ) → IsPermutation places order → ArePlaces count places → ArePlaces count order
-moved_places count places order moved h = record {
-  within = All-permutation (λ place. place < count) places order moved h.within;
+pub moved_places : (count : ℕ) (indices order : List ℕ) → IsPermutation indices order → ArePlaces count indices → ArePlaces count order
+moved_places count indices order moved h = record {
+  within = All-permutation (λ index. index < count) indices order moved h.within;
   once = AllPairs-from_IsDistinct Decides-eqb order
-      (IsDistinct-IsPermutation (λ x y. x == y) flips places order moved (IsDistinct-from_AllPairs Decides-eqb places h.once));
+      (IsDistinct-IsPermutation (λ x y. x == y) flips indices order moved (IsDistinct-from_AllPairs Decides-eqb indices h.once));
 }
 
--- ---- with each place that of the node that it stands in
+-- ---- with each index that of the node that it stands in
 
 in_more : (b : Bool) (y : ℕ) (zs : List ℕ) (x : ℕ) → Contains zs x → Contains (cond b (y ∷ zs) zs) x
 in_more true y zs x h = (suc h.0, omega (arith, h.1), h.2)
@@ -61,8 +61,8 @@ contains_filter p [] k x below at is = absurd (omega arith)
 contains_filter p (y ∷ ys) zero x below at is = in_first (p y) y (filter p ys) x (ap p at ∙ is) at
 contains_filter p (y ∷ ys) (suc k) x below at is = in_more (p y) y (filter p ys) x (contains_filter p ys k x (omega arith) at is)
 
-pub closed_places : (nodes : List Node) (wanted : List Bool) (places : List ℕ) → AreChosen nodes wanted places → AreClosed nodes places
-closed_places nodes wanted places h = record {
+pub closed_places : (nodes : List Node) (wanted : List Bool) (indices : List ℕ) → AreChosen nodes wanted indices → AreClosed nodes indices
+closed_places nodes wanted indices h = record {
   each = λ inner outer stands some.
       let range : List ℕ = range_with_len 0 (length nodes) in
       let kept_in : h.kept inner ≡ true =

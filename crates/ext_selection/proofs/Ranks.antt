@@ -79,13 +79,13 @@ depths_all nodes depths n whole h = record {
 
 -- ---- the order of ranks
 
--- The key of the node at a place.
+-- The key of the node at an index.
 abbrev key_of : List Node → (ℕ → ℕ) → List ℕ → ℕ → ℕ
 key_of nodes numbers depths k = slice_index depths k * 2 ^ 64 + number_of nodes numbers k
 
--- The rank at this place of a list of ranks.
-pub found : (ranks : List Rank) (a x : ℕ) → slice_get (map (λ rank. rank.place) ranks) a ≡ Some x
-    → (rank : Rank) × (slice_get ranks a ≡ Some rank) × (rank.place ≡ x)
+-- The rank at this index of a list of ranks.
+pub found : (ranks : List Rank) (a x : ℕ) → slice_get (map (λ rank. rank.index) ranks) a ≡ Some x
+    → (rank : Rank) × (slice_get ranks a ≡ Some rank) × (rank.index ≡ x)
 found [] a x e = absurd (cc e)
 found (r ∷ ranks) zero x e = (r, refl, cc e)
 found (r ∷ ranks) (suc a) x e = found ranks a x e
@@ -115,10 +115,10 @@ lower_ranks ranks a b r s up e f less = ⊎_elim
 lower_first : (nodes : List Node) (numbers : ℕ → ℕ) (depths : List ℕ) (ranks : List Rank) (one other : ℕ)
     → Rising nodes numbers depths ranks
     → (number_of nodes numbers one < 2 ^ 64 → key_of nodes numbers depths one < key_of nodes numbers depths other)
-    → ComesFirst (map (λ rank. rank.place) ranks) one other
+    → ComesFirst (map (λ rank. rank.index) ranks) one other
 lower_first nodes numbers depths ranks one other h lower a b e f =
-    let first : (rank : Rank) × (slice_get ranks a ≡ Some rank) × (rank.place ≡ one) = found ranks a one e in
-    let second : (rank : Rank) × (slice_get ranks b ≡ Some rank) × (rank.place ≡ other) = found ranks b other f in
+    let first : (rank : Rank) × (slice_get ranks a ≡ Some rank) × (rank.index ≡ one) = found ranks a one e in
+    let second : (rank : Rank) × (slice_get ranks b ≡ Some rank) × (rank.index ≡ other) = found ranks b other f in
     let r : IsRank nodes numbers depths first.0 = rank_at (IsRank nodes numbers depths) ranks a first.0 h.each first.1 in
     let s : IsRank nodes numbers depths second.0 = rank_at (IsRank nodes numbers depths) ranks b second.0 h.each second.1 in
     let small : number_of nodes numbers one < 2 ^ 64 = subst (λ k. number_of nodes numbers k < 2 ^ 64) first.2 r.small in
@@ -139,7 +139,7 @@ drawn_number : (nodes : List Node) (numbers : ℕ → ℕ) (k : ℕ) → (node_a
 drawn_number nodes numbers k is = ap (λ b. cond b k (numbers k)) is
 
 pub is_order : (nodes : List Node) (numbers : ℕ → ℕ) (depths : List ℕ) (ranks : List Rank) → AreDepths nodes depths
-    → Rising nodes numbers depths ranks → IsOrder nodes numbers (map (λ rank. rank.place) ranks)
+    → Rising nodes numbers depths ranks → IsOrder nodes numbers (map (λ rank. rank.index) ranks)
 is_order nodes numbers depths ranks deep h = record {
   behind = λ inner outer stands. lower_first nodes numbers depths ranks outer inner h
       (λ small. deeper (slice_index depths outer) (slice_index depths inner) (number_of nodes numbers outer) (number_of nodes numbers inner)

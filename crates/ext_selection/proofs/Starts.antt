@@ -251,14 +251,14 @@ starts_more nodes order starts ends starts' ends' i z level at change h = by_out
 
 -- ---- the order that the starts make
 
--- Sorted by their starts, and within one start by their places in the order, those that come first and start no later
+-- Sorted by their starts, and within one start by their indices in the order, those that come first and start no later
 -- still come first.
 pub regrouped_is : (order starts : List ℕ) (ranks : List Rank) → All (IsStartRank order starts) ranks
-    → IsNonDecreasingBy (λ rank. rank.key) ranks → IsRegrouped order starts (map (λ rank. rank.place) ranks)
+    → IsNonDecreasingBy (λ rank. rank.key) ranks → IsRegrouped order starts (map (λ rank. rank.index) ranks)
 regrouped_is order starts ranks all up = record {
   each = λ one other first sooner_start a b e f.
-      let r : (rank : Rank) × (slice_get ranks a ≡ Some rank) × (rank.place ≡ one) = found ranks a one e in
-      let s : (rank : Rank) × (slice_get ranks b ≡ Some rank) × (rank.place ≡ other) = found ranks b other f in
+      let r : (rank : Rank) × (slice_get ranks a ≡ Some rank) × (rank.index ≡ one) = found ranks a one e in
+      let s : (rank : Rank) × (slice_get ranks b ≡ Some rank) × (rank.index ≡ other) = found ranks b other f in
       let p : IsStartRank order starts r.0 = rank_at (IsStartRank order starts) ranks a r.0 all r.1 in
       let q : IsStartRank order starts s.0 = rank_at (IsStartRank order starts) ranks b s.0 all s.1 in
       let e' : slice_get order p.at ≡ Some one = p.there ∙ ap Some r.2 in

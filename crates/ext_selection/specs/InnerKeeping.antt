@@ -16,11 +16,11 @@ pub record AreHolders (nodes : List Node) (flags : List Bool) : Type 0 where
 
 -- Whether a node is kept, once all behind it are settled: a test by its own wish, and another by its mark.
 abbrev pub kept_by : List Node → List Bool → List Bool → List Bool → ℕ → Bool
-kept_by nodes wanted holders kept place =
-    if (node_at nodes place).is_test && not (flag_at holders place) then flag_at wanted place else flag_at kept place
+kept_by nodes wanted holders kept index =
+    if (node_at nodes index).is_test && not (flag_at holders index) then flag_at wanted index else flag_at kept index
 
 -- The marks once a node is settled, and the one above it if this one is kept.
 abbrev pub marked : List Bool → ℕ → ℕ → Bool → List Bool
-marked kept place above is_kept =
-    if is_kept && nat_lt above place then slice_set (slice_set kept place is_kept) above true
-    else slice_set kept place is_kept
+marked kept index above is_kept =
+    if is_kept && nat_lt above index then slice_set (slice_set kept index is_kept) above true
+    else slice_set kept index is_kept

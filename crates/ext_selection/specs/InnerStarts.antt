@@ -24,18 +24,18 @@ pub record AreStarts (nodes : List Node) (order starts : List ℕ) : Type 0 wher
 
 -- A node starts where the last one beside it ended, and those in it start there too.
 abbrev pub StartsAt : Option ℕ → ℕ → List ℕ → List ℕ → List ℕ → List ℕ → Type 0
-StartsAt None place starts ends starts' ends' = (starts' ≡ starts) × (ends' ≡ ends)
-StartsAt (Some outer) place starts ends starts' ends' =
-    (starts' ≡ slice_set starts place (slice_index ends outer))
+StartsAt None index starts ends starts' ends' = (starts' ≡ starts) × (ends' ≡ ends)
+StartsAt (Some outer) index starts ends starts' ends' =
+    (starts' ≡ slice_set starts index (slice_index ends outer))
     × ((end : ℕ) × (slice_index ends outer ≤ end)
-    × (ends' ≡ slice_set (slice_set ends place (slice_index ends outer)) outer end))
+    × (ends' ≡ slice_set (slice_set ends index (slice_index ends outer)) outer end))
 
 -- A rank is lower the sooner a node starts, and among those of one start the sooner it comes.
 pub record IsStartRank (order starts : List ℕ) (rank : Rank) : Type 0 where
   pub at : ℕ
   pub small : at < 2 ^ 64
-  pub there : slice_get order at ≡ Some rank.place
-  pub key : rank.key ≡ slice_index starts rank.place * 2 ^ 64 + at
+  pub there : slice_get order at ≡ Some rank.index
+  pub key : rank.key ≡ slice_index starts rank.index * 2 ^ 64 + at
 
 -- The second order has those of the first, and what comes first in it still does if it starts no later.
 pub record IsRegrouped (order starts regrouped : List ℕ) : Type 0 where

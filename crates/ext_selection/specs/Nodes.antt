@@ -1,9 +1,9 @@
--- Where the nodes of a table stand. A node is its place, from 0, and stands in the node that its row names if that one
+-- Where the nodes of a table stand. A node is its index, from 0, and stands in the node that its row names if that one
 -- comes before it: the root, which names itself, stands in none.
 use Rattle.std.specs.Prelude.{◌≡◌, ◌≢◌, ℕ, ◌<◌, false, List, All, AllPairs, Contains, length, slice_index_or}
 use Rattle.ext_selection.specs.declared.nodes.Node.{Node}
 
--- What stands at a place past the end.
+-- What stands at an index past the end.
 abbrev pub no_node : Node
 no_node = record { is_test = false; is_in_turn = false; above = 0 }
 
@@ -22,11 +22,11 @@ pub record AreBeside (nodes : List Node) (one other : ℕ) : Type 0 where
   pub one_in : StandsIn nodes one outer
   pub other_in : StandsIn nodes other outer
 
--- Places of nodes among so many, each once.
-pub record ArePlaces (count : ℕ) (places : List ℕ) : Type 0 where
-  pub within : All (λ place. place < count) places
-  pub once : AllPairs (λ a b. a ≢ b) places
+-- Indices of nodes among so many, each once.
+pub record ArePlaces (count : ℕ) (indices : List ℕ) : Type 0 where
+  pub within : All (λ index. index < count) indices
+  pub once : AllPairs (λ a b. a ≢ b) indices
 
--- With each place stands that of the node that its own stands in.
-pub record AreClosed (nodes : List Node) (places : List ℕ) : Type 0 where
-  pub each : (inner outer : ℕ) → StandsIn nodes inner outer → Contains places inner → Contains places outer
+-- With each index stands that of the node that its own stands in.
+pub record AreClosed (nodes : List Node) (indices : List ℕ) : Type 0 where
+  pub each : (inner outer : ℕ) → StandsIn nodes inner outer → Contains indices inner → Contains indices outer

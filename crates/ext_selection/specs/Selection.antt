@@ -72,8 +72,8 @@ pub record AreKept (nodes : List Node) (wanted : List Bool) (kept : ℕ → Bool
   pub tests : (k : ℕ) → k < length nodes → IsTest nodes k → kept k ≡ flag_at wanted k
   pub containers : (k : ℕ) → k < length nodes → ¬ IsTest nodes k → IsTrue (kept k) ↔ HasKept nodes kept k
 
--- The places of the kept nodes, rising.
-pub record AreChosen (nodes : List Node) (wanted : List Bool) (places : List ℕ) : Type 0 where
+-- The indices of the kept nodes, rising.
+pub record AreChosen (nodes : List Node) (wanted : List Bool) (indices : List ℕ) : Type 0 where
   pub kept : ℕ → Bool
   pub rule : AreKept nodes wanted kept
-  pub exact : places ≡ filter kept (range_with_len 0 (length nodes))
+  pub exact : indices ≡ filter kept (range_with_len 0 (length nodes))

@@ -4,10 +4,10 @@ ghost use Rattle.ext_selection.specs.InnerStarts.{outer_of, IsBehind, AreStarts,
 
 use crate::looking::node_at;
 use crate::nodes::Node;
-use crate::rank::{Rank, places_of, sorted};
+use crate::rank::{Rank, indices_of, sorted};
 use std::alloc::{AllocError, Global};
 
-/// Where each node of an order starts, by places. The order has each behind the one that it stands
+/// Where each node of an order starts, by indices. The order has each behind the one that it stands
 /// in.
 pub(crate) fn starts(alloc: Global, nodes: &[Node], order: &[usize]) -> Result<Vec<u64>, AllocError>
     requires { IsBehind nodes.now order.now }
@@ -29,31 +29,31 @@ pub(crate) fn starts(alloc: Global, nodes: &[Node], order: &[usize]) -> Result<V
 /// How many nodes of the order stand in each, at any depth, and itself.
 fn sizes(alloc: Global, nodes: &[Node], order: &[usize]) -> Result<Vec<u64>, AllocError> {
     let mut sizes: Vec<u64> = vec![in alloc; 1; nodes.len()]?;
-    for place in order.iter().rev() {
-        add_size(nodes, sizes.as_mut_slice(), *place);
+    for index in order.iter().rev() {
+        add_size(nodes, sizes.as_mut_slice(), *index);
     }
     Ok(sizes)
 }
 
-fn add_size(nodes: &[Node], sizes: &mut [u64], place: usize) {
-    let size = size_at(sizes, place);
-    if let Some(outer) = outer_of(nodes, place)
+fn add_size(nodes: &[Node], sizes: &mut [u64], index: usize) {
+    let size = size_at(sizes, index);
+    if let Some(outer) = outer_of(nodes, index)
         && outer < sizes.len()
     {
         sizes[outer] = sizes[outer].saturating_add(size);
     }
 }
 
-fn size_at(sizes: &[u64], place: usize) -> u64 {
-    sizes.get(place).copied().unwrap_or(1)
+fn size_at(sizes: &[u64], index: usize) -> u64 {
+    sizes.get(index).copied().unwrap_or(1)
 }
 
 /// The node that one stands in.
-fn outer_of(nodes: &[Node], place: usize) -> Option<usize>
-    ensures { result ≡ outer_of nodes.now place }
+fn outer_of(nodes: &[Node], index: usize) -> Option<usize>
+    ensures { result ≡ outer_of nodes.now index }
 {
-    if place < nodes.len() && node_at(nodes, place).above < place {
-        Some(node_at(nodes, place).above)
+    if index < nodes.len() && node_at(nodes, index).above < index {
+        Some(node_at(nodes, index).above)
     } else {
         None
     }
@@ -67,42 +67,42 @@ fn set_starts(nodes: &[Node], order: &[usize], sizes: &[u64], starts: &mut [u64]
     requires ends { ends.old ≡ replicate (length nodes.now) 0 }
     ensures { AreStarts nodes.now order.now starts.new }
 {
-    for place in order {
-        set_start(nodes, sizes, starts, ends, *place);
+    for index in order {
+        set_start(nodes, sizes, starts, ends, *index);
     }
 }
 
-fn set_start(nodes: &[Node], sizes: &[u64], starts: &mut [u64], ends: &mut [u64], place: usize)
+fn set_start(nodes: &[Node], sizes: &[u64], starts: &mut [u64], ends: &mut [u64], index: usize)
     requires starts { length starts.old ≡ length nodes.now }
     requires ends { length ends.old ≡ length nodes.now }
-    ensures { StartsAt (outer_of nodes.now place) place starts.old ends.old starts.new ends.new }
+    ensures { StartsAt (outer_of nodes.now index) index starts.old ends.old starts.new ends.new }
 {
-    let Some(outer) = outer_of(nodes, place) else {
+    let Some(outer) = outer_of(nodes, index) else {
         return;
     };
     let start = ends[outer];
-    let end = start.saturating_add(size_at(sizes, place));
-    starts[place] = start;
-    ends[place] = start;
+    let end = start.saturating_add(size_at(sizes, index));
+    starts[index] = start;
+    ends[index] = start;
     ends[outer] = end;
 }
 
-/// The same places in the order of their starts; those of one start stay as they are.
+/// The indices of an order, sorted by their starts; those of one start stay as they are.
 pub(crate) fn regrouped(
     alloc: Global,
     order: &[usize],
     starts: &[u64],
 ) -> Result<Vec<usize>, AllocError>
-    ensures places { IfOk result (λ regrouped. IsPermutation order.now regrouped.items) }
+    ensures indices { IfOk result (λ regrouped. IsPermutation order.now regrouped.items) }
     ensures order { IfOk result (λ regrouped. IsRegrouped order.now starts.now regrouped.items) }
 {
     let ranks = start_ranks(alloc, order, starts)?;
     let sorted = sorted(ranks)?;
-    places_of(alloc, sorted.as_slice())
+    indices_of(alloc, sorted.as_slice())
 }
 
 fn start_ranks(alloc: Global, order: &[usize], starts: &[u64]) -> Result<Vec<Rank>, AllocError>
-    ensures places { IfOk result (λ ranks. map (λ rank. rank.place) ranks.items ≡ order.now) }
+    ensures indices { IfOk result (λ ranks. map (λ rank. rank.index) ranks.items ≡ order.now) }
     ensures each { IfOk result (λ ranks. All (IsStartRank order.now starts.now) ranks.items) }
 {
     let mut ranks = Vec::new(alloc);
@@ -114,16 +114,16 @@ fn start_ranks(alloc: Global, order: &[usize], starts: &[u64]) -> Result<Vec<Ran
 
 fn start_rank(order: &[usize], starts: &[u64], at: usize) -> Rank
     requires { at < length order.now }
-    ensures place { result.place ≡ slice_index order.now at }
+    ensures index { result.index ≡ slice_index order.now at }
     ensures each { IsStartRank order.now starts.now result }
 {
-    let place = order[at];
-    let key = ((start_at(starts, place) as u128) << 64) + at as u128;
-    Rank { key, place }
+    let index = order[at];
+    let key = ((start_at(starts, index) as u128) << 64) + at as u128;
+    Rank { key, index }
 }
 
-fn start_at(starts: &[u64], place: usize) -> u64
-    ensures { result ≡ slice_index starts.now place }
+fn start_at(starts: &[u64], index: usize) -> u64
+    ensures { result ≡ slice_index starts.now index }
 {
-    starts.get(place).copied().unwrap_or(0)
+    starts.get(index).copied().unwrap_or(0)
 }

@@ -4,9 +4,9 @@ ghost use Rattle.ext_selection.specs.Nodes.{node_at};
 
 use crate::nodes::Node;
 
-pub(crate) fn node_at(nodes: &[Node], place: usize) -> Node
-    requires { place < length nodes.now }
-    ensures { result ≡ node_at nodes.now place }
+pub(crate) fn node_at(nodes: &[Node], index: usize) -> Node
+    requires { index < length nodes.now }
+    ensures { result ≡ node_at nodes.now index }
 {
-    nodes[place]
+    nodes[index]
 }

@@ -7,7 +7,7 @@ pub struct Node {
     pub is_test: bool,
     /// Whether the node's mode is `Mode::SameThread`.
     pub is_in_turn: bool,
-    /// The place of the node that it stands in. One that is not before the node's own place, as the
+    /// The index of the node that it stands in. One that is not before the node's own index, as the
     /// root's, stands for none.
     pub above: usize,
 }

@@ -8,7 +8,7 @@ use std::alloc::{AllocError, Global};
 #[derive(Clone, Copy)]
 pub(crate) struct Rank {
     pub(crate) key: u128,
-    pub(crate) place: usize,
+    pub(crate) index: usize,
 }
 
 /// The ranks from the lowest.
@@ -20,8 +20,8 @@ pub(crate) fn sorted(mut ranks: Vec<Rank>) -> Result<Vec<Rank>, AllocError>
     Ok(ranks)
 }
 
-pub(crate) fn places_of(alloc: Global, ranks: &[Rank]) -> Result<Vec<usize>, AllocError>
-    ensures { IfOk result (λ places. places.items ≡ map (λ rank. rank.place) ranks.now) }
+pub(crate) fn indices_of(alloc: Global, ranks: &[Rank]) -> Result<Vec<usize>, AllocError>
+    ensures { IfOk result (λ indices. indices.items ≡ map (λ rank. rank.index) ranks.now) }
 {
-    ranks.iter().map(|rank| rank.place).collect(alloc)
+    ranks.iter().map(|rank| rank.index).collect(alloc)
 }

@@ -33,7 +33,7 @@ pub struct Selection {
     pub failed: Option<Vec<String>>,
 }
 
-/// The places of the nodes that are run, rising: of the wanted tests, and of the containers that one
+/// The indices of the nodes that are run, rising: of the wanted tests, and of the containers that one
 /// of them stands in. A test is a node that is given something and has no node in it. A node without
 /// an id is not wanted. Takes memory, and has no other refusal. An own rule, for JUnit 5 User Guide,
 /// section "Running Tests".
@@ -43,14 +43,14 @@ pub fn chosen(
     nodes: &[Node],
     selection: &Selection,
 ) -> Result<Vec<usize>, AllocError>
-    ensures chosen { IfOk result (λ places. AreChosen nodes.now (wanted_of selection.now ids.now) places.items) }
-    ensures places { IfOk result (λ places. ArePlaces (length nodes.now) places.items) }
-    ensures closed { IfOk result (λ places. AreClosed nodes.now places.items) }
+    ensures chosen { IfOk result (λ indices. AreChosen nodes.now (wanted_of selection.now ids.now) indices.items) }
+    ensures indices { IfOk result (λ indices. ArePlaces (length nodes.now) indices.items) }
+    ensures closed { IfOk result (λ indices. AreClosed nodes.now indices.items) }
 {
     let failed = listed(alloc, &selection.failed)?;
     let wanted = wanted(alloc, ids, selection, &failed)?;
     let kept = kept(alloc, nodes, wanted.as_slice())?;
-    places(alloc, kept.as_slice())
+    indices(alloc, kept.as_slice())
 }
 
 /// The listed ids as a set, since an earlier run may have failed in many tests.
@@ -188,9 +188,9 @@ fn holders(alloc: Global, nodes: &[Node]) -> Result<Vec<bool>, AllocError>
     ensures exact { IfOk result (λ flags. AreHolders nodes.now flags.items) }
 {
     let mut flags = vec![in alloc; false; nodes.len()]?;
-    for place in 0..nodes.len() {
-        let above = node_at(nodes, place).above;
-        if above < place {
+    for index in 0..nodes.len() {
+        let above = node_at(nodes, index).above;
+        if above < index {
             flags[above] = true;
         }
     }
@@ -205,45 +205,45 @@ fn keep(nodes: &[Node], wanted: &[bool], holders: &[bool], kept: &mut [bool])
     requires none { (k : ℕ) → flag_at kept.old k ≡ false }
     ensures { AreKept nodes.now wanted.now (flag_at kept.new) }
 {
-    for place in (0..nodes.len()).rev() {
-        let is_kept = is_kept(nodes, wanted, holders, kept, place);
-        mark(kept, place, node_at(nodes, place).above, is_kept);
+    for index in (0..nodes.len()).rev() {
+        let is_kept = is_kept(nodes, wanted, holders, kept, index);
+        mark(kept, index, node_at(nodes, index).above, is_kept);
     }
 }
 
 /// Whether a node is kept, once all behind it are settled.
-fn is_kept(nodes: &[Node], wanted: &[bool], holders: &[bool], kept: &[bool], place: usize) -> bool
-    requires { place < length nodes.now }
-    ensures { result ≡ kept_by nodes.now wanted.now holders.now kept.now place }
+fn is_kept(nodes: &[Node], wanted: &[bool], holders: &[bool], kept: &[bool], index: usize) -> bool
+    requires { index < length nodes.now }
+    ensures { result ≡ kept_by nodes.now wanted.now holders.now kept.now index }
 {
-    if node_at(nodes, place).is_test && !flag_at(holders, place) {
-        flag_at(wanted, place)
+    if node_at(nodes, index).is_test && !flag_at(holders, index) {
+        flag_at(wanted, index)
     } else {
-        flag_at(kept, place)
+        flag_at(kept, index)
     }
 }
 
 /// Settles a node, and the one above it if this one is kept.
-fn mark(kept: &mut [bool], place: usize, above: usize, is_kept: bool)
-    requires { place < length kept.old }
-    ensures { kept.new ≡ marked kept.old place above is_kept }
+fn mark(kept: &mut [bool], index: usize, above: usize, is_kept: bool)
+    requires { index < length kept.old }
+    ensures { kept.new ≡ marked kept.old index above is_kept }
 {
-    kept[place] = is_kept;
-    if is_kept && above < place {
+    kept[index] = is_kept;
+    if is_kept && above < index {
         kept[above] = true;
     }
 }
 
-fn flag_at(flags: &[bool], place: usize) -> bool
-    ensures { result ≡ flag_at flags.now place }
+fn flag_at(flags: &[bool], index: usize) -> bool
+    ensures { result ≡ flag_at flags.now index }
 {
-    flags.get(place).copied().unwrap_or(false)
+    flags.get(index).copied().unwrap_or(false)
 }
 
-/// The places that are marked, rising.
-fn places(alloc: Global, marks: &[bool]) -> Result<Vec<usize>, AllocError>
-    ensures { IfOk result (λ places. places.items ≡ filter (flag_at marks.now) (range_with_len 0 (length marks.now))) }
+/// The indices that are marked, rising.
+fn indices(alloc: Global, marks: &[bool]) -> Result<Vec<usize>, AllocError>
+    ensures { IfOk result (λ indices. indices.items ≡ filter (flag_at marks.now) (range_with_len 0 (length marks.now))) }
 {
-    let places = (0..marks.len()).filter(|place| flag_at(marks, *place));
-    places.collect(alloc)
+    let indices = (0..marks.len()).filter(|index| flag_at(marks, *index));
+    indices.collect(alloc)
 }

@@ -8,11 +8,11 @@ use crate::grouping::{regrouped, starts};
 use crate::hashing::text_number;
 use crate::looking::node_at;
 use crate::nodes::Node;
-use crate::rank::{Rank, places_of, sorted};
+use crate::rank::{Rank, indices_of, sorted};
 use ext_ids::UniqueId;
 use std::alloc::{AllocError, Global};
 
-/// The places in an order that the seed decides, the same for each seed on each machine: each node
+/// The indices in an order that the seed decides, the same for each seed on each machine: each node
 /// behind the one that it stands in, those beside one another that run in turn in the table's order,
 /// and the others by a number that the seed and the node's id make. What stands in a node follows
 /// right behind it, of which no clause speaks. Takes memory, and has no other refusal. An own rule,
@@ -21,33 +21,34 @@ pub fn shuffled(
     alloc: Global,
     ids: &[UniqueId],
     nodes: &[Node],
-    places: &[usize],
+    indices: &[usize],
     seed: u64,
 ) -> Result<Vec<usize>, AllocError>
-    ensures places { IfOk result (λ order. IsPermutation places.now order.items) }
-    ensures once { (count : ℕ) → ArePlaces count places.now → IfOk result (λ order. ArePlaces count order.items) }
+    ensures indices { IfOk result (λ order. IsPermutation indices.now order.items) }
+    ensures once { (count : ℕ) → ArePlaces count indices.now → IfOk result (λ order. ArePlaces count order.items) }
     ensures order { IfOk result (λ order. IsOrder nodes.now (drawn_at seed ids.now) order.items) }
 {
-    let levels = by_levels(alloc, ids, nodes, places, seed)?;
+    let levels = by_levels(alloc, ids, nodes, indices, seed)?;
     let starts = starts(alloc, nodes, levels.as_slice())?;
     regrouped(alloc, levels.as_slice(), starts.as_slice())
 }
 
-/// The same, but nodes that stand in fewer others come before all that stand in more.
+/// The indices level by level: nodes that stand in fewer others come before all that stand in more,
+/// and those of one level in the order that `shuffled` says.
 fn by_levels(
     alloc: Global,
     ids: &[UniqueId],
     nodes: &[Node],
-    places: &[usize],
+    indices: &[usize],
     seed: u64,
 ) -> Result<Vec<usize>, AllocError>
-    ensures places { IfOk result (λ order. IsPermutation places.now order.items) }
+    ensures indices { IfOk result (λ order. IsPermutation indices.now order.items) }
     ensures order { IfOk result (λ order. IsOrder nodes.now (drawn_at seed ids.now) order.items) }
 {
     let depths = depths(alloc, nodes)?;
-    let ranks = ranks(alloc, ids, nodes, depths.as_slice(), places, seed)?;
+    let ranks = ranks(alloc, ids, nodes, depths.as_slice(), indices, seed)?;
     let sorted = sorted(ranks)?;
-    places_of(alloc, sorted.as_slice())
+    indices_of(alloc, sorted.as_slice())
 }
 
 /// How many nodes each stands in.
@@ -55,14 +56,14 @@ fn depths(alloc: Global, nodes: &[Node]) -> Result<Vec<usize>, AllocError>
     ensures { IfOk result (λ depths. AreDepths nodes.now depths.items) }
 {
     let mut depths = Vec::new(alloc);
-    for place in 0..nodes.len() {
-        let depth = depth_below(depths.as_slice(), node_at(nodes, place).above);
+    for index in 0..nodes.len() {
+        let depth = depth_below(depths.as_slice(), node_at(nodes, index).above);
         depths.push(depth)?;
     }
     Ok(depths)
 }
 
-/// The depth of a node that stands in the one at this place, if that one comes before it.
+/// The depth of a node that stands in the one at this index, if that one comes before it.
 fn depth_below(depths: &[usize], above: usize) -> usize
     requires { (k : ℕ) → k < length depths.now → slice_index depths.now k ≤ k }
     ensures { result ≡ (if nat_lt above (length depths.now) then slice_index depths.now above + 1 else 0) }
@@ -79,15 +80,15 @@ fn ranks(
     ids: &[UniqueId],
     nodes: &[Node],
     depths: &[usize],
-    places: &[usize],
+    indices: &[usize],
     seed: u64,
 ) -> Result<Vec<Rank>, AllocError>
-    ensures places { IfOk result (λ ranks. map (λ rank. rank.place) ranks.items ≡ places.now) }
+    ensures indices { IfOk result (λ ranks. map (λ rank. rank.index) ranks.items ≡ indices.now) }
     ensures each { IfOk result (λ ranks. All (IsRank nodes.now (drawn_at seed ids.now) depths.now) ranks.items) }
 {
     let mut ranks = Vec::new(alloc);
-    for place in places {
-        ranks.push(rank_of(alloc, ids, nodes, depths, *place, seed)?)?;
+    for index in indices {
+        ranks.push(rank_of(alloc, ids, nodes, depths, *index, seed)?)?;
     }
     Ok(ranks)
 }
@@ -97,16 +98,16 @@ fn rank_of(
     ids: &[UniqueId],
     nodes: &[Node],
     depths: &[usize],
-    place: usize,
+    index: usize,
     seed: u64,
 ) -> Result<Rank, AllocError>
-    ensures place { IfOk result (λ rank. rank.place ≡ place) }
+    ensures index { IfOk result (λ rank. rank.index ≡ index) }
     ensures each { IfOk result (IsRank nodes.now (drawn_at seed ids.now) depths.now) }
 {
-    let number = number(alloc, ids, nodes, place, seed)?;
-    let depth = depth_at(depths, place);
+    let number = number(alloc, ids, nodes, index, seed)?;
+    let depth = depth_at(depths, index);
     let key = ((depth as u128) << 64) + number as u128;
-    Ok(Rank { key, place })
+    Ok(Rank { key, index })
 }
 
 /// The number by which a node comes among those beside it.
@@ -114,37 +115,37 @@ fn number(
     alloc: Global,
     ids: &[UniqueId],
     nodes: &[Node],
-    place: usize,
+    index: usize,
     seed: u64,
 ) -> Result<u64, AllocError>
-    ensures { IfOk result (λ number. number ≡ number_of nodes.now (drawn_at seed ids.now) place) }
+    ensures { IfOk result (λ number. number ≡ number_of nodes.now (drawn_at seed ids.now) index) }
 {
-    if is_in_turn(nodes, place) {
-        Ok(place as u64)
+    if is_in_turn(nodes, index) {
+        Ok(index as u64)
     } else {
-        drawn(alloc, ids, place, seed)
+        drawn(alloc, ids, index, seed)
     }
 }
 
-/// What the seed draws for the node at a place.
-fn drawn(alloc: Global, ids: &[UniqueId], place: usize, seed: u64) -> Result<u64, AllocError>
-    ensures { IfOk result (λ number. number ≡ drawn_at seed ids.now place) }
+/// What the seed draws for the node at an index.
+fn drawn(alloc: Global, ids: &[UniqueId], index: usize, seed: u64) -> Result<u64, AllocError>
+    ensures { IfOk result (λ number. number ≡ drawn_at seed ids.now index) }
 {
     let mut text = String::new(alloc);
-    if place < ids.len() {
-        ids[place].write_to(&mut text)?;
+    if index < ids.len() {
+        ids[index].write_to(&mut text)?;
     }
     Ok(text_number(&seed.to_be_bytes(), text.as_str()))
 }
 
-fn is_in_turn(nodes: &[Node], place: usize) -> bool
-    ensures { result ≡ (node_at nodes.now place).is_in_turn }
+fn is_in_turn(nodes: &[Node], index: usize) -> bool
+    ensures { result ≡ (node_at nodes.now index).is_in_turn }
 {
-    place < nodes.len() && nodes[place].is_in_turn
+    index < nodes.len() && nodes[index].is_in_turn
 }
 
-fn depth_at(depths: &[usize], place: usize) -> usize
-    ensures { result ≡ slice_index depths.now place }
+fn depth_at(depths: &[usize], index: usize) -> usize
+    ensures { result ≡ slice_index depths.now index }
 {
-    depths.get(place).copied().unwrap_or(0)
+    depths.get(index).copied().unwrap_or(0)
 }

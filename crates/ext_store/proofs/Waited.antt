@@ -1,9 +1,9 @@
 -- What a compute says that waited, and its frame.
 use Rattle.std.proofs.Common.{◌≡◌, ℕ, zero, suc, List, [], ◌∷◌, ◌++◌, refl, sym, subst}
-use Rattle.std.specs.Prelude.{Result, All}
+use Rattle.std.specs.Prelude.{Result, Ok, All}
 use Rattle.std.proofs.lemmas.List.Elements.{All-append}
 use Rattle.ext_model.specs.declared.event.Act.TheVariants.{Claim, Abandon}
-use Rattle.ext_model.specs.CallActs.{LaneView}
+use Rattle.ext_model.specs.CallActs.{LaneView, IsHeld}
 use Rattle.ext_model.proofs.Composed.{calls_compose}
 use Rattle.ext_tree.specs.Trees.{IsPathOf}
 use Rattle.ext_cells.specs.Lanes.{CellsId, Lane}
@@ -53,6 +53,11 @@ missing_computes_later store context key path a c r is w = record {
   in_vain = vain_in_words (ClaimsAlong store path key) (ClaimsMissing store context key) (λ x y s. missing_along (context_cells store) context key path x y s is) w.attempts a.view w.between w.in_vain;
   then_is = missing_computes store context key path (record { cells = a.cells; view = w.between }) c r is w.then_is;
 }
+
+-- the claim is held
+pub waits_held : (store : ContextCells) (path : List ℕ) (key : ℕ) (a b : LaneView) (claim : ℕ) → cells.ClaimsAlongAfterWaits store path key a b (Ok claim) → IsHeld b claim
+waits_held store [] key a b claim w = absurd w.then_is
+waits_held store (context ∷ ancestors) key a b claim w = w.then_is.1
 
 -- ---- the frame of claims that were given up, and then of the last one
 

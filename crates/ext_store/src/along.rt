@@ -73,11 +73,10 @@ impl<V: StoreValue + Drop> Store<V> {
         ensures keys { lane.new.keys ≡ lane.old.keys }
         ensures steps { MatchResult result (λ _. steps_of lane.old.cells lane.new.cells ≤ 33 * (self.now.tries + 1)) (λ _. steps_of lane.old.cells lane.new.cells ≤ 33 * (self.now.tries + 1) + 2) }
     {
-        let begun = self.begin_along_quietly(lane, path, key);
-        if begun.is_err() {
-            self.shared.wake();
-        }
-        begun
+        self.shared.tell_proof();
+        let claimed = self.shared.claim_along(&mut lane.cells, path, key);
+        lane.cells.tell_proof();
+        claimed
     }
 
     /// Begins a compute as `begin_along` does, but wakes nobody where it gives the claim up, so
@@ -101,16 +100,17 @@ impl<V: StoreValue + Drop> Store<V> {
         ensures keys { lane.new.keys ≡ lane.old.keys }
         ensures steps { MatchResult result (λ _. steps_of lane.old.cells lane.new.cells ≤ 33 * (self.now.tries + 1)) (λ _. steps_of lane.old.cells lane.new.cells ≤ 33 * (self.now.tries + 1) + 2) }
     {
-        self.shared.recall();
+        self.shared.tell_proof();
         let claimed = self.shared.claim_along_quietly(&mut lane.cells, path, key);
-        lane.cells.recall();
+        lane.cells.tell_proof();
         claimed
     }
 
     /// Looks up a key by its number as `get_wait_numbered` does, but in the contexts of the path,
     /// the first one first: it looks again until neither a running factory nor other lanes are in
-    /// the way. While a running factory decides, it sleeps until a claim has ended. So it never
-    /// answers `Look::Busy`. The path is as for `get_along`. Never refused. It may wait.
+    /// the way. While the nearest entry is a factory that still runs, it sleeps until a claim has
+    /// ended. So it never answers `Look::Busy`. The path is as for `get_along`. Never refused. It
+    /// may wait.
     ///
     /// Javadoc `ExtensionContext.Store`, `get`, which waits for a running factory too; contexts
     /// that are opened during a run: User Guide, section "Keeping State in Extensions".
@@ -138,10 +138,10 @@ impl<V: StoreValue + Drop> Store<V> {
     /// Computes as `compute_wait_numbered` does, but for the first context of the path, with the
     /// others as its ancestors. The path is as for `get_along`. It tries again until neither a
     /// running factory nor other lanes are in the way. While a running factory decides a look-up
-    /// or the claim, it takes a processor, as `compute_wait` does, and holds no claim between two
-    /// attempts. The factory is called at most once, with the key that stands in the place of this number. The number
-    /// must be below `key_count`, and the lane must know its key, which `Lane::knows_key` tests.
-    /// Takes memory for the value. It may wait.
+    /// or the claim, it sleeps until a claim has ended, and holds no claim meanwhile. The factory
+    /// is called at most once, with the key of this number. The number must be below `key_count`,
+    /// and the lane must know its key, which `Lane::knows_key` tests. Takes memory for the value.
+    /// It may wait.
     ///
     /// Refused as `compute_wait_numbered` is: as `Closed` or `Exhausted`. Neither it nor its value
     /// is ever refused as `Busy` or `Contended`. Where the answer is `Found`, `FaultStands` or

@@ -28,7 +28,7 @@ impl<V: StoreValue + Drop> Store<V> {
     /// cells; at the first look-up as `Contended`, or as `Busy` or `Closed` where that decides; at
     /// the claim also as `Exhausted`, after more than 2^40 - 4 events in the context under the key;
     /// and at the second look-up as at the first. In that last case the lane has claimed the cell
-    /// and given it up, two events there.
+    /// and given it up, two events there, and wakes the lanes that wait for a claim to end.
     ///
     /// Javadoc `ExtensionContext.Store`, `getOrComputeIfAbsent`, up to its factory.
     #[tactic(auto, unfolding(crate::specs::LaneCalls::Frame))]
@@ -67,11 +67,10 @@ impl<V: StoreValue + Drop> Store<V> {
         ensures keys { lane.new.keys ≡ lane.old.keys }
         ensures steps { MatchResult result (λ _. steps_of lane.old.cells lane.new.cells ≤ 33 * (self.now.tries + 1)) (λ _. steps_of lane.old.cells lane.new.cells ≤ 33 * (self.now.tries + 1) + 2) }
     {
-        let begun = self.begin_numbered_quietly(lane, context, key);
-        if begun.is_err() {
-            self.shared.wake();
-        }
-        begun
+        self.shared.tell_proof();
+        let claimed = self.shared.claim(&mut lane.cells, context, key);
+        lane.cells.tell_proof();
+        claimed
     }
 
     /// Begins a compute as `begin_numbered` does, but wakes nobody where it gives the claim up, so
@@ -94,9 +93,9 @@ impl<V: StoreValue + Drop> Store<V> {
         ensures keys { lane.new.keys ≡ lane.old.keys }
         ensures steps { MatchResult result (λ _. steps_of lane.old.cells lane.new.cells ≤ 33 * (self.now.tries + 1)) (λ _. steps_of lane.old.cells lane.new.cells ≤ 33 * (self.now.tries + 1) + 2) }
     {
-        self.shared.recall();
+        self.shared.tell_proof();
         let claimed = self.shared.claim_quietly(&mut lane.cells, context, key);
-        lane.cells.recall();
+        lane.cells.tell_proof();
         claimed
     }
 }

@@ -105,7 +105,7 @@ impl<V: StoreValue + Drop> Store<V> {
         self.compute_named(lane, context, key, name, factory)
     }
 
-    // The same with the key itself, to call the factory with.
+    // Computes as `compute_numbered` does, and calls the factory with this key.
     #[tactic(auto, unfolding(crate::specs::LaneCalls::Frame))]
     fn compute_named<F: FnOnce(&Key) -> Result<V, Fault>>(
         &self,
@@ -143,10 +143,9 @@ impl<V: StoreValue + Drop> Store<V> {
     }
 
     /// Computes as `compute` does, and tries again until neither a running factory nor other lanes
-    /// are in the way. While a running factory decides a look-up or the claim, it begins anew again
-    /// and again: it takes a processor meanwhile, since each attempt in vain wakes all who sleep,
-    /// its own lane too. Where other lanes were in the way it begins anew, or draws again if its own
-    /// factory has run. So neither it nor its value is ever refused as
+    /// are in the way. While a running factory decides a look-up or the claim, it sleeps until a
+    /// claim has ended, and then begins anew. Where other lanes were in the way it begins anew, or
+    /// draws again if its own factory has run. So neither it nor its value is ever refused as
     /// `Busy` or `Contended`; otherwise it answers as `compute` does. It may wait.
     ///
     /// Before its last attempt it may claim the context's cell and give it up several times, each
@@ -187,7 +186,7 @@ impl<V: StoreValue + Drop> Store<V> {
     }
 
     /// Computes as `compute_wait` does, but by the key's number, as `number` gives it. The factory
-    /// is called with the key that stands in the place of this number. The number must be below
+    /// is called with the key of this number. The number must be below
     /// `key_count`, and the lane must know its key, which `Lane::knows_key` tests. Refused as
     /// `compute_wait` is, except for the key. Takes memory for the value. It may wait.
     #[tactic(auto, unfolding(crate::specs::LaneCalls::Frame))]
@@ -216,7 +215,7 @@ impl<V: StoreValue + Drop> Store<V> {
         self.compute_wait_named(rt, lane, context, key, name, factory)
     }
 
-    // The same with the key itself, to call the factory with.
+    // Computes as `compute_wait_numbered` does, and calls the factory with this key.
     #[tactic(auto, unfolding(crate::specs::LaneCalls::Frame))]
     fn compute_wait_named<R: Wait, F: FnOnce(&Key) -> Result<V, Fault>>(
         &self,
@@ -244,7 +243,7 @@ impl<V: StoreValue + Drop> Store<V> {
         self.compute_along_wait_named(rt, lane, path.as_slice(), key, name, factory)
     }
 
-    // The same along a path.
+    // Computes along the path as `compute_wait_named` does in the tree.
     #[tactic(auto, unfolding(crate::specs::LaneCalls::Frame))]
     pub(crate) fn compute_along_wait_named<R: Wait, F: FnOnce(&Key) -> Result<V, Fault>>(
         &self,
@@ -269,11 +268,11 @@ impl<V: StoreValue + Drop> Store<V> {
         ensures apart { IfComputed result (λ number. (m : ℕ) → IsKeptBy lane.old m → m ≢ number) }
         ensures keys { lane.new.keys ≡ lane.old.keys }
     {
-        self.shared.recall();
+        self.shared.tell_proof();
         let claim = match self.shared.claim_along_wait(rt, &mut lane.cells, path, key) {
             Ok(claim) => claim,
             Err(why) => {
-                lane.cells.recall();
+                lane.cells.tell_proof();
                 return hand_back(why, factory);
             }
         };
@@ -308,7 +307,7 @@ impl<V: StoreValue + Drop> Store<V> {
         }
     }
 
-    // The same, but draws again where other lanes were in the way.
+    // Ends the claim as `end_failed` does, but draws again where other lanes were in the way.
     #[tactic(auto, unfolding(crate::specs::LaneCalls::Frame))]
     fn end_failed_decided<F>(&self, lane: &mut Lane<V>, claim: Claim, fault: Fault) -> Compute<V, F>
         requires lane { IsLaneOf self.now.id lane.old }

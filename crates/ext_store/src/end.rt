@@ -39,13 +39,13 @@ impl<V: StoreValue + Drop> Store<V> {
     {
         match self.keep(lane, value) {
             Ok(kept) => {
-                lane.recall();
+                lane.tell_proof();
                 let number = kept.number;
                 self.shared.fill(&mut lane.cells, claim, number);
                 Ok(number)
             }
             Err(unkept) => {
-                lane.recall();
+                lane.tell_proof();
                 self.shared.abandon(&mut lane.cells, claim);
                 Err(unkept)
             }
@@ -57,7 +57,7 @@ impl<V: StoreValue + Drop> Store<V> {
     /// can use it. Call it only if no lane of this store ever waits: a sleeping lane would not be
     /// woken.
     #[tactic(auto, unfolding(crate::specs::LaneCalls::Frame))]
-    pub fn fill_quietly(
+    pub fn fill_decided_quietly(
         &self,
         lane: &mut Lane<V>,
         claim: Claim,
@@ -78,20 +78,21 @@ impl<V: StoreValue + Drop> Store<V> {
     {
         match self.keep_wait(lane, value) {
             Ok(kept) => {
-                lane.recall();
+                lane.tell_proof();
                 let number = kept.number;
                 self.shared.fill_quietly(&mut lane.cells, claim, number);
                 Ok(number)
             }
             Err(unkept) => {
-                lane.recall();
+                lane.tell_proof();
                 self.shared.abandon_quietly(&mut lane.cells, claim);
                 Err(unkept)
             }
         }
     }
 
-    // Ends the claim as `fill_quietly` does, and wakes the lanes that wait for a claim to end.
+    // Ends the claim as `fill_decided_quietly` does, and wakes the lanes that wait for a claim to
+    // end.
     #[tactic(auto, unfolding(crate::specs::LaneCalls::Frame))]
     pub(crate) fn fill_decided(
         &self,
@@ -109,7 +110,7 @@ impl<V: StoreValue + Drop> Store<V> {
         ensures frame { Frame self.now.id [] lane.old lane.new }
         ensures keys { lane.new.keys ≡ lane.old.keys }
     {
-        let filled = self.fill_quietly(lane, claim, value);
+        let filled = self.fill_decided_quietly(lane, claim, value);
         self.shared.wake();
         filled
     }
@@ -142,12 +143,12 @@ impl<V: StoreValue + Drop> Store<V> {
     {
         match self.keep_fault(lane, fault) {
             Ok(number) => {
-                lane.recall();
+                lane.tell_proof();
                 self.shared.fail(&mut lane.cells, claim, number);
                 Ok(number)
             }
             Err(unkept) => {
-                lane.recall();
+                lane.tell_proof();
                 self.shared.abandon(&mut lane.cells, claim);
                 Err(unkept)
             }
@@ -159,7 +160,7 @@ impl<V: StoreValue + Drop> Store<V> {
     /// can use it. Call it only if no lane of this store ever waits: a sleeping lane would not be
     /// woken.
     #[tactic(auto, unfolding(crate::specs::LaneCalls::Frame))]
-    pub fn fail_quietly(
+    pub fn fail_decided_quietly(
         &self,
         lane: &mut Lane<V>,
         claim: Claim,
@@ -180,19 +181,20 @@ impl<V: StoreValue + Drop> Store<V> {
     {
         match self.keep_fault_decided(lane, fault) {
             Ok(number) => {
-                lane.recall();
+                lane.tell_proof();
                 self.shared.fail_quietly(&mut lane.cells, claim, number);
                 Ok(number)
             }
             Err(unkept) => {
-                lane.recall();
+                lane.tell_proof();
                 self.shared.abandon_quietly(&mut lane.cells, claim);
                 Err(unkept)
             }
         }
     }
 
-    // Ends the claim as `fail_quietly` does, and wakes the lanes that wait for a claim to end.
+    // Ends the claim as `fail_decided_quietly` does, and wakes the lanes that wait for a claim to
+    // end.
     #[tactic(auto, unfolding(crate::specs::LaneCalls::Frame))]
     pub(crate) fn fail_decided(
         &self,
@@ -210,7 +212,7 @@ impl<V: StoreValue + Drop> Store<V> {
         ensures frame { Frame self.now.id [] lane.old lane.new }
         ensures keys { lane.new.keys ≡ lane.old.keys }
     {
-        let failed = self.fail_quietly(lane, claim, fault);
+        let failed = self.fail_decided_quietly(lane, claim, fault);
         self.shared.wake();
         failed
     }

@@ -60,14 +60,14 @@ impl<V: StoreValue + Drop> Store<V> {
         ensures keys { lane.new.keys ≡ lane.old.keys }
         ensures steps { steps_of lane.old.cells lane.new.cells ≤ 16 * (self.now.tries + 1) }
     {
-        self.shared.recall();
+        self.shared.tell_proof();
         self.shared.get(&mut lane.cells, context, key)
     }
 
     /// Looks up the key as `get` does, and looks again until neither a running factory nor other
-    /// lanes are in the way. While a running factory decides, it sleeps until a claim has ended. So
-    /// it never answers `Look::Busy`, and is refused only for the key, as `number` is. May take
-    /// memory for a key that is new to the lane. It may wait.
+    /// lanes are in the way. While the nearest entry is a factory that still runs, it sleeps until
+    /// a claim has ended. So it never answers `Look::Busy`, and is refused only for the key, as
+    /// `number` is. May take memory for a key that is new to the lane. It may wait.
     ///
     /// Javadoc `ExtensionContext.Store`, `get`, which waits for a running factory too.
     #[tactic(auto, unfolding(crate::specs::LaneCalls::Frame))]
@@ -111,7 +111,7 @@ impl<V: StoreValue + Drop> Store<V> {
         ensures stays { Stays self.now.id [] lane.old lane.new }
         ensures keys { lane.new.keys ≡ lane.old.keys }
     {
-        self.shared.recall();
+        self.shared.tell_proof();
         self.shared.get_wait(rt, &mut lane.cells, context, key)
     }
 
@@ -157,7 +157,7 @@ impl<V: StoreValue + Drop> Store<V> {
         ensures kept { StillKeeps lane.old lane.new }
         ensures frame { Frame self.now.id [] lane.old lane.new }
     {
-        self.recall();
+        self.tell_proof();
         lane.faults.get(&self.faults, number)
     }
 }

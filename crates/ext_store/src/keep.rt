@@ -39,13 +39,13 @@ impl<V: StoreValue + Drop> Store<V> {
         ensures frame { Frame self.now.id [] lane.old lane.new }
         ensures steps { steps_of lane.old.cells lane.new.cells ≤ self.now.tries + 1 }
     {
-        self.recall();
+        self.tell_proof();
         let boxed = match Box::new(self.alloc, value) {
             Ok(boxed) => boxed,
             Err(failed) => return Err((failed.value, KeepFault::Memory)),
         };
         let drawn = self.shared.keep(&mut lane.cells);
-        lane.cells.recall();
+        lane.cells.tell_proof();
         self.place_drawn(&mut lane.notes, drawn, boxed)
     }
 
@@ -67,13 +67,13 @@ impl<V: StoreValue + Drop> Store<V> {
         ensures frame { Frame self.now.id [] lane.old lane.new }
         ensures steps { steps_of lane.old.cells lane.new.cells ≤ 2 * self.now.id.cells.limits.numbers + self.now.tries + 1 }
     {
-        self.recall();
+        self.tell_proof();
         let boxed = match Box::new(self.alloc, value) {
             Ok(boxed) => boxed,
             Err(refused) => return Err((refused.value, KeepFault::Memory)),
         };
         let drawn = self.shared.keep_wait(&mut lane.cells);
-        lane.cells.recall();
+        lane.cells.tell_proof();
         self.place_drawn(&mut lane.notes, drawn, boxed)
     }
 

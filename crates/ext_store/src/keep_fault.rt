@@ -32,17 +32,18 @@ impl<V: StoreValue + Drop> Store<V> {
         ensures steps { steps_of lane.old.cells lane.new.cells ≤ self.now.tries + 1 }
         ensures contended { ComesLast (fault, KeepFault.Contended) self.now.tries lane.old.cells lane.new.cells (act_is.Keep 0) result }
     {
-        self.recall();
+        self.tell_proof();
         let boxed = match Box::new(self.alloc, fault) {
             Ok(boxed) => boxed,
             Err(failed) => return Err((failed.value, KeepFault::Memory)),
         };
         let drawn = self.shared.keep(&mut lane.cells);
-        lane.cells.recall();
+        lane.cells.tell_proof();
         self.place_drawn_fault(&mut lane.faults, drawn, boxed)
     }
 
-    // The same, but draws again where other lanes were in the way.
+    // Keeps a fault as `keep_fault` does, but draws again at once where other lanes were in the
+    // way, so that it is decided: never refused as `Contended`.
     #[tactic(auto, unfolding(crate::specs::LaneCalls::KeepFails, crate::specs::LaneCalls::Frame))]
     pub(crate) fn keep_fault_decided(
         &self,
@@ -59,13 +60,13 @@ impl<V: StoreValue + Drop> Store<V> {
         ensures keys { lane.new.keys ≡ lane.old.keys }
         ensures steps { steps_of lane.old.cells lane.new.cells ≤ 2 * self.now.id.cells.limits.numbers + self.now.tries + 1 }
     {
-        self.recall();
+        self.tell_proof();
         let boxed = match Box::new(self.alloc, fault) {
             Ok(boxed) => boxed,
             Err(failed) => return Err((failed.value, KeepFault::Memory)),
         };
         let drawn = self.shared.keep_wait(&mut lane.cells);
-        lane.cells.recall();
+        lane.cells.tell_proof();
         self.place_drawn_fault(&mut lane.faults, drawn, boxed)
     }
 

@@ -53,10 +53,10 @@ impl<V> Lane<V> {
     /// Tells a proof what holds of every lane in hand. It has seen a legal history, and each of its
     /// fronts goes on from the one before it. So where lanes met one after the other, all their
     /// fronts are parts of one legal history, as `frame_laws` says. It does nothing when it runs.
-    pub fn recall(&self)
+    pub fn tell_proof(&self)
         ensures legal { IsLegal self.now.cells.cells.limits (seen_by self.now.cells.view) }
         ensures follow { Follow [] self.now.cells.view.fronts }
     {
-        self.cells.recall();
+        self.cells.tell_proof();
     }
 }

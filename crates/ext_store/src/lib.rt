@@ -24,13 +24,12 @@
 //! of a store without its values; `specs/ContextCalls` says it of the whole store.
 //!
 //! An engine that can't hand over a factory computes in two calls: `begin`, and then `fill`, `fail`
-//! or `abandon`. Their quiet forms (`fill_quietly` and the others) wake nobody, so that a static
-//! library can use them, and those that keep something draw again where other lanes were in the
-//! way. Call them only if no lane of the store ever waits.
+//! or `abandon`. Their quiet forms (`abandon_quietly` and the others) wake nobody, so that a static
+//! library can use them. `fill_decided_quietly` and `fail_decided_quietly` also draw again where
+//! other lanes were in the way. Call quiet forms only if no lane of the store ever waits.
 //!
 //! Each cell is a word of its own, and only the waiting forms (`get_wait` and the others) wait for
-//! another lane: where a factory is in the way, they sleep until a claim has ended, and try again;
-//! but a compute that waits is woken by its own attempts, so that it takes a processor.
+//! another lane: where a factory is in the way, they sleep until a claim has ended, and try again.
 //!
 //! Javadoc `ExtensionContext.Store`; JUnit 5 User Guide, section "Keeping State in Extensions".
 //! Numbers, lanes, claims, closers, refusals and limits are own rules.

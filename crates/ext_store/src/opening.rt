@@ -66,7 +66,7 @@ pub(crate) fn open_parts<V: Drop>(
     }
 }
 
-// The same for limits that are within their ranges.
+// The parts of a store whose limits are within their ranges.
 fn parts_of<V: Drop>(
     alloc: Global,
     contexts: ContextNo,

@@ -71,7 +71,7 @@ impl<V: StoreValue + Drop> Store<V> {
         ensures keys { lane.new.keys ≡ lane.old.keys }
         ensures steps { steps_of lane.old.cells lane.new.cells ≤ self.now.tries + 1 }
     {
-        self.shared.recall();
+        self.shared.tell_proof();
         let stored = self.shared.put(&mut lane.cells, context, key, kept.number);
         kept.unless_stored(stored)
     }
@@ -130,7 +130,7 @@ impl<V: StoreValue + Drop> Store<V> {
         ensures stays { Stays self.now.id (stored_by kept result) lane.old lane.new }
         ensures keys { lane.new.keys ≡ lane.old.keys }
     {
-        self.shared.recall();
+        self.shared.tell_proof();
         let stored = self
             .shared
             .put_wait(rt, &mut lane.cells, context, key, kept.number);

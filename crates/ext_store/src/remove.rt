@@ -64,7 +64,7 @@ impl<V: StoreValue + Drop> Store<V> {
         ensures keys { lane.new.keys ≡ lane.old.keys }
         ensures steps { steps_of lane.old.cells lane.new.cells ≤ self.now.tries + 1 }
     {
-        self.shared.recall();
+        self.shared.tell_proof();
         self.shared.remove(&mut lane.cells, context, key)
     }
 
@@ -115,7 +115,7 @@ impl<V: StoreValue + Drop> Store<V> {
         ensures stays { Stays self.now.id [] lane.old lane.new }
         ensures keys { lane.new.keys ≡ lane.old.keys }
     {
-        self.shared.recall();
+        self.shared.tell_proof();
         self.shared.remove_wait(rt, &mut lane.cells, context, key)
     }
 }

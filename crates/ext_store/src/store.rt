@@ -67,7 +67,7 @@ impl<V> Store<V> {
         ensures count { result ≡ length self.now.id.keys }
         ensures blocks { AreBlocks self.now.id.keys }
     {
-        self.shared.recall();
+        self.shared.tell_proof();
         self.shared.keys().len()
     }
 
@@ -80,7 +80,7 @@ impl<V> Store<V> {
 
     // Tells a proof that there is a place for each number and, if faults are kept, one for its
     // fault too; otherwise none.
-    pub(crate) fn recall(&self)
+    pub(crate) fn tell_proof(&self)
         ensures numbers { self.now.id.cells.limits.numbers ≡ length self.now.id.places }
         ensures faults { IsTrue self.now.id.cells.limits.keep_faults → self.now.id.cells.limits.numbers ≡ length self.now.id.fault_places }
         ensures no_faults { IsFalse self.now.id.cells.limits.keep_faults → self.now.id.fault_places ≡ [] }
@@ -166,7 +166,7 @@ impl<V: StoreValue + Drop> Store<V> {
         // The lane itself put no other key at a place.
         ensures placed { PlacesOnly key.now lane.old.keys lane.new.keys }
     {
-        self.shared.recall();
+        self.shared.tell_proof();
         match self.shared.keys().number(&mut lane.keys, key) {
             Ok(number) => Ok(number),
             Err(why) => Err(refusal_of(why)),
@@ -179,6 +179,9 @@ impl<V: StoreValue + Drop> Store<V> {
     /// both. Afterwards the second also knows all keys that the first knows. So of lanes that meet
     /// one after the other the last knows all keys, and all have numbered alike. Neither makes an
     /// event.
+    ///
+    /// Call it where the second lane goes on with what the first has done, as after a fork or a
+    /// join of threads, if a proof is to know that it sees all of it. No answer depends on it.
     #[tactic(auto, unfolding(crate::specs::LaneCalls::Frame))]
     pub fn meet(&self, first: &mut Lane<V>, second: &mut Lane<V>)
         requires first { IsLaneOf self.now.id first.old }

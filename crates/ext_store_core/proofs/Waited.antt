@@ -25,7 +25,7 @@ use Rattle.ext_store_core.specs.ContextCalls.{ContextCells, cell_in, Puts, Remov
 use Rattle.ext_store_core.specs.InnerLooking.{Looks, LooksAt}
 use Rattle.ext_tree.specs.Trees.{IsPathOf}
 use Rattle.ext_store_core.specs.Claiming.{given_up_events, Meets, IsRefused, ClaimsFrom, ClaimsAlong, ClaimsMissing}
-use Rattle.ext_store_core.specs.Waiting.{Attempt, IsDecided, IsDecidedLook, busy_refused, ClaimsAfterWaits, ClaimsAlongAfterWaits, VainAttempts}
+use Rattle.ext_store_core.specs.Waiting.{Attempt, IsDecided, IsDecidedLook, busy_refused, VainAttempts}
 use Rattle.ext_store_core.proofs.Missing.{missing_along}
 
 -- ---- a lane that made no event yet
@@ -186,11 +186,3 @@ vain_in_words Claims Others says (suc attempts) a b made = (
   vain_in_words Claims Others says attempts a made.0 made.1,
   record { why = made.2.why; undecided = made.2.undecided; refused = says made.0 b (Err (Refused made.2.why)) made.2.refused },
 )
-
-pub missing_after_waits : (store : ContextCells) (context key : ℕ) (path : List ℕ) (a b : LaneView) (r : Result ℕ Unused) → IsPathOf store.tree context path → ClaimsAlongAfterWaits store path key a b r → ClaimsAfterWaits store context key a b r
-missing_after_waits store context key path a b r is w = record {
-  attempts = w.attempts;
-  between = w.between;
-  in_vain = vain_in_words (ClaimsAlong store path key) (ClaimsMissing store context key) (λ x y s. missing_along store context key path x y s is) w.attempts a w.between w.in_vain;
-  then_is = missing_along store context key path w.between b r is w.then_is;
-}

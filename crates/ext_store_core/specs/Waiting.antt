@@ -10,7 +10,7 @@ use Rattle.ext_store_core.specs.declared.fault.Refusal.TheVariants as refusal
 use Rattle.ext_store_core.specs.declared.claim.Unused.{Unused}
 use Rattle.ext_store_core.specs.declared.claim.Unused.TheVariants as unused
 use Rattle.ext_store_core.specs.ContextCalls.{ContextCells}
-use Rattle.ext_store_core.specs.Claiming.{ClaimsAlong, ClaimsMissing}
+use Rattle.ext_store_core.specs.Claiming.{ClaimsAlong}
 
 -- ---- what a waiting form never answers
 
@@ -86,13 +86,8 @@ pub record Waits (Claims : Attempt) (before : LaneView) (Then : LaneView → Typ
   pub in_vain : VainAttempts Claims attempts before between
   pub then_is : Then between
 
--- Before its last attempt the lane may have claimed the context's cell and given it up several times. The last attempt
--- is the claim of a missing value.
-abbrev pub ClaimsAfterWaits : ContextCells → ℕ → ℕ → LaneView → LaneView → Result ℕ Unused → Type 0
-ClaimsAfterWaits store context key before after result =
-    Waits (ClaimsMissing store context key) before (λ between. ClaimsMissing store context key between after result)
-
--- The same along a path.
+-- Before its last attempt the lane may have claimed the cell of the first context of the path and given it up several
+-- times. The last attempt is the claim of a missing value.
 abbrev pub ClaimsAlongAfterWaits : ContextCells → List ℕ → ℕ → LaneView → LaneView → Result ℕ Unused → Type 0
 ClaimsAlongAfterWaits store path key before after result =
     Waits (ClaimsAlong store path key) before (λ between. ClaimsAlong store path key between after result)

@@ -107,7 +107,7 @@ impl StoreCore {
         ensures storable { IfOk result (MayStoreNow lane.new.view) }
         ensures steps { steps_of lane.old lane.new ≤ 2 * self.now.cells.limits.numbers + self.now.tries + 1 }
     {
-        self.recall();
+        self.tell_proof();
         for _ in 0..1_048_575_u32 {
             let why = match self.keep(lane) {
                 Ok(number) => return Ok(number),
@@ -159,7 +159,7 @@ impl StoreCore {
         ensures answer { SealsUnused self.now context block result lane.old lane.new }
         ensures steps { steps_of lane.old lane.new ≡ 1 }
     {
-        self.recall();
+        self.tell_proof();
         let _contexts = self.tree.len();
         let blocks = self.blocks();
         self.cells.end_block(lane, context * blocks + block)

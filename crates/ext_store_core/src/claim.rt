@@ -7,6 +7,7 @@ ghost use Rattle.ext_model.specs.declared.event.Act.TheVariants as act_is;
 ghost use Rattle.ext_cells.specs.CellCalls.{EndsClaim};
 ghost use Rattle.ext_store_core.specs.ContextCalls.{IsTrail, steps_of};
 ghost use Rattle.ext_store_core.specs.Claiming.{ClaimsAlong, ClaimsMissing, Stands, unused_of};
+ghost use Rattle.ext_store_core.specs.InnerClaiming.{answer_of};
 
 use crate::{Refusal, StoreCore};
 use ext_cells::{CellLane, Claim, Claimed};
@@ -37,6 +38,26 @@ impl Unused {
             Ok(Look::Busy(at)) => Some(Unused::Refused(Refusal::Busy(at))),
             Ok(Look::Closed(at)) => Some(Unused::Refused(Refusal::Closed(at))),
             Err(why) => Some(Unused::Refused(why)),
+        }
+    }
+}
+
+// What an attempt to claim came to.
+enum ClaimAttempt {
+    Claimed(Claim),
+    // The lane claimed nothing.
+    Unclaimed(Unused),
+    // The lane claimed the cell, and gave the claim up.
+    GivenUp(Unused),
+}
+
+impl ClaimAttempt {
+    fn answer(self) -> Result<Claim, Unused>
+        ensures { result ≡ answer_of self }
+    {
+        match self {
+            ClaimAttempt::Claimed(claim) => Ok(claim),
+            ClaimAttempt::Unclaimed(unused) | ClaimAttempt::GivenUp(unused) => Err(unused),
         }
     }
 }
@@ -86,11 +107,11 @@ impl StoreCore {
         ensures claim { ClaimsAlong self.now path.now key lane.old.view lane.new.view result }
         ensures steps { MatchResult result (λ _. steps_of lane.old lane.new ≤ 33 * (self.now.tries + 1)) (λ _. steps_of lane.old lane.new ≤ 33 * (self.now.tries + 1) + 2) }
     {
-        let claimed = self.claim_along_quietly(lane, path, key);
-        if claimed.is_err() {
+        let attempt = self.attempt(lane, path, key);
+        if matches!(&attempt, ClaimAttempt::GivenUp(_)) {
             self.wake();
         }
-        claimed
+        attempt.answer()
     }
 
     /// Claims as `claim` does, but wakes nobody where it gives the claim up. Call it only if no
@@ -128,36 +149,49 @@ impl StoreCore {
         ensures claim { ClaimsAlong self.now path.now key lane.old.view lane.new.view result }
         ensures steps { MatchResult result (λ _. steps_of lane.old lane.new ≤ 33 * (self.now.tries + 1)) (λ _. steps_of lane.old lane.new ≤ 33 * (self.now.tries + 1) + 2) }
     {
+        self.attempt(lane, path, key).answer()
+    }
+
+    // Claims the cell of the first context of the path, and wakes nobody.
+    fn attempt(&self, lane: &mut CellLane, path: &[ContextNo], key: KeyNo) -> ClaimAttempt
+        requires lane { lane.old.cells ≡ self.now.cells }
+        requires some { 1 ≤ length path.now }
+        requires path { IsTrail self.now path.now }
+        requires key { key < length self.now.keys }
+        ensures lane { lane.new.cells ≡ lane.old.cells }
+        ensures claim { ClaimsAlong self.now path.now key lane.old.view lane.new.view (answer_of result) }
+        ensures steps { MatchResult (answer_of result) (λ _. steps_of lane.old lane.new ≤ 33 * (self.now.tries + 1)) (λ _. steps_of lane.old lane.new ≤ 33 * (self.now.tries + 1) + 2) }
+    {
         let Some((first, ancestors)) = path.split_first() else {
             unreachable!()
         };
         let context = *first;
         if let Some(unused) = self.stands_along(lane, path, key) {
-            return Err(unused);
+            return ClaimAttempt::Unclaimed(unused);
         }
         let claim = match self.cells.claim(lane, self.cell(context, key)) {
             Ok(Claimed::Won(claim)) => claim,
             Ok(Claimed::Standing(number)) => {
-                return Err(Unused::Found {
+                return ClaimAttempt::Unclaimed(Unused::Found {
                     at: context,
                     number,
                 });
             }
             Ok(Claimed::Fault(number)) => {
-                return Err(Unused::FaultStands {
+                return ClaimAttempt::Unclaimed(Unused::FaultStands {
                     at: context,
                     number,
                 });
             }
-            Err(why) => return Err(Unused::Refused(Refusal::at(context, why))),
+            Err(why) => return ClaimAttempt::Unclaimed(Unused::Refused(Refusal::at(context, why))),
         };
         // An ancestor may have got a value between the first look and the claim. The claim keeps
         // all other lanes off the context's own cell, so from here on only the ancestors matter.
         match self.stands_along(lane, ancestors, key) {
-            None => Ok(claim),
+            None => ClaimAttempt::Claimed(claim),
             Some(unused) => {
                 self.abandon_quietly(lane, claim);
-                Err(unused)
+                ClaimAttempt::GivenUp(unused)
             }
         }
     }
@@ -263,7 +297,7 @@ impl StoreCore {
         ensures steps { steps_of lane.old lane.new ≤ 16 * (self.now.tries + 1) }
     {
         let looked = self.look_along(lane, path, key);
-        lane.recall();
+        lane.tell_proof();
         // Most often nothing stands there: one test is faster than the jump by a table.
         if looked == Ok(Look::Absent) {
             return None;

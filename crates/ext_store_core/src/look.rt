@@ -53,7 +53,7 @@ impl StoreCore {
         ensures steps { steps_of lane.old lane.new ≤ 16 * (self.now.tries + 1) }
     {
         let looked = self.look_along(lane, path, key);
-        lane.recall();
+        lane.tell_proof();
         looked
     }
 
@@ -72,7 +72,7 @@ impl StoreCore {
         ensures look { Looks self.now path.now key lane.old lane.new result }
         ensures steps { steps_of lane.old lane.new ≤ length path.now * (self.now.tries + 1) }
     {
-        self.recall();
+        self.tell_proof();
         let blocks = self.blocks();
         match self.cells.nearest(lane, path, blocks, key) {
             Ok(Some(nearest)) => Ok(found_at(path[nearest.place], nearest.standing)),

@@ -80,7 +80,7 @@ impl StoreCore {
     /// Tells a proof what holds of everything that lanes share. There is a cell for each context
     /// and place of a key, there are 32 to 1,024 such places, in blocks of 32, at most 1,048,575
     /// numbers, and at least one try. It does nothing when it runs.
-    pub fn recall(&self)
+    pub fn tell_proof(&self)
         ensures cells { self.now.cells.limits.cells ≡ length self.now.tree * length self.now.keys }
         ensures keys { AreBlocks self.now.keys }
         ensures few { self.now.cells.limits.numbers ≤ 1048575 }
@@ -90,7 +90,7 @@ impl StoreCore {
     }
 
     /// Makes both lanes speak of one history: afterwards what the first has seen is a prefix of
-    /// what the second has seen. Neither makes an event.
+    /// what the second has seen. Neither makes an event; the second makes one step.
     pub fn meet(&self, first: &mut CellLane, second: &mut CellLane)
         requires first { first.old.cells ≡ self.now.cells }
         requires second { second.old.cells ≡ self.now.cells }
@@ -108,7 +108,7 @@ impl StoreCore {
         ensures places { length self.now.keys ≡ result * 32 }
         ensures some { 1 ≤ result }
     {
-        self.recall();
+        self.tell_proof();
         self.keys.len() / 32
     }
 

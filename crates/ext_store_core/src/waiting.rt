@@ -6,7 +6,7 @@ ghost use Rattle.ext_cells.specs.declared.refusal.CellRefusal.TheVariants as cel
 ghost use Rattle.ext_cells.specs.CellCalls as cells;
 ghost use Rattle.ext_store_core.specs.ContextCalls.{Gets, GetsAlong, IsFaultlessLook, IsTrail, Puts, Removes, with_kept};
 ghost use Rattle.ext_store_core.specs.InnerLooking.{LooksAt};
-ghost use Rattle.ext_store_core.specs.Waiting.{announced_after, ClaimsAfterWaits, ClaimsAlongAfterWaits, IsDecided, IsDecidedLook, IsDecidedUnused};
+ghost use Rattle.ext_store_core.specs.Waiting.{announced_after, ClaimsAlongAfterWaits, IsDecided, IsDecidedLook, IsDecidedUnused};
 
 use crate::found::unless_busy;
 use crate::{Refusal, StoreCore, Unused};
@@ -28,8 +28,8 @@ fn pause<R: Wait>(rt: &R, waiting: &mut Waiting<'_>, met: Refusal)
 
 impl StoreCore {
     /// Looks up the key as `get` does, and looks again until neither a running factory nor other
-    /// lanes are in the way. While a running factory decides, it sleeps until a claim has ended. So
-    /// it never answers `Look::Busy`, and is never refused. It may wait.
+    /// lanes are in the way. While the nearest entry is a factory that still runs, it sleeps until
+    /// a claim has ended. So it never answers `Look::Busy`, and is never refused. It may wait.
     ///
     /// Javadoc `ExtensionContext.Store`, `get`, which waits for a running factory too.
     pub fn get_wait<R: Wait>(
@@ -71,7 +71,7 @@ impl StoreCore {
         ensures decided { IsDecidedLook result }
     {
         let looked = self.wait_along(rt, lane, path, key);
-        lane.recall();
+        lane.tell_proof();
         looked
     }
 
@@ -172,33 +172,12 @@ impl StoreCore {
         unreachable!()
     }
 
-    /// Claims the cell as `claim` does, and tries again until neither a running factory nor other
-    /// lanes are in the way. While a running factory decides a look-up or the claim, it tries again
-    /// and again: each attempt in vain wakes all who sleep, its own lane too. So it is never refused as `Busy` or `Contended`, and otherwise as
-    /// `claim` is. Where it meets a factory in an ancestor, it gives its own claim up before it
-    /// waits. Before its last attempt it gives no claim up except for that or for other lanes in
-    /// the way. It may wait.
-    pub fn claim_wait<R: Wait>(
-        &self,
-        rt: &R,
-        lane: &mut CellLane,
-        context: ContextNo,
-        key: KeyNo,
-    ) -> Result<Claim, Unused>
-        requires lane { lane.old.cells ≡ self.now.cells }
-        requires context { context < length self.now.tree }
-        requires key { key < length self.now.keys }
-        ensures lane { lane.new.cells ≡ lane.old.cells }
-        ensures claim { ClaimsAfterWaits self.now context key lane.old.view lane.new.view result }
-        ensures decided { IfErr result IsDecidedUnused }
-    {
-        let path = self.tree.path(context);
-        self.claim_along_wait(rt, lane, path.as_slice(), key)
-    }
-
-    /// Claims as `claim_wait` does, for the first context of the path, with the others as its
-    /// ancestors. The path has at least one context, and `is_trail` tests the rest. Refused as
-    /// `claim_wait` is. It may wait.
+    /// Claims the cell as `claim_along` does, and tries again until neither a running factory nor
+    /// other lanes are in the way. While a running factory decides a look-up or the claim, it
+    /// sleeps until a claim has ended. So it is never refused as `Busy` or `Contended`, and
+    /// otherwise as `claim_along` is. Where it meets a factory in an ancestor, it gives its own
+    /// claim up before it waits. Before its last attempt it gives no claim up except for that or
+    /// for other lanes in the way. It may wait.
     pub fn claim_along_wait<R: Wait>(
         &self,
         rt: &R,

@@ -16,7 +16,7 @@ use Rattle.ext_engine.specs.Opening.{IsNotOpened}
 use Rattle.ext_engine.specs.TreeRun.{Ran, Lanes, TreeSetting, TreeRun, all_results}
 use Rattle.ext_table.specs.Stops.{IsClosed}
 use Rattle.ext_table.specs.TableCalls.{TableCall}
-use Rattle.ext_table.specs.Tables.{MayDisable, registered_in, table_view}
+use Rattle.ext_table.specs.Tables.{GivesEnabled, registered_in, table_view}
 use Rattle.ext_table.specs.declared.engine.Kept.{Kept}
 use Rattle.ext_table.specs.declared.row.Row.{Row}
 use Rattle.ext_table.specs.declared.stop.Stop.{Stop}
@@ -37,7 +37,7 @@ module _ {E L T S : Type 0} (engine : E) (Gives : T → List S → Result (Unit 
     store = store;
     locks = locks;
     suite = table_view rows names store.tree;
-    may_disable = λ node. MayDisable rows stop_after node;
+    enabled_gives = λ node answer. GivesEnabled rows stop_after node answer;
     registered = λ kind node. registered_in rows kind node;
     call_gives = λ node call held before outcome after.
         TableCall Gives Makes Moves rows attempts store node call before outcome after;

@@ -67,9 +67,10 @@ table_view rows names ids = record {
 abbrev pub registered_in : {T : Type 0} → List (Row T) → Kind → ℕ → ℕ
 registered_in rows kind node = min (length (callbacks_in kind (slice_get rows node))) 1048576
 
--- A node may be left out if it is in reserve, or if the run ends after so many failures.
-abbrev pub MayDisable : {T : Type 0} → List (Row T) → ℕ → ℕ → Type 0
-MayDisable rows stop_after node = (1 ≤ stop_after) ⊎ (reserved_in (slice_get rows node) ≡ true)
+-- Whether a node is run: one that is not is in reserve, or the run ends after so many failures.
+abbrev pub GivesEnabled : {T : Type 0} → List (Row T) → ℕ → ℕ → Bool → Type 0
+GivesEnabled rows stop_after node answer =
+    answer ≡ false → (1 ≤ stop_after) ⊎ (reserved_in (slice_get rows node) ≡ true)
 
 -- All locks of these nodes are among so many names.
 abbrev pub AreKnown : {T : Type 0} → ℕ → List (Row T) → Type 0

@@ -91,7 +91,7 @@ where
     ghost use Rattle.ext_locks.specs.Names.{texts_of};
     ghost use Rattle.ext_table.specs.InnerSharing.{level_keys};
     ghost use Rattle.ext_table.specs.TableCalls.{TableCall};
-    ghost use Rattle.ext_table.specs.Tables.{MayDisable, table_view};
+    ghost use Rattle.ext_table.specs.Tables.{GivesEnabled, table_view};
 
     type Action = Closing<'a, E, L>;
 
@@ -103,7 +103,7 @@ where
 
     ghost action_gives = { λ suite node action. action.engine.now ≡ suite.engine.now };
 
-    ghost may_disable = { λ suite node. MayDisable suite.rows.now suite.stop_after node };
+    ghost enabled_gives = { λ suite node answer. GivesEnabled suite.rows.now suite.stop_after node answer };
 
     fn mode(&self, node: ContextNo) -> Mode {
         match self.rows.get(node) {

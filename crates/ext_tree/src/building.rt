@@ -13,7 +13,7 @@ use indexmap::IndexSet;
 use std::alloc::{AllocError, Global};
 
 /// Checks that the list begins with a root, and that it has at most `most` ids.
-pub fn check_root(ids: &[UniqueId], most: usize) -> Result<(), TreeFault>
+pub(crate) fn check_root(ids: &[UniqueId], most: usize) -> Result<(), TreeFault>
     requires { most ≤ 65536 }
     ensures ok { OnOk result (HasRoot ids.now × (length ids.now ≤ most)) }
     ensures err { IfErr result (HasFault most ids.now) }
@@ -30,9 +30,9 @@ pub fn check_root(ids: &[UniqueId], most: usize) -> Result<(), TreeFault>
     Ok(())
 }
 
-/// The places of the parents. Each id and its parent are looked up in a table, not among all other
+/// The indices of the parents. Each id and its parent are looked up in a table, not among all other
 /// ids.
-pub fn parents_of(alloc: Global, ids: &[UniqueId]) -> Result<Vec<ContextNo>, TreeFault>
+pub(crate) fn parents_of(alloc: Global, ids: &[UniqueId]) -> Result<Vec<ContextNo>, TreeFault>
     requires { HasRoot ids.now }
     ensures { MatchResult result (λ v. AreParents ids.now (length ids.now) v.items) (λ e. e ≢ Memory → IsFirstWrong ids.now e) }
 {
@@ -76,7 +76,7 @@ fn enter_root(
     Ok(())
 }
 
-/// Puts the id into the table of those before it, and answers the place of its parent.
+/// Puts the id into the table of those before it, and answers the index of its parent.
 fn enter(
     alloc: Global,
     table: &mut IndexSet<Trail>,
@@ -98,7 +98,7 @@ fn enter(
     Ok(parent)
 }
 
-/// The place of the parent of an id, or what is wrong with the id.
+/// The index of the parent of an id, or what is wrong with the id.
 fn judge(
     ids: &[UniqueId],
     at: usize,
@@ -122,7 +122,7 @@ fn judge(
     }
 }
 
-/// Decides the same as `parents_of`, but without memory for a table.
+/// Whether the ids are a tree, and the first fault if not, found without memory for a table.
 fn check(ids: &[UniqueId]) -> Result<(), TreeFault>
     requires { HasRoot ids.now }
     ensures ok { OnOk result (IsTree ids.now) }
@@ -136,7 +136,7 @@ fn check(ids: &[UniqueId]) -> Result<(), TreeFault>
 
 /// What is wrong with the ids that `parents_of` refused: `Memory` only if they are a tree. Takes no
 /// memory.
-pub fn refusal(ids: &[UniqueId], fault: TreeFault) -> TreeFault
+pub(crate) fn refusal(ids: &[UniqueId], fault: TreeFault) -> TreeFault
     requires root { HasRoot ids.now }
     requires fault { fault ≢ Memory → IsFirstWrong ids.now fault }
     ensures fault { result ≢ Memory → IsFirstWrong ids.now result }
@@ -151,7 +151,7 @@ pub fn refusal(ids: &[UniqueId], fault: TreeFault) -> TreeFault
     }
 }
 
-/// Whether the id also stands at an earlier place.
+/// Whether the id also stands at an earlier index.
 fn stands_before(ids: &[UniqueId], at: usize) -> bool
     requires { at < length ids.now }
     ensures { IsTrue result ↔ StandsBefore ids.now at }
@@ -159,7 +159,7 @@ fn stands_before(ids: &[UniqueId], at: usize) -> bool
     ids[..at].contains(&ids[at])
 }
 
-/// The place of the id's parent, if it stands before the id.
+/// The index of the id's parent, if it stands before the id.
 fn parent_before(ids: &[UniqueId], at: usize) -> Option<ContextNo>
     requires { at < length ids.now }
     ensures { IsParentBefore ids.now at result }
@@ -173,7 +173,7 @@ fn parent_before(ids: &[UniqueId], at: usize) -> Option<ContextNo>
 }
 
 /// For each context the list of its children, in order.
-pub fn children_lists(
+pub(crate) fn children_lists(
     alloc: Global,
     ids: &[UniqueId],
     parents: &[ContextNo],
@@ -203,7 +203,7 @@ fn empty_lists(alloc: Global, ids: &[UniqueId]) -> Result<Vec<Vec<ContextNo>>, A
 }
 
 /// The path of each context.
-pub fn paths_of(
+pub(crate) fn paths_of(
     alloc: Global,
     ids: &[UniqueId],
     parents: &[ContextNo],

@@ -7,7 +7,7 @@ use thiserror::Error;
 
 /// What is wrong with a list of ids, a key too many, or a failed allocation.
 ///
-/// The numbers are places in the list of ids, from 0. Prints in lower case, without a full stop.
+/// The numbers are indices in the list of ids, from 0. Prints in lower case, without a full stop.
 #[derive(Clone, Copy, Debug, PartialEq, Eq, Error)]
 pub enum TreeFault {
     /// There is no id, or the first one has more than one segment.

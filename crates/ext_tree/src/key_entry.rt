@@ -14,7 +14,7 @@ use std::mem::size_of;
 
 /// What a lane knows of one place for a key. Takes one byte: the note of the key has no size.
 #[derive(Drop)]
-pub struct KeyEntry {
+pub(crate) struct KeyEntry {
     learnt: Learnt,
     seen: race::Note<Key>,
 }

@@ -14,7 +14,7 @@ use std::alloc::{AllocError, Global};
 /// A table of numbers by the hashes of their keys. A search begins at the slot of the hash and goes
 /// on from slot to slot, until it finds the key or a free slot.
 #[derive(Drop)]
-pub struct KeyIndex {
+pub(crate) struct KeyIndex {
     // In each slot one more than the number of a known key, or 0.
     pub hints: Vec<u16>,
     // A search finds the keys of all places before this one.

@@ -105,8 +105,8 @@ impl KeyPlaces {
         }
     }
 
-    // The same where the first slot of the index doesn't have the key. A function of its own, so
-    // that the call costs less where it does.
+    // Answers the number of a key that the first slot of the index doesn't have. A function of its
+    // own, so that `number` costs less where that slot has it.
     #[cold]
     #[inline(never)]
     fn searched(&self, notes: &mut KeyNotes, key: &Key) -> Result<KeyNo, KeyFault>

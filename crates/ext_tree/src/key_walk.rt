@@ -12,7 +12,7 @@ use once_cell::race::OnceBox;
 use std::alloc::{AllocError, Global};
 
 /// The number of the key: by the index, else by the walk.
-pub fn number_of(
+pub(crate) fn number_of(
     alloc: Global,
     places: &[OnceBox<Key>],
     entries: &mut [KeyEntry],
@@ -63,7 +63,11 @@ fn walk(
 }
 
 /// The key of the place with this number; it is known.
-pub fn known_key<'a>(places: &'a [OnceBox<Key>], entries: &mut [KeyEntry], number: KeyNo) -> &'a Key
+pub(crate) fn known_key<'a>(
+    places: &'a [OnceBox<Key>],
+    entries: &mut [KeyEntry],
+    number: KeyNo,
+) -> &'a Key
     requires places { AreKeyNotesOf (map cell_name places.now) entries.old }
     requires known { IsSome (key_at entries.old number) }
     ensures key { key_at entries.old number ≡ Some result.now }
@@ -74,7 +78,7 @@ pub fn known_key<'a>(places: &'a [OnceBox<Key>], entries: &mut [KeyEntry], numbe
 
 /// Shows that entries of the same places know the same key of each, if both know one. Afterwards
 /// the second ones know what the first ones know.
-pub fn agree_all(entries: &mut [KeyEntry], others: &mut [KeyEntry])
+pub(crate) fn agree_all(entries: &mut [KeyEntry], others: &mut [KeyEntry])
     requires { key_places_of entries.old ≡ key_places_of others.old }
     ensures agree { AgreeBelow entries.old others.old (length entries.old) }
     ensures unchanged { entries.new ≡ entries.old }
@@ -88,7 +92,10 @@ pub fn agree_all(entries: &mut [KeyEntry], others: &mut [KeyEntry])
 }
 
 /// An entry for each of the places, with nothing known of it. Takes memory.
-pub fn entries_of(alloc: Global, places: &[OnceBox<Key>]) -> Result<Vec<KeyEntry>, AllocError>
+pub(crate) fn entries_of(
+    alloc: Global,
+    places: &[OnceBox<Key>],
+) -> Result<Vec<KeyEntry>, AllocError>
     ensures { IfOk result (λ entries. entries.items ≡ no_key_known (map cell_name places.now)) }
 {
     let mut entries = Vec::with_capacity(alloc, places.len())?;

@@ -5,7 +5,7 @@ ghost use Rattle.ext_tree.specs.InnerLearning.{knows_key, put_key};
 /// What a lane has learnt of a place: nothing, which key it holds, or that the lane itself put the
 /// key there.
 #[derive(Clone, Copy)]
-pub enum Learnt {
+pub(crate) enum Learnt {
     /// It does not know of a key there.
     Nothing,
     /// It was shown a key that others put there.

@@ -12,7 +12,7 @@ use std::marker::Model;
 
 /// A text, seen as its bytes.
 #[derive(Debug, Drop)]
-pub struct Text {
+pub(crate) struct Text {
     text: String,
 }
 

@@ -14,7 +14,7 @@ use std::marker::Model;
 
 /// The first segments of an id, seen as the pairs of their types and values.
 #[derive(Drop)]
-pub struct Trail {
+pub(crate) struct Trail {
     segments: Vec<(Text, Text)>,
 }
 

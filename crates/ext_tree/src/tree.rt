@@ -127,7 +127,7 @@ impl Tree {
         self.ids.len()
     }
 
-    // The tree with copies of the ids, whose parents stand at these places.
+    // The tree with copies of the ids, whose parents stand at these indices.
     fn of(alloc: Global, ids: &[UniqueId], parents: &[ContextNo]) -> Result<Tree, AllocError>
         requires tree { IsTree ids.now }
         requires parents { AreParents ids.now (length ids.now) parents.now }

@@ -1,4 +1,4 @@
-//! What a lane knows of one place.
+//! What a lane knows of one slot.
 ghost use Rattle.std.specs.Prelude.{◌≡◌, IfErr, IfNone, IfSome, None, OnOk, Some};
 ghost use Rattle.once_cell.specs.Once.{Agrees, cell_name};
 ghost use Rattle.ext_values.specs.Known.{unknown};
@@ -8,9 +8,9 @@ use once_cell::race::OnceBox;
 use std::marker::Model;
 use std::mem::size_of;
 
-/// What a lane knows of one place. Takes no bytes: the note of the value has no size.
+/// What a lane knows of one slot. Takes no bytes: the note of the value has no size.
 #[derive(Drop)]
-pub struct Entry<V> {
+pub(crate) struct Entry<V> {
     seen: race::Note<V>,
 }
 
@@ -26,25 +26,25 @@ impl<V> Model for Entry<V> {
 }
 
 impl<V> Entry<V> {
-    /// An entry that knows nothing of the place yet.
-    pub fn unknown(place: &OnceBox<V>) -> Entry<V>
-        ensures { result ≡ unknown (cell_name place.now) }
+    /// An entry that knows nothing of the slot yet.
+    pub fn unknown(slot: &OnceBox<V>) -> Entry<V>
+        ensures { result ≡ unknown (cell_name slot.now) }
     {
-        Entry { seen: place.note() }
+        Entry { seen: slot.note() }
     }
 
-    /// The value of the place, if one is found. A known value is always found.
-    pub fn get<'a>(&mut self, place: &'a OnceBox<V>) -> Option<&'a V>
-        requires { self.old.place ≡ cell_name place.now }
+    /// The value of the slot, if one is found. A known value is always found.
+    pub fn get<'a>(&mut self, slot: &'a OnceBox<V>) -> Option<&'a V>
+        requires { self.old.place ≡ cell_name slot.now }
         ensures place { self.new.place ≡ self.old.place }
         ensures found { IfSome result (λ x. self.new.value ≡ Some x.now) }
         ensures same { IfSome result (λ x. Agrees self.old.value x.now) }
         ensures none { IfNone result ((self.new ≡ self.old) × (self.old.value ≡ None)) }
     {
-        place.get_as(&mut self.seen)
+        slot.get_as(&mut self.seen)
     }
 
-    /// Shows that two entries of one place know the same value, if both know one.
+    /// Shows that two entries of one slot know the same value, if both know one.
     pub fn agree(&mut self, other: &mut Entry<V>)
         requires { self.old.place ≡ other.old.place }
         ensures value { IfSome other.old.value (Agrees self.old.value) }
@@ -55,16 +55,16 @@ impl<V> Entry<V> {
 }
 
 impl<V: Drop> Entry<V> {
-    /// Puts the value at the place. If the place is taken, the box is handed back, and the entry
+    /// Puts the value in the slot. If the slot is taken, the box is handed back, and the entry
     /// knows the value that stands there.
-    pub fn place(&mut self, place: &OnceBox<V>, value: Box<V>) -> Result<(), Box<V>>
-        requires { self.old.place ≡ cell_name place.now }
+    pub fn place(&mut self, slot: &OnceBox<V>, value: Box<V>) -> Result<(), Box<V>>
+        requires { self.old.place ≡ cell_name slot.now }
         ensures place { self.new.place ≡ self.old.place }
         ensures placed { OnOk result (self.new.value ≡ Some value.value) }
         ensures free { OnOk result (self.old.value ≡ None) }
         ensures handed_back { IfErr result (λ b. b.value ≡ value.value) }
         ensures known { (x : V) × (self.new.value ≡ Some x) × Agrees self.old.value x }
     {
-        place.set_as(value, &mut self.seen)
+        slot.set_as(value, &mut self.seen)
     }
 }

@@ -1,4 +1,4 @@
-//! Why places or notes were not made.
+//! Why slots or notes were not made.
 ghost use Rattle.std.specs.Prelude.{◌≡◌};
 ghost use Rattle.ext_values.specs.declared.fault.ValuesFault.TheVariants.{Memory};
 

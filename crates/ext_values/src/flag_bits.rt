@@ -13,7 +13,7 @@ const _: () = prove!(size_of::<u64>() * 8 == WORD_FLAGS);
 /// A fixed number of flags, in order, with indices from 0. Takes one bit per flag, rounded up to 8
 /// bytes.
 #[derive(Drop)]
-pub struct FlagBits {
+pub(crate) struct FlagBits {
     words: Vec<u64>,
     count: usize,
 }

@@ -30,7 +30,7 @@ impl<V> Model for Notes<V> {
 }
 
 impl<V> Notes<V> {
-    /// Makes notes of these places that know no value yet. Takes memory.
+    /// Makes notes of these slots that know no value yet. Takes memory.
     ///
     /// Refused as `Memory`, only if its one allocation fails.
     pub fn new(alloc: Global, values: &Values<V>) -> Result<Notes<V>, ValuesFault>
@@ -51,10 +51,10 @@ impl<V> Notes<V> {
     }
 
     /// The number's value, if it is known or this thread finds it; it is known from now on. What
-    /// was known stays known. The notes must be of these places.
+    /// was known stays known. The notes must be of these slots.
     ///
     /// `None`, with nothing changed, for a number outside 1 to the capacity, and if the thread
-    /// finds the place free.
+    /// finds the slot free.
     pub fn get<'a>(&mut self, values: &'a Values<V>, number: u32) -> Option<&'a V>
         requires { AreNotesOf values.now self.old }
         ensures within { OnSome result (IsNumber values.now number) }
@@ -70,7 +70,7 @@ impl<V> Notes<V> {
     }
 
     /// Shows that a number that both notes know has the same value in both. The notes must be of
-    /// the same places, and stay as they were.
+    /// the same slots, and stay as they were.
     pub fn meet(&mut self, other: &mut Notes<V>)
         requires { places_of self.old ≡ places_of other.old }
         ensures agree { AllAgree self.old other.old }
@@ -81,10 +81,10 @@ impl<V> Notes<V> {
 }
 
 impl<V: Drop> Notes<V> {
-    /// Puts the value at this number; it is known from now on. The notes must be of these places,
+    /// Puts the value at this number; it is known from now on. The notes must be of these slots,
     /// and the number 1 to the capacity.
     ///
-    /// Refused if the place is taken, so always if the number's value is known: the box is handed
+    /// Refused if the slot is taken, so always if the number's value is known: the box is handed
     /// back with its value, and the value that stands there is known from now on. Nothing else
     /// changes.
     pub fn place(&mut self, values: &Values<V>, number: u32, value: Box<V>) -> Result<(), Box<V>>

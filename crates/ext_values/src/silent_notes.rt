@@ -25,7 +25,7 @@ impl<V> Model for SilentNotes<V> {
 }
 
 impl<V> SilentNotes<V> {
-    /// Makes notes of these places that know no value yet. Takes no memory, since no entry has a
+    /// Makes notes of these slots that know no value yet. Takes no memory, since no entry has a
     /// size.
     ///
     /// Refused as `Memory`, as making any list may be, only if an allocation fails.
@@ -36,16 +36,16 @@ impl<V> SilentNotes<V> {
         let capacity = values.capacity();
         let mut entries = Vec::with_capacity(alloc, capacity as usize)?;
         for index in 0..capacity {
-            entries.push_reserved(Entry::unknown(values.place_at(index + 1)));
+            entries.push_reserved(Entry::unknown(values.slot_at(index + 1)));
         }
         Ok(SilentNotes { entries })
     }
 
     /// The number's value, if it is known or this thread finds it; it is known from now on. What
-    /// was known stays known. The notes must be of these places.
+    /// was known stays known. The notes must be of these slots.
     ///
     /// `None`, with nothing changed, for a number outside 1 to the capacity, and if the thread
-    /// finds the place free.
+    /// finds the slot free.
     pub fn get<'a>(&mut self, values: &'a Values<V>, number: u32) -> Option<&'a V>
         requires { AreNotesOf values.now self.old }
         ensures within { OnSome result (IsNumber values.now number) }
@@ -58,11 +58,11 @@ impl<V> SilentNotes<V> {
         if !values.has_number(number) {
             return None;
         }
-        self.entries[number as usize - 1].get(values.place_at(number))
+        self.entries[number as usize - 1].get(values.slot_at(number))
     }
 
     /// Shows that a number that both notes know has the same value in both. The notes must be of
-    /// the same places, and stay as they were.
+    /// the same slots, and stay as they were.
     pub fn meet(&mut self, other: &mut SilentNotes<V>)
         requires { places_of self.old ≡ places_of other.old }
         ensures agree { AllAgree self.old other.old }
@@ -75,10 +75,10 @@ impl<V> SilentNotes<V> {
 }
 
 impl<V: Drop> SilentNotes<V> {
-    /// Puts the value at this number; it is known from now on. The notes must be of these places,
+    /// Puts the value at this number; it is known from now on. The notes must be of these slots,
     /// and the number 1 to the capacity.
     ///
-    /// Refused if the place is taken, so always if the number's value is known: the box is handed
+    /// Refused if the slot is taken, so always if the number's value is known: the box is handed
     /// back with its value, and the value that stands there is known from now on. Nothing else
     /// changes.
     pub fn place(&mut self, values: &Values<V>, number: u32, value: Box<V>) -> Result<(), Box<V>>
@@ -91,6 +91,6 @@ impl<V: Drop> SilentNotes<V> {
         ensures taken { OnErr result (LearnsOne self.old self.new number) }
         ensures of { AreNotesOf values.now self.new }
     {
-        self.entries[number as usize - 1].place(values.place_at(number), value)
+        self.entries[number as usize - 1].place(values.slot_at(number), value)
     }
 }

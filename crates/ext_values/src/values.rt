@@ -1,4 +1,4 @@
-//! Places for values, found by their numbers.
+//! Slots for values, found by their numbers.
 ghost use Rattle.std.specs.Prelude.{◌≡◌, ◌↔◌, IfErr, IfOk, IfSome, IsSome, IsTrue, OnSome, Some, length};
 ghost use Rattle.once_cell.specs.Once.{cell_name};
 ghost use Rattle.ext_values.specs.Places.{IsCapacity, IsNoteOf, IsNumber, place_of};
@@ -9,11 +9,11 @@ use std::alloc::Global;
 use std::marker::Model;
 use std::mem::size_of;
 
-/// A fixed number of places for values, numbered from 1. Each is set at most once and keeps its
+/// A fixed number of slots for values, numbered from 1. Each is set at most once and keeps its
 /// value until all are dropped; any thread may set or read one. Takes one pointer per number.
 #[derive(Drop)]
 pub struct Values<V> {
-    places: Vec<OnceBox<V>>,
+    slots: Vec<OnceBox<V>>,
 }
 
 // One pointer per number, however large the values are.
@@ -26,47 +26,47 @@ impl<V> Model for Values<V> {
 
     ghost Value = { List ℕ };
 
-    ghost view = { λ v. map cell_name v.places.items };
+    ghost view = { λ v. map cell_name v.slots.items };
 
-    ghost invariant = { λ v. IsCapacity (length v.places.items) };
+    ghost invariant = { λ v. IsCapacity (length v.slots.items) };
 }
 
 impl<V> Values<V> {
-    /// Makes `capacity` free places, at most 1,048,575. Takes memory, unless the capacity is 0.
+    /// Makes `capacity` free slots, at most 1,048,575. Takes memory, unless the capacity is 0.
     ///
     /// Refused as `Memory`, only if its one allocation fails.
     pub fn new(alloc: Global, capacity: u32) -> Result<Values<V>, ValuesFault>
         requires { IsCapacity capacity }
         ensures { IfOk result (λ v. length v ≡ capacity) }
     {
-        let mut places = Vec::with_capacity(alloc, capacity as usize)?;
+        let mut slots = Vec::with_capacity(alloc, capacity as usize)?;
         for _ in 0..capacity {
-            places.push_reserved(OnceBox::new(alloc));
+            slots.push_reserved(OnceBox::new(alloc));
         }
-        Ok(Values { places })
+        Ok(Values { slots })
     }
 
-    /// The number of places, which is the last number: at most 1,048,575.
+    /// The number of slots, which is the last number: at most 1,048,575.
     pub fn capacity(&self) -> u32
         ensures count { result ≡ length self.now }
         ensures within { IsCapacity result }
     {
-        self.places.len() as u32
+        self.slots.len() as u32
     }
 
-    /// Whether there is a place with this number: whether it is 1 to the capacity.
+    /// Whether there is a slot with this number: whether it is 1 to the capacity.
     pub fn has_number(&self, number: u32) -> bool
         ensures { IsTrue result ↔ IsNumber self.now number }
     {
-        number > 0 && number as usize <= self.places.len()
+        number > 0 && number as usize <= self.slots.len()
     }
 }
 
 impl<V: Drop> Values<V> {
     /// Puts the value at this number, 1 to the capacity, and gives a note of it.
     ///
-    /// Refused if the place is taken: the box is handed back with its value, beside a note of the
-    /// value that stands there, which the place keeps.
+    /// Refused if the slot is taken: the box is handed back with its value, beside a note of the
+    /// value that stands there, which the slot keeps.
     pub fn place(&self, number: u32, value: Box<V>) -> Result<Note<V>, (Box<V>, Note<V>)>
         requires { IsNumber self.now number }
         ensures note { IfOk result (λ n. IsNoteOf self.now n) }
@@ -75,9 +75,9 @@ impl<V: Drop> Values<V> {
         ensures handed_back { IfErr result (λ e. e.0.value ≡ value.value) }
         ensures taken { IfErr result (λ e. IsNoteOf self.now e.1 × (e.1.number ≡ number) × IsSome e.1.value) }
     {
-        let place = self.place_at(number);
-        let mut seen = place.note();
-        match place.set_as(value, &mut seen) {
+        let slot = self.slot_at(number);
+        let mut seen = slot.note();
+        match slot.set_as(value, &mut seen) {
             Ok(()) => Ok(Note { number, seen }),
             Err(back) => Err((back, Note { number, seen })),
         }
@@ -87,7 +87,7 @@ impl<V: Drop> Values<V> {
 impl<V> Values<V> {
     /// The value of a number and a note of it, if this thread finds one.
     ///
-    /// `None` for a number outside 1 to the capacity, and if the thread finds the place free. A
+    /// `None` for a number outside 1 to the capacity, and if the thread finds the slot free. A
     /// test, not a clause, shows that a value which another thread placed is found once that thread
     /// was joined.
     pub fn show(&self, number: u32) -> Option<(&V, Note<V>)>
@@ -99,25 +99,25 @@ impl<V> Values<V> {
         if !self.has_number(number) {
             return None;
         }
-        let place = self.place_at(number);
-        let mut seen = place.note();
-        let value = place.get_as(&mut seen)?;
+        let slot = self.slot_at(number);
+        let mut seen = slot.note();
+        let value = slot.get_as(&mut seen)?;
         Some((value, Note { number, seen }))
     }
 
-    /// The value that the note shows. The note must be of these places, and stays as it was.
+    /// The value that the note shows. The note must be of these slots, and stays as it was.
     pub fn show_known<'a>(&'a self, note: &mut Note<V>) -> &'a V
         requires { IsNoteOf self.now note.old }
         ensures value { note.old.value ≡ Some result.now }
         ensures unchanged { note.new ≡ note.old }
     {
-        match self.place_at(note.number).get_as(&mut note.seen) {
+        match self.slot_at(note.number).get_as(&mut note.seen) {
             Some(value) => value,
             None => unreachable!(),
         }
     }
 
-    /// Shows that two notes of one number have the same value. The notes must be of these places
+    /// Shows that two notes of one number have the same value. The notes must be of these slots
     /// and of one number, and stay as they were.
     pub fn agree(&self, note: &mut Note<V>, second: &mut Note<V>)
         requires note { IsNoteOf self.now note.old }
@@ -129,11 +129,11 @@ impl<V> Values<V> {
         note.seen.compare(second.seen.again());
     }
 
-    // The place with this number.
-    pub(crate) fn place_at(&self, number: u32) -> &OnceBox<V>
+    // The slot with this number.
+    pub(crate) fn slot_at(&self, number: u32) -> &OnceBox<V>
         requires { IsNumber self.now number }
         ensures { cell_name result.now ≡ place_of self.now number }
     {
-        &self.places[number as usize - 1]
+        &self.slots[number as usize - 1]
     }
 }

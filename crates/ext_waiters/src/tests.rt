@@ -75,6 +75,8 @@ fn no_wake_is_missed(rt: HostRuntime) {
     assert_eq!(rt; answered.load(Ordering::SeqCst), ROUNDS);
 }
 
+/// The first pause of a lane only announces it, and the second sleeps, until a wake that came in
+/// between ends it.
 /// Tests `Waiting::announce`, `Waiting::is_announced`, `Waiting::sleep` and `Waiting::pause`.
 #[test]
 fn pause_announces_and_then_sleeps(rt: HostRuntime) {

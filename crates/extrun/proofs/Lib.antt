@@ -1,1 +1,3 @@
 mod Commands
+mod Longest
+mod Outcomes

@@ -3,4 +3,5 @@ pub mod RunWords
 pub mod CommandWords
 pub mod CommandLine
 pub mod Tasks
+pub mod Times
 pub mod Lines

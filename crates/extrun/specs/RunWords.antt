@@ -9,7 +9,7 @@ use Rattle.ext_run.specs.declared.options.Options.{Options}
 use Rattle.extrun.specs.Flags.{IsFlag, IsSize}
 use Rattle.extrun.specs.declared.color.ColorChoice.{ColorChoice}
 use Rattle.extrun.specs.declared.color.ColorChoice.TheVariants as colors
-use Rattle.extrun.specs.declared.command.Told.{Told}
+use Rattle.extrun.specs.declared.command.Asides.{Asides}
 use Rattle.extrun.specs.declared.command.Task.{Task}
 use Rattle.extrun.specs.declared.command.Task.TheVariants as tasks
 
@@ -61,21 +61,21 @@ pub record IsColor (text : Option (List ℕ)) (choice : ColorChoice) : Type 0 wh
 
 -- Whether the progress of a run is shown, the times of its slowest nodes, and its faults once more. No word says that
 -- this is for a terminal.
-pub record AsksBeside (rows : List Row) (told : Told) : Type 0 where
-  pub progress : IsFlag (one_of (codes "progress") rows) told.progress
-  pub durations : IsFlag (one_of (codes "durations") rows) told.durations
-  pub failures : IsFlag (one_of (codes "failures") rows) told.failures
-  pub for_terminal : told.for_terminal ≡ false
+pub record AsksAsides (rows : List Row) (asides : Asides) : Type 0 where
+  pub progress : IsFlag (one_of (codes "progress") rows) asides.progress
+  pub durations : IsFlag (one_of (codes "durations") rows) asides.durations
+  pub failures : IsFlag (one_of (codes "failures") rows) asides.failures
+  pub for_terminal : asides.for_terminal ≡ false
 
--- A run by these options, the form of whose report is asked for or not, and what is told beside it.
-pub record AsksRunBy (rows : List Row) (run : Options) (asked : Bool) (choice : ColorChoice) (told : Told) : Type 0 where
+-- A run by these options, the form of whose report is asked for or not, and what is said beside it.
+pub record AsksRunBy (rows : List Row) (run : Options) (asked : Bool) (choice : ColorChoice) (asides : Asides) : Type 0 where
   pub options : AreOptions rows run
   pub form_asked : AsksForm rows asked
   pub color : IsColor (first_of (codes "color") rows) choice
-  pub beside : AsksBeside rows told
+  pub beside : AsksAsides rows asides
 
 abbrev pub AsksRun : List Row → Task → Type 0
-AsksRun rows (tasks.Run options asked color told) = AsksRunBy rows options asked color told
+AsksRun rows (tasks.Run options asked color asides) = AsksRunBy rows options asked color asides
 AsksRun rows (tasks.Check size) = ⊥
 AsksRun rows (tasks.CheckAll size) = ⊥
 AsksRun rows (tasks.Draw size) = ⊥
@@ -91,8 +91,8 @@ wordless_run =
 -- ---- at a terminal
 
 -- What becomes of a run. Other tasks stay.
-abbrev pub of_run : (Options → Bool → ColorChoice → Told → Task) → Task → Task
-of_run change (tasks.Run options asked color told) = change options asked color told
+abbrev pub of_run : (Options → Bool → ColorChoice → Asides → Task) → Task → Task
+of_run change (tasks.Run options asked color asides) = change options asked color asides
 of_run change (tasks.Check size) = tasks.Check size
 of_run change (tasks.CheckAll size) = tasks.CheckAll size
 of_run change (tasks.Draw size) = tasks.Draw size
@@ -118,10 +118,10 @@ form_at is_terminal wanted asked color form =
 
 -- The task with that form.
 abbrev pub shown_at : Bool → Bool → Task → Task
-shown_at is_terminal wanted = of_run (λ options asked color told.
-    tasks.Run (record options { form = form_at is_terminal wanted asked color options.form }) asked color told)
+shown_at is_terminal wanted = of_run (λ options asked color asides.
+    tasks.Run (record options { form = form_at is_terminal wanted asked color options.form }) asked color asides)
 
 -- The task whose words on standard error are for a terminal, if that is one.
 abbrev pub told_at : Bool → Task → Task
-told_at is_terminal = of_run (λ options asked color told.
-    tasks.Run options asked color (record told { for_terminal = told.for_terminal || is_terminal }))
+told_at is_terminal = of_run (λ options asked color asides.
+    tasks.Run options asked color (record asides { for_terminal = asides.for_terminal || is_terminal }))

@@ -2,7 +2,7 @@
 ghost use Rattle.std.specs.Prelude.{◌≡◌, Bool};
 ghost use Rattle.extrun.specs.RunWords.{form_at, is_always, is_colored, shown_at, told_at};
 
-use crate::command::{Task, Told};
+use crate::command::{Asides, Task};
 use ext_run::{Options, ReportForm};
 use std::env;
 use std::rt::Env;
@@ -27,7 +27,7 @@ pub(crate) fn shown_at<R: Env + AllocGlobal>(rt: &R, task: Task, is_terminal: bo
             options,
             form_asked,
             color,
-            told,
+            asides,
         } => Task::Run {
             options: Options {
                 lanes: options.lanes,
@@ -37,7 +37,7 @@ pub(crate) fn shown_at<R: Env + AllocGlobal>(rt: &R, task: Task, is_terminal: bo
             },
             form_asked,
             color,
-            told,
+            asides,
         },
         other => other,
     }
@@ -71,16 +71,16 @@ pub(crate) fn told_at(task: Task, is_terminal: bool) -> Task
             options,
             form_asked,
             color,
-            told,
+            asides,
         } => Task::Run {
             options,
             form_asked,
             color,
-            told: Told {
-                progress: told.progress,
-                durations: told.durations,
-                failures: told.failures,
-                for_terminal: told.for_terminal || is_terminal,
+            asides: Asides {
+                progress: asides.progress,
+                durations: asides.durations,
+                failures: asides.failures,
+                for_terminal: asides.for_terminal || is_terminal,
             },
         },
         other => other,

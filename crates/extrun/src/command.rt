@@ -10,7 +10,7 @@ ghost use Rattle.extrun.specs.CommandLine as line;
 ghost use Rattle.extrun.specs.CommandLine.{AsksBy, AsksNothing, IsCheck, IsCommandLine, IsRun};
 ghost use Rattle.extrun.specs.CommandWords.{AsksCheck, AsksCommand, AsksFor, AsksId, AsksOfPlan, AsksOfTexts, IsMakingOf, IsListForm, check_as, check_in, check_with, checks_all};
 ghost use Rattle.extrun.specs.Flags.{IsFlag, IsSize, size_of};
-ghost use Rattle.extrun.specs.RunWords.{AreOptions, AsksBeside, AsksForm, AsksRun, IsColor, IsForm, IsLaneCount, color_choice, form_of, wordless_run};
+ghost use Rattle.extrun.specs.RunWords.{AreOptions, AsksAsides, AsksForm, AsksRun, IsColor, IsForm, IsLaneCount, color_choice, form_of, wordless_run};
 
 use crate::args::{
     all_flag, brief_flag, color_option, draw_flag, durations_flag, explain_flag, explain_id_flag,
@@ -63,12 +63,12 @@ pub(crate) enum Request {
 /// A task for a plan.
 #[derive(Clone, Copy, Debug, PartialEq, Eq)]
 pub(crate) enum Task {
-    /// Runs it and writes its report, whose form is asked for or not, and says this beside it.
+    /// Runs it and writes its report, whose form is asked for or not, and says these beside it.
     Run {
         options: Options,
         form_asked: bool,
         color: ColorChoice,
-        told: Told,
+        asides: Asides,
     },
     /// Writes how many nodes, tests and keys it has, if it is no larger than this.
     Check(Size),
@@ -85,9 +85,9 @@ pub(crate) enum Task {
     Lint(Size),
 }
 
-/// What a run says on standard error.
+/// What a run says on standard error, beside its report.
 #[derive(Clone, Copy, Debug, PartialEq, Eq)]
-pub(crate) struct Told {
+pub(crate) struct Asides {
     /// How far it is.
     pub(crate) progress: bool,
     /// The slowest nodes, at the end.
@@ -204,7 +204,7 @@ fn wordless_run() -> Task
         },
         form_asked: false,
         color: ColorChoice::Auto,
-        told: Told {
+        asides: Asides {
             progress: false,
             durations: false,
             failures: false,
@@ -439,7 +439,7 @@ fn run_of(words: &ArgMatches<'_>) -> Task
         options: options_in(words),
         form_asked: asks_for_form(words),
         color: color_in(words),
-        told: told_in(words),
+        asides: asides_in(words),
     }
 }
 
@@ -456,10 +456,10 @@ fn options_in(words: &ArgMatches<'_>) -> Options
 }
 
 /// What is said beside the report.
-fn told_in(words: &ArgMatches<'_>) -> Told
-    ensures { AsksBeside (rows_of (found_of words.now)) result }
+fn asides_in(words: &ArgMatches<'_>) -> Asides
+    ensures { AsksAsides (rows_of (found_of words.now)) result }
 {
-    Told {
+    Asides {
         progress: is_set(words, "progress"),
         durations: is_set(words, "durations"),
         failures: is_set(words, "failures"),

@@ -1,112 +1,62 @@
-//! How long the nodes of a run took, printed at its end on standard error.
-ghost use Rattle.std.specs.Prelude.{◌≡◌, ◌≤◌, false, IfErr, IfOk};
-ghost use Rattle.std.specs.Io.KnownBytes.{Appends};
-ghost use Rattle.extrun.specs.Tasks.{IsOneReported, IsRefused, IsReported};
-
-use crate::progress::ids_of;
+//! How long a run and its slowest nodes took, printed at its end on standard error.
 use crate::times::{Times, seconds};
-use ext_model::Fault;
 use ext_report::write_visible;
-use ext_run::{FaultPlace, NodeResult, Options, RunFault, RunListener, Summary, run_with_listener};
+use ext_run::{NodeResult, Plan, PlanNode, RunListener};
 use std::alloc::{AllocError, Global};
-use std::io::Write;
 use std::sync::{Mutex, Wait};
-use std::thread::Threads;
 use std::time::{Clock, Duration, Instant};
 
 /// How many nodes are named.
 const NAMED: usize = 5;
 
-/// Runs the plan in these bytes and, if `durations` is set, prints how long its slowest nodes and
-/// the whole run took, if it has a report. If the clock cannot be read, a node is not named, and a
-/// line for which there is no memory is left out.
-pub(crate) fn run_timed<R, W: Write, L: RunListener + Sync>(
-    rt: &R,
-    input: &[u8],
-    writer: &mut W,
-    options: Options,
-    listener: &L,
-    durations: bool,
-) -> Result<Summary, RunFault>
-where
-    R: Threads + Wait + Sync + Clock + AllocGlobal + Eprint,
-    requires lanes { options.plain ≡ false → (1 ≤ options.lanes) × (options.lanes ≤ 16) }
-    ensures done { IfOk result (λ summary. IsReported options input.now summary (Appends (W.contents writer.old) (W.contents writer.new))) }
-    ensures one_report { IfOk result (λ summary. IsOneReported options input.now summary (Appends (W.contents writer.old) (W.contents writer.new))) }
-    ensures refused { IfErr result (λ fault. IsRefused options input.now fault) }
-{
-    let mut reader = input;
-    if !durations {
-        return run_with_listener(rt, rt.alloc(), &mut reader, writer, options, listener);
-    }
-    run_with_durations(rt, input, writer, options, listener)
-}
-
-/// Runs the plan in these bytes, and prints how long it and its slowest nodes took.
-fn run_with_durations<'a, R, W: Write, L: RunListener + Sync>(
-    rt: &'a R,
-    input: &[u8],
-    writer: &mut W,
-    options: Options,
-    listener: &'a L,
-) -> Result<Summary, RunFault>
-where
-    R: Threads + Wait + Sync + Clock + AllocGlobal + Eprint,
-    requires lanes { options.plain ≡ false → (1 ≤ options.lanes) × (options.lanes ≤ 16) }
-    ensures done { IfOk result (λ summary. IsReported options input.now summary (Appends (W.contents writer.old) (W.contents writer.new))) }
-    ensures one_report { IfOk result (λ summary. IsOneReported options input.now summary (Appends (W.contents writer.old) (W.contents writer.new))) }
-    ensures refused { IfErr result (λ fault. IsRefused options input.now fault) }
-{
-    let ids = ids_of(rt.alloc(), input, options.size)?;
-    let durations = Durations {
-        rt,
-        listener,
-        times: Mutex::new(Times::new(rt.alloc(), ids.len())?),
-    };
-    let begun = Instant::now(rt).ok();
-    let mut reader = input;
-    let outcome = run_with_listener(rt, rt.alloc(), &mut reader, writer, options, &durations);
-    if outcome.is_ok() {
-        tell_slowest(rt, ids.as_slice(), durations.times.into_inner());
-        tell_whole(rt, begun);
-    }
-    outcome
-}
-
-/// A listener that keeps when nodes start and end, and forwards each event to another.
+/// When a run began, and when its nodes start and end. If the clock cannot be read, what it would
+/// tell is left out.
 #[derive(Drop)]
-struct Durations<'a, R, L> {
+pub(crate) struct Durations<'a, R> {
     rt: &'a R,
-    listener: &'a L,
+    begun: Option<Instant>,
     times: Mutex<Times>,
 }
 
-impl<R: Wait + Clock, L: RunListener> RunListener for Durations<'_, R, L> {
-    fn started(&self, node: usize, lane: usize) {
+impl<'a, R: Wait + Clock + AllocGlobal + Eprint> Durations<'a, R> {
+    /// The times of a run of so many nodes that begins now. Takes memory.
+    pub(crate) fn new(rt: &'a R, nodes: usize) -> Result<Durations<'a, R>, AllocError> {
+        let times = Times::new(rt.alloc(), nodes)?;
+        Ok(Durations {
+            rt,
+            begun: Instant::now(rt).ok(),
+            times: Mutex::new(times),
+        })
+    }
+
+    /// Prints how long the slowest nodes of this plan took, the slowest first, and then the whole
+    /// run. A line for which there is no memory is left out.
+    pub(crate) fn tell(self, plan: &Plan) {
+        tell_slowest(self.rt, plan, self.times.into_inner());
+        tell_whole(self.rt, self.begun);
+    }
+}
+
+impl<R: Wait + Clock> RunListener for Durations<'_, R> {
+    fn started(&self, node: usize, _lane: usize) {
         if let Ok(now) = Instant::now(self.rt) {
             self.times.lock(self.rt).start(node, now);
         }
-        self.listener.started(node, lane);
     }
 
-    fn faulted(&self, node: usize, place: FaultPlace, fault: &Fault) {
-        self.listener.faulted(node, place, fault);
-    }
-
-    fn ended(&self, ran: &NodeResult, nodes: usize) {
+    fn ended(&self, ran: &NodeResult, _nodes: usize) {
         if let Ok(now) = Instant::now(self.rt) {
             self.times.lock(self.rt).end(ran.node, now);
         }
-        self.listener.ended(ran, nodes);
     }
 }
 
 /// Prints the nodes that took longest, the slowest first.
-fn tell_slowest<R: AllocGlobal + Eprint>(rt: &R, ids: &[String], mut times: Times) {
+fn tell_slowest<R: AllocGlobal + Eprint>(rt: &R, plan: &Plan, mut times: Times) {
     for _ in 0..NAMED {
         if let Some((node, took)) = times.take_longest()
-            && let Some(id) = ids.get(node)
-            && let Ok(line) = line_of(rt.alloc(), took, id.as_str())
+            && let Some(node) = plan.nodes.get(node)
+            && let Ok(line) = line_of(rt.alloc(), took, node)
         {
             let _ = eprintln!(rt; "{}", line.as_str());
         }
@@ -114,10 +64,12 @@ fn tell_slowest<R: AllocGlobal + Eprint>(rt: &R, ids: &[String], mut times: Time
 }
 
 /// A node with its time, as `0.123 s [engine:x]/[test:a]`.
-fn line_of(alloc: Global, took: Duration, id: &str) -> Result<String, AllocError> {
+fn line_of(alloc: Global, took: Duration, node: &PlanNode) -> Result<String, AllocError> {
+    let mut id = String::new(alloc);
+    node.id.write_to(&mut id)?;
     let mut line = seconds(alloc, took)?;
     line.push(' ')?;
-    write_visible(&mut line, id)?;
+    write_visible(&mut line, id.as_str())?;
     Ok(line)
 }
 

@@ -17,6 +17,7 @@ mod durations;
 mod failing;
 mod help;
 mod ids;
+mod listener;
 mod plans;
 mod progress;
 mod refusing;

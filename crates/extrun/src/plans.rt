@@ -1,19 +1,23 @@
 //! Running, checking or drawing a plan, with its fault explained or not.
-ghost use Rattle.std.specs.Prelude.{◌≡◌, ◌≤◌, IfErr, IfOk};
+ghost use Rattle.std.specs.Prelude.{◌≡◌, ◌≤◌, false, Ok, IfErr, IfOk, IfSome};
 ghost use Rattle.std.specs.Io.KnownBytes.{Appends};
-ghost use Rattle.extrun.specs.Tasks.{IsDone, IsOneDone, IsUndone};
+ghost use Rattle.ext_plan_reading.specs.Plans.{plan_view};
+ghost use Rattle.ext_plan_reading.specs.ReadPlans.{IsReadPlan};
+ghost use Rattle.ext_run.specs.Checks.{RefusedUnrun};
+ghost use Rattle.ext_run.specs.Reports.{plan_of_input};
+ghost use Rattle.extrun.specs.Tasks.{AppendsFor, IsDone, IsOneDone, IsRequestDone, IsRunOutcome, IsUndone, IsUndoneRequest, IsUnreadRequest, is_for_people, told_of};
 
-use crate::command::Task;
-use crate::failing::run_plan;
-use crate::progress::run_told;
+use crate::command::{Asides, Task};
+use crate::listener::run_told;
 use crate::refusing::{explain_fault, tell_faults};
 use crate::telling::tell;
 use crate::times::seconds;
 use crate::unread::{Source, explain_cause, explain_undone, explain_unread};
 use ext_run::{
-    NoListener, Options, ReportForm, RequestFault, RunFault, Size, Summary, check, check_lint,
-    check_races, draw, explain_keys, read_input,
+    Options, Plan, ReportForm, RequestFault, RunFault, Size, Summary, check, check_lint,
+    check_races, draw, explain_keys, input_limit, plan_of, read_input,
 };
+use std::alloc::Global;
 use std::fs;
 use std::io::{Input, Read, Write};
 use std::rt::Files;
@@ -33,6 +37,7 @@ pub(crate) fn outcome_of_source<R, W>(
 where
     R: Threads + Wait + Sync + Clock + Files + AllocGlobal + Input + Eprint,
     W: Write,
+    ensures { IsRequestDone task result (AppendsFor task (W.contents writer.old) (W.contents writer.new)) }
 {
     let input = match file {
         Some(name) if name.as_str() != "-" => {
@@ -55,7 +60,9 @@ fn input_of_file<R: Files + AllocGlobal + Eprint>(
     name: &str,
     size: Size,
     explained: bool,
-) -> Result<Vec<u8>, RequestFault> {
+) -> Result<Vec<u8>, RequestFault>
+    ensures { IfErr result IsUnreadRequest }
+{
     let source = Source::File(name);
     match fs::open(rt, name) {
         Ok(mut file) => input_of(rt, &mut file, source, size, explained),
@@ -76,7 +83,10 @@ fn input_of<R: AllocGlobal + Eprint, I: Read>(
     source: Source<'_>,
     size: Size,
     explained: bool,
-) -> Result<Vec<u8>, RequestFault> {
+) -> Result<Vec<u8>, RequestFault>
+    ensures whole { IfOk result (λ bytes. IfSome (I.remaining reader.old) (λ input. bytes.items ≡ input)) }
+    ensures unread { IfErr result IsUnreadRequest }
+{
     let input = read_input(rt.alloc(), reader, size);
     let fault = input.as_ref().err().copied();
     let input = told(rt, input);
@@ -97,18 +107,20 @@ fn outcome_of_plan<R, W>(
 where
     R: Threads + Wait + Sync + Clock + AllocGlobal + Eprint,
     W: Write,
+    ensures done { IfOk result (λ summary. IsDone task input.now summary (AppendsFor task (W.contents writer.old) (W.contents writer.new))) }
+    ensures one_report { IfOk result (λ summary. IsOneDone task input.now summary (AppendsFor task (W.contents writer.old) (W.contents writer.new))) }
+    ensures refused { IfErr result (λ fault. IsUndoneRequest task input.now fault) }
 {
-    let size = task.size();
     let begun = Instant::now(rt).ok();
     let done = outcome_of_task(rt, input, writer, task);
-    if let Task::CheckAll(_) = task
+    if let Task::CheckAll(size) = task
         && let Err(RunFault::Plan(fault)) = done
     {
         tell_faults(rt, input, size, fault, explained);
         return Err(RequestFault::Run(RunFault::Plan(fault)));
     }
-    if is_for_people(task) && done.is_ok() {
-        write_time(rt, writer, begun);
+    if done.is_ok() {
+        write_time(rt, writer, task, begun);
     }
     let outcome = told(rt, done);
     if explained {
@@ -118,16 +130,26 @@ where
 }
 
 /// Tests whether this is a run whose report is for people at a terminal.
-pub(crate) fn is_for_people(task: Task) -> bool {
+pub(crate) fn is_for_people(task: Task) -> bool
+    ensures { result ≡ is_for_people task }
+{
     match task {
         Task::Run { options, .. } => matches!(options.form, ReportForm::Terminal { .. }),
         _ => false,
     }
 }
 
-/// Writes the time since a run began behind its report.
-fn write_time<R: Clock + AllocGlobal, W: Write>(rt: &R, writer: &mut W, begun: Option<Instant>) {
-    if let Some(begun) = begun
+/// Writes the time since a run began behind its report, if that is for people.
+fn write_time<R: Clock + AllocGlobal, W: Write>(
+    rt: &R,
+    writer: &mut W,
+    task: Task,
+    begun: Option<Instant>,
+)
+    ensures { is_for_people task ≡ false → writer.new ≡ writer.old }
+{
+    if is_for_people(task)
+        && let Some(begun) = begun
         && let Ok(took) = begun.elapsed(rt)
         && let Ok(time) = seconds(rt.alloc(), took)
     {
@@ -162,7 +184,9 @@ fn explain_full_keys(rt: &(impl AllocGlobal + Eprint), input: &[u8], size: Size)
 }
 
 /// The outcome, whose fault is printed on standard error.
-fn told<T: Drop>(rt: &impl Eprint, outcome: Result<T, RunFault>) -> Result<T, RequestFault> {
+fn told<T: Drop>(rt: &impl Eprint, outcome: Result<T, RunFault>) -> Result<T, RequestFault>
+    ensures { result ≡ told_of outcome }
+{
     match outcome {
         Ok(done) => Ok(done),
         Err(fault) => {
@@ -185,13 +209,11 @@ fn outcome_of_task<R: Threads + Wait + Sync + Clock + AllocGlobal + Eprint, W: W
 {
     let mut reader = input;
     match task {
-        Task::Run { options, told, .. } => {
-            let options = in_range(options);
-            if told.progress {
-                return run_told(rt, input, writer, options, told);
-            }
-            run_plan(rt, input, writer, options, &NoListener, told)
-        }
+        Task::Run {
+            options,
+            asides,
+            ..
+        } => run_input(rt, input, writer, in_range(options), asides),
         Task::Check(size) | Task::CheckAll(size) => {
             check(rt.alloc(), &mut reader, writer, size)?;
             Ok(Summary::done())
@@ -219,5 +241,38 @@ fn in_range(options: Options) -> Options
         plain: options.plain,
         form: options.form,
         size: options.size,
+    }
+}
+
+/// Runs the plan in these bytes, and says beside it what is asked for.
+fn run_input<R: Threads + Wait + Sync + Clock + AllocGlobal + Eprint, W: Write>(
+    rt: &R,
+    input: &[u8],
+    writer: &mut W,
+    options: Options,
+    asides: Asides,
+) -> Result<Summary, RunFault>
+    requires lanes { options.plain ≡ false → (1 ≤ options.lanes) × (options.lanes ≤ 16) }
+    ensures { IsRunOutcome options (plan_of_input options.size input.now) result (Appends (W.contents writer.old) (W.contents writer.new)) }
+{
+    let plan = match plan_of_input(rt.alloc(), input, options.size) {
+        Ok(plan) => plan,
+        Err(fault) => return Err(fault),
+    };
+    run_told(rt, &plan, writer, options, asides)
+}
+
+/// The plan in these bytes, which may be as large as this. Takes memory.
+fn plan_of_input(alloc: Global, input: &[u8], size: Size) -> Result<Plan, RunFault>
+    ensures read { IfOk result (λ plan. plan_of_input size input.now ≡ Ok (plan_view plan)) }
+    ensures plan { IfOk result (λ plan. IsReadPlan (plan_view plan)) }
+    ensures refused { IfErr result (λ fault. RefusedUnrun fault (plan_of_input size input.now)) }
+{
+    if input.len() > input_limit(size) {
+        return Err(RunFault::TooLong);
+    }
+    match plan_of(alloc, input, size) {
+        Ok(plan) => Ok(plan),
+        Err(fault) => Err(RunFault::Plan(fault)),
     }
 }

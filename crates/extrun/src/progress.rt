@@ -1,14 +1,14 @@
 //! The progress of a run, printed on standard error by a thread of its own.
-ghost use Rattle.std.specs.Prelude.{◌≡◌, ◌≤◌, false, IfErr, IfOk};
+ghost use Rattle.std.specs.Prelude.{◌≡◌, ◌≤◌, false, Ok};
 ghost use Rattle.std.specs.Io.KnownBytes.{Appends};
-ghost use Rattle.extrun.specs.Tasks.{IsOneReported, IsRefused, IsReported};
+ghost use Rattle.ext_plan_reading.specs.Plans.{plan_view};
+ghost use Rattle.ext_plan_reading.specs.ReadPlans.{IsReadPlan};
+ghost use Rattle.extrun.specs.Tasks.{IsRunOutcome};
 ghost use denote.Param.Send.{IsSync};
 
-use crate::command::Told;
-use crate::failing::run_plan;
 use crate::running::Running;
 use crate::screen::shown_text;
-use ext_run::{NodeResult, Options, RunFault, RunListener, Size, Summary, read_plan_within};
+use ext_run::{NodeResult, Options, Plan, PlanNode, RunFault, RunListener, Summary, run_plan};
 use std::alloc::{AllocError, Global};
 use std::io::Write;
 use std::sync::{Condvar, CondvarTimeouts, Mutex, Wait};
@@ -18,80 +18,46 @@ use std::time::{Clock, Duration, Instant};
 /// The least number of milliseconds between two lines, and between the start and the first one.
 const INTERVAL: u64 = 1_000;
 
-/// Runs the plan in these bytes, by the contract of `ext_run::run`, and prints the progress of the
-/// run on standard error, and beside it what else is asked for.
+/// Runs a plan by the contract of `ext_run::run_plan` with a listener that tells `progress` of it,
+/// and prints that on standard error.
 ///
 /// Once a second, a thread of its own prints a line with the number of nodes that have ended and
 /// the nodes that run, if a node started or ended since the line before. So the last line of a run
 /// that hangs names what hangs, and a run of less than a second has no line. A container is named
 /// if no node below it runs, and a test also while it waits for its locks.
 ///
-/// The plan is read once more for the ids of its nodes. Refused like `run`, and as `Memory` if
-/// memory for these ids is refused. If the clock cannot be read or a thread cannot be created,
-/// nothing is printed, and a line for which there is no memory is left out.
-pub(crate) fn run_told<R: Threads + Wait + Sync + Clock + AllocGlobal + Eprint, W: Write>(
+/// If the clock cannot be read or a thread cannot be created, nothing is printed, and a line for
+/// which there is no memory is left out.
+pub(crate) fn run_beside<R, W: Write, L: RunListener + Sync>(
     rt: &R,
-    input: &[u8],
+    plan: &Plan,
     writer: &mut W,
     options: Options,
-    told: Told,
-) -> Result<Summary, RunFault>
-    requires lanes { options.plain ≡ false → (1 ≤ options.lanes) × (options.lanes ≤ 16) }
-    ensures done { IfOk result (λ summary. IsReported options input.now summary (Appends (W.contents writer.old) (W.contents writer.new))) }
-    ensures one_report { IfOk result (λ summary. IsOneReported options input.now summary (Appends (W.contents writer.old) (W.contents writer.new))) }
-    ensures refused { IfErr result (λ fault. IsRefused options input.now fault) }
-{
-    let progress = Progress::of(rt, input, options.size, told.for_terminal)?;
-    run_beside(rt, input, writer, options, &progress, told)
-}
-
-/// Runs the plan beside a thread that prints the progress.
-fn run_beside<R: Threads + Wait + Sync + Clock + AllocGlobal + Eprint, W: Write>(
-    rt: &R,
-    input: &[u8],
-    writer: &mut W,
-    options: Options,
+    listener: &L,
     progress: &Progress<'_, R>,
-    told: Told,
 ) -> Result<Summary, RunFault>
+where
+    R: Threads + Wait + Sync + Clock + AllocGlobal + Eprint,
     requires lanes { options.plain ≡ false → (1 ≤ options.lanes) × (options.lanes ≤ 16) }
-    ensures done { IfOk result (λ summary. IsReported options input.now summary (Appends (W.contents writer.old) (W.contents writer.new))) }
-    ensures one_report { IfOk result (λ summary. IsOneReported options input.now summary (Appends (W.contents writer.old) (W.contents writer.new))) }
-    ensures refused { IfErr result (λ fault. IsRefused options input.now fault) }
+    requires plan { IsReadPlan (plan_view plan.now) }
+    ensures { IsRunOutcome options (Ok (plan_view plan.now)) result (Appends (W.contents writer.old) (W.contents writer.new)) }
 {
     let mut tell = || progress.tell_to_the_end();
     let mut run = || -> Result<Summary, RunFault>
-        requires { IsSync R.row × (options.plain ≡ false → (1 ≤ options.lanes) × (options.lanes ≤ 16)) }
-        ensures { IfOk result (λ summary. IsReported options input.entry.now summary (Appends (W.contents writer.entry.now) (W.contents writer.exit.now)))
-            × IfOk result (λ summary. IsOneReported options input.entry.now summary (Appends (W.contents writer.entry.now) (W.contents writer.exit.now)))
-            × IfErr result (λ fault. IsRefused options input.entry.now fault) }
-    { run_to_the_end(rt, input, options, progress, writer, told) };
+        requires { IsSync R.row × IsSync L.row × (options.plain ≡ false → (1 ≤ options.lanes) × (options.lanes ≤ 16)) × IsReadPlan (plan_view plan.now) }
+        ensures { IsRunOutcome options (Ok (plan_view plan.entry.now)) result (Appends (W.contents writer.entry.now) (W.contents writer.exit.now)) }
+    {
+        let outcome = run_plan(rt, rt.alloc(), writer, plan, options, listener);
+        progress.end();
+        outcome
+    };
     let ((), outcome) = join_mut(rt, &mut tell, &mut run);
-    outcome
-}
-
-/// Runs the plan, and then announces that the run is over.
-fn run_to_the_end<R: Threads + Wait + Sync + Clock + AllocGlobal + Eprint, W: Write>(
-    rt: &R,
-    input: &[u8],
-    options: Options,
-    progress: &Progress<'_, R>,
-    writer: &mut W,
-    told: Told,
-) -> Result<Summary, RunFault>
-    requires lanes { options.plain ≡ false → (1 ≤ options.lanes) × (options.lanes ≤ 16) }
-    ensures done { IfOk result (λ summary. IsReported options input.now summary (Appends (W.contents writer.old) (W.contents writer.new))) }
-    ensures one_report { IfOk result (λ summary. IsOneReported options input.now summary (Appends (W.contents writer.old) (W.contents writer.new))) }
-    ensures refused { IfErr result (λ fault. IsRefused options input.now fault) }
-{
-    let outcome = run_plan(rt, input, writer, options, progress, told);
-    progress.end();
     outcome
 }
 
 /// The progress of a run, shared by the threads that run its nodes and the one that prints.
 #[derive(Drop)]
-struct Progress<'a, R> {
+pub(crate) struct Progress<'a, R> {
     rt: &'a R,
     state: Mutex<State>,
     /// Notified when the run is over.
@@ -110,14 +76,13 @@ struct State {
 }
 
 impl<'a, R: Wait + Clock + AllocGlobal + Eprint> Progress<'a, R> {
-    /// The progress of a run of the plan in these bytes that has not begun.
-    fn of(
+    /// The progress of a run of this plan that has not begun. Takes memory.
+    pub(crate) fn new(
         rt: &'a R,
-        input: &[u8],
-        size: Size,
+        plan: &Plan,
         for_terminal: bool,
     ) -> Result<Progress<'a, R>, AllocError> {
-        let ids = ids_of(rt.alloc(), input, size)?;
+        let ids = ids_of(rt.alloc(), plan.nodes.as_slice())?;
         let state = State {
             running: Running::new(rt.alloc(), ids)?,
             is_new: false,
@@ -189,16 +154,10 @@ impl<R: Wait> RunListener for Progress<'_, R> {
     }
 }
 
-/// The ids of the nodes of the plan in these bytes. A plan that is refused has none.
-pub(crate) fn ids_of(alloc: Global, input: &[u8], size: Size) -> Result<Vec<String>, AllocError> {
+/// The ids of these nodes. Takes memory.
+fn ids_of(alloc: Global, nodes: &[PlanNode]) -> Result<Vec<String>, AllocError> {
     let mut ids = Vec::new(alloc);
-    let Ok(text) = std::str::from_utf8(input) else {
-        return Ok(ids);
-    };
-    let Ok(plan) = read_plan_within(alloc, text, size) else {
-        return Ok(ids);
-    };
-    for node in plan.nodes.as_slice() {
+    for node in nodes {
         let mut id = String::new(alloc);
         node.id.write_to(&mut id)?;
         ids.push(id)?;

@@ -33,6 +33,11 @@ impl<W> Screen<W> {
 }
 
 impl<W: Write> Write for Screen<W> {
+    ghost use Rattle.std.specs.Prelude.{None, if◌then◌else◌};
+
+    // What it holds for a terminal is passed on later, and in another form.
+    ghost contents = { λ s. if s.for_terminal then None else W.contents s.writer };
+
     fn write(&mut self, bytes: &[u8]) -> io::Result<usize> {
         if self.for_terminal {
             return self.held.write(bytes);

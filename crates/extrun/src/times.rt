@@ -1,4 +1,8 @@
 //! When the nodes of a run started, and how long they took.
+ghost use Rattle.std.specs.Prelude.{◌≡◌, option_map, string_bytes, IfOk};
+ghost use Rattle.std.specs.Duration.{as_nanos};
+ghost use Rattle.extrun.specs.Times.{is_longer, longer_of, longest_of, node_time, seconds_text, time_text, took_by};
+
 use std::alloc::{AllocError, Global};
 use std::time::{Duration, Instant};
 
@@ -45,39 +49,65 @@ impl Times {
     }
 
     /// Takes out the node that took longest, the first of them in the plan, with its time.
-    pub(crate) fn take_longest(&mut self) -> Option<(usize, Duration)> {
-        let (node, took) = self.longest()?;
-        if let Some(time) = self.nodes.get_mut(node) {
+    pub(crate) fn take_longest(&mut self) -> Option<(usize, Duration)>
+        ensures { option_map node_time result ≡ longest_of (took_by self.old.nodes.items) }
+    {
+        let longest = self.longest();
+        if let Some((node, _)) = longest
+            && let Some(time) = self.nodes.get_mut(node)
+        {
             time.took = None;
         }
-        Some((node, took))
+        longest
     }
 
     /// The node that took longest, the first of them in the plan, with its time.
-    fn longest(&self) -> Option<(usize, Duration)> {
-        let mut longest: Option<(usize, Duration)> = None;
+    fn longest(&self) -> Option<(usize, Duration)>
+        ensures { option_map node_time result ≡ longest_of (took_by self.now.nodes.items) }
+    {
+        let mut longest = None;
         for (node, time) in self.nodes.iter().enumerate() {
-            if let Some(took) = time.took
-                && is_longer(took, longest)
-            {
-                longest = Some((node, took));
-            }
+            longest = longer_of(node, longest, time.took);
         }
         longest
     }
 }
 
+/// The node that took longest so far, or this one if it took longer.
+fn longer_of(
+    node: usize,
+    longest: Option<(usize, Duration)>,
+    took: Option<Duration>,
+) -> Option<(usize, Duration)>
+    ensures { option_map node_time result ≡ longer_of node (option_map node_time longest) (option_map as_nanos took) }
+{
+    match took {
+        Some(took) if is_longer(took, longest) => Some((node, took)),
+        _ => longest,
+    }
+}
+
 /// Tests whether a time is longer than that of the longest node so far, if there is one.
-fn is_longer(took: Duration, longest: Option<(usize, Duration)>) -> bool {
+fn is_longer(took: Duration, longest: Option<(usize, Duration)>) -> bool
+    ensures { result ≡ is_longer (as_nanos took) (option_map node_time longest) }
+{
     match longest {
         None => true,
-        Some((_, before)) => before < took,
+        Some((_, before)) => before.as_nanos() < took.as_nanos(),
     }
 }
 
 /// A time in seconds, as `0.123 s`. Takes memory.
-pub(crate) fn seconds(alloc: Global, time: Duration) -> Result<String, AllocError> {
-    let whole = time.as_secs();
-    let thousandths = time.subsec_millis();
-    format!(in alloc; "{whole}.{thousandths:03} s")
+pub(crate) fn seconds(alloc: Global, time: Duration) -> Result<String, AllocError>
+    ensures { IfOk result (λ text. string_bytes text ≡ seconds_text (as_nanos time)) }
+{
+    time_text(alloc, time.as_secs(), time.subsec_millis())
+}
+
+/// The text of whole seconds and milliseconds.
+fn time_text(alloc: Global, seconds: u64, millis: u32) -> Result<String, AllocError>
+    ensures { IfOk result (λ text. string_bytes text ≡ time_text seconds millis) }
+{
+    let (tenths, hundredths, thousandths) = (millis / 100, millis / 10 % 10, millis % 10);
+    format!(in alloc; "{seconds}.{tenths}{hundredths}{thousandths} s")
 }

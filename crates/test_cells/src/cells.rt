@@ -12,6 +12,8 @@ use ext_cells::{CellLane, CellRefusal, Cells, Claim, Claimed, Nearest, Standing}
 use std::alloc::Global;
 use std::process::Abort;
 
+/// A cell is sealed with number 1 in it: a second seal answers 1 again, and any other call is
+/// refused as `Closed`.
 /// Tests `Cells::open`, `Cells::open_for`, `Cells::tries`, `Cells::next_number`, `Cells::put`,
 /// `Cells::remove`, `Cells::seal`, `CellLane::number`, `Cells::collect` and `Cells::nearest`.
 #[test]
@@ -54,6 +56,8 @@ fn ends_mark_cells_that_had_an_event(rt: HostRuntime) {
     );
 }
 
+/// Two lanes claim a cell in turn and give it up: it stays empty, and once it is sealed a claim is
+/// refused as `Closed`.
 /// Tests `Cells::fill`, `Cells::fail` and `Cells::abandon`.
 #[test]
 fn abandoned_cells_are_empty(rt: HostRuntime) {
@@ -68,6 +72,8 @@ fn abandoned_cells_are_empty(rt: HostRuntime) {
     rows(&rt, rt.alloc(), &all);
 }
 
+/// A failed claim leaves its fault's number, which both lanes meet until a put or a remove takes it
+/// out or a seal drops it; the cells beside it stay empty.
 /// Tests `after` and `Cells::seal`.
 #[test]
 fn failed_cells_keep_their_numbers(rt: HostRuntime) {
@@ -145,6 +151,8 @@ fn fail_beside(rt: &impl Abort, cells: &Cells, first: &mut CellLane, second: &mu
     cells.meet(second, first);
 }
 
+/// While one lane holds a claim each call of the other is refused as `Busy`, and once the claim has
+/// failed the other meets the fault's number.
 /// Tests `Cells::fill`, `Cells::fail` and `Cells::abandon`.
 #[test]
 fn claims_that_fail_keep_others_out(rt: HostRuntime) {
@@ -152,6 +160,7 @@ fn claims_that_fail_keep_others_out(rt: HostRuntime) {
     fail_beside(&rt, &cells, &mut first, &mut second);
 }
 
+/// `open` makes cells that keep faults, and `open_for` cells that do so if it is told to.
 /// Tests `Cells::open`, `Cells::open_for` and `Cells::keeps_faults`.
 #[test]
 fn cells_keep_faults_as_they_are_opened(rt: HostRuntime) {
@@ -182,6 +191,8 @@ fn claim_beside(rt: &impl Abort, cells: &Cells, first: &mut CellLane, second: &m
     cells.meet(second, first);
 }
 
+/// While one lane holds a claim each call of the other is refused as `Busy`, and once the claim is
+/// filled the other finds its number.
 /// Tests `Cells::claim`.
 #[test]
 fn claims_keep_others_out(rt: HostRuntime) {
@@ -208,6 +219,8 @@ fn with_last_lanes<R: Abort>(rt: &R, alloc: Global) -> (Cells, CellLane, CellLan
     (cells, before, last)
 }
 
+/// The last two of 32 lanes have the numbers 30 and 31, and a claim of the last keeps the other out
+/// until it is filled or has failed.
 /// Tests `Cells::open_for`, `CellLane::number`, `Cells::claim`, `Cells::fill`, `Cells::fail`,
 /// `Cells::remove` and `Cells::meet`.
 #[test]
@@ -220,6 +233,8 @@ fn last_of_32_lanes_keeps_others_out(rt: HostRuntime) {
     fail_beside(&rt, &cells, &mut last, &mut before);
 }
 
+/// Three cells that were just opened read 0 at one moment, and a collect of no cells is answered
+/// too.
 /// Tests `Cells::open`, `Cells::open_for`, `Cells::tries`, `Cells::collect` and `Words::get`.
 #[test]
 fn zero_words_at_open(rt: HostRuntime) {
@@ -252,6 +267,7 @@ fn sixteen(cells: &Cells, lane: &mut CellLane) -> Option<[u64; 16]>
     Some(found)
 }
 
+/// Two of 256 cells hold numbers, and a collect of sixteen cells shows both and 0 for the others.
 /// Tests `Cells::collect` and `Words::get`.
 #[test]
 fn sixteen_cells_at_once(rt: HostRuntime) {
@@ -304,6 +320,8 @@ fn ask_for_nearest(rt: &impl Abort, cells: &Cells, lane: &mut CellLane)
     same(rt, beside, value, "another column");
 }
 
+/// Values, a fault and a seal stand in some rows of a column: the nearest row along a path decides,
+/// and what stands in another column does not.
 /// Tests `Cells::nearest`.
 #[test]
 fn nearest_row_decides(rt: HostRuntime) {

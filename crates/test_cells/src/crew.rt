@@ -34,6 +34,8 @@ fn squares<R: Threads + Wait + Sync, G: Gate + Sync>(
     )
 }
 
+/// Two workers square five items: the squares come in the order of the items, and of no items there
+/// are none.
 /// Tests `run_children`.
 #[test]
 fn squares_by_two_workers(rt: HostRuntime) -> Result<(), Fail> {
@@ -46,6 +48,7 @@ fn squares_by_two_workers(rt: HostRuntime) -> Result<(), Fail> {
     Ok(())
 }
 
+/// The gate holds the jobs 0 and 1 until both have started, so two workers run them side by side.
 /// Tests `run_children`.
 #[test]
 fn jobs_0_and_1_meet(rt: HostRuntime) -> Result<(), Fail> {
@@ -58,8 +61,8 @@ fn jobs_0_and_1_meet(rt: HostRuntime) -> Result<(), Fail> {
     Ok(())
 }
 
-// Two workers, one of which is held in job 0: the other one draws all that are left. With a fixed
-// cut job 2 would wait for job 0.
+/// One of two workers is held in job 0 until all others have ended, so the other worker draws them
+/// all: with a fixed cut job 2 would wait for job 0.
 /// Tests `run_children`.
 #[test]
 fn job_0_waits_for_all_others(rt: HostRuntime) -> Result<(), Fail> {
@@ -81,6 +84,8 @@ fn numbers(alloc: Global, count: u64) -> Result<Vec<u64>, AllocError> {
     Ok(numbers)
 }
 
+/// Sixteen workers run 65,536 jobs, of which the first two meet: each job is run once, and the last
+/// square comes last.
 /// Tests `run_children`.
 #[test]
 fn jobs_0_and_1_meet_among_65536(rt: HostRuntime) -> Result<(), Fail> {
@@ -113,8 +118,9 @@ fn jobs_0_and_1_meet_among_65536(rt: HostRuntime) -> Result<(), Fail> {
     Ok(())
 }
 
-// Five lanes for three workers, each of which has to run one job: a job gives the length of its
-// share and leaves its index there. Which worker runs which job isn't known.
+/// Five lanes are shared by three workers, each of which has to run one job, leaves the job's index
+/// in its share and gives the share's length: the lengths are two, two and one, whichever worker
+/// runs which job.
 /// Tests `run_children`.
 #[test]
 fn longer_shares_first(rt: HostRuntime) -> Result<(), Fail> {
@@ -153,6 +159,8 @@ fn are_shares(left: [u8; 5], lengths: &[usize]) -> bool {
         && (told(a), told(b), told(c)) == (Some(2), Some(2), Some(1))
 }
 
+/// Two workers run four jobs, and the gate is told of each one's start before it runs and of its
+/// end afterwards.
 /// Tests `Gate::started` and `Gate::ended`.
 #[test]
 fn gate_is_told_round_each_job(rt: HostRuntime) -> Result<(), Fail> {
@@ -196,6 +204,8 @@ fn all_stay_small<R: Threads + Wait + Sync>(
     Ok(made)
 }
 
+/// Each job keeps the elements of its share at 100 or below, and so they are in the slices at the
+/// end.
 /// Tests `run_children`.
 #[test]
 fn an_invariant_of_the_shares_holds_at_the_end(rt: HostRuntime) -> Result<(), Fail> {

@@ -19,6 +19,8 @@ fn opened_and_put<R: Abort>(rt: &R, alloc: Global) -> (Cells, CellLane)
     (cells, second)
 }
 
+/// The first lane has put number 1, and the first call of the other, a collect, a claim, a remove,
+/// a seal or a put, sees it.
 /// Tests `Cells::collect` and `Cells::put`.
 #[test]
 fn first_calls_see_another_lanes_put(rt: HostRuntime) {
@@ -48,6 +50,8 @@ fn nearest_of_two(cells: &Cells, lane: &mut CellLane) -> Option<usize>
     }
 }
 
+/// The first lane has put a number in the second of two rows, and the first look of the other along
+/// both finds it there.
 /// Tests `Cells::nearest`.
 #[test]
 fn first_look_sees_another_lanes_put(rt: HostRuntime) {
@@ -56,6 +60,8 @@ fn first_look_sees_another_lanes_put(rt: HostRuntime) {
     same(&rt, found, Some(1), "the nearest row");
 }
 
+/// The first lane has put a number in a block: the first end of that block by the other shows its
+/// mark, and that of a block that nobody used shows none.
 /// Tests `Cells::end_block`.
 #[test]
 fn first_end_of_a_block_sees_another_lanes_put(rt: HostRuntime) {
@@ -82,6 +88,8 @@ fn put_after_another<R: Abort>(rt: &R, alloc: Global) -> Option<u32> {
     cells.put(&mut second, 0, number).ok()?
 }
 
+/// A lane draws a number, another one puts its own, and the first put of the first answers that
+/// one.
 /// Tests `Cells::put`.
 #[test]
 fn first_put_sees_another_lanes_put(rt: HostRuntime) {

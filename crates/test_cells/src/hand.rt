@@ -122,12 +122,12 @@ pub(crate) fn end_claim(
 {
     match cells.next_number(lane) {
         Ok(number) => {
-            lane.recall();
+            lane.tell_proof();
             cells.fill(lane, claim, number);
             Ok(number)
         }
         Err(refusal) => {
-            lane.recall();
+            lane.tell_proof();
             cells.abandon(lane, claim);
             Err(refusal)
         }
@@ -148,12 +148,12 @@ pub(crate) fn fail_claim(
 {
     match cells.next_number(lane) {
         Ok(number) => {
-            lane.recall();
+            lane.tell_proof();
             cells.fail(lane, claim, number);
             Ok(number)
         }
         Err(refusal) => {
-            lane.recall();
+            lane.tell_proof();
             cells.abandon(lane, claim);
             Err(refusal)
         }

@@ -70,6 +70,8 @@ fn number_64(
     Ok(())
 }
 
+/// One lane numbers 64 keys and is refused a further one as `DirectoryFull`, and a second lane is
+/// answered the same numbers.
 /// Tests `KeyPlaces::number`.
 #[test]
 fn keys_are_64_at_most(rt: HostRuntime) -> Result<(), Fail> {
@@ -83,6 +85,7 @@ fn keys_are_64_at_most(rt: HostRuntime) -> Result<(), Fail> {
     Ok(())
 }
 
+/// Of 1,025 keys the last is refused as `DirectoryFull`, and the others keep the numbers from 0 on.
 /// Tests `KeyPlaces::number` and `KeyPlaces::len`.
 #[test]
 fn keys_are_1024_at_most(rt: HostRuntime) -> Result<(), Fail> {
@@ -96,6 +99,8 @@ fn keys_are_1024_at_most(rt: HostRuntime) -> Result<(), Fail> {
     Ok(())
 }
 
+/// One lane numbers three keys, and another these and one more: each tells which ones it set
+/// itself, also after they agreed.
 /// Tests `KeyPlaces::number`, `KeyPlaces::agree` and `KeyNotes::has_placed`.
 #[test]
 fn a_lane_tells_which_places_it_set(rt: HostRuntime) -> Result<(), Fail> {
@@ -139,6 +144,7 @@ fn numbered_by_both(
     Some((one, other))
 }
 
+/// Two lanes ask for the number of one key, and by the clauses alone they are answered the same.
 /// Tests `KeyPlaces::agree`.
 #[test]
 fn lanes_give_one_number(rt: HostRuntime) -> Result<(), Fail> {
@@ -192,6 +198,8 @@ fn tells_namespaces_apart(
     Ok(())
 }
 
+/// Keys of one name have a number for each namespace, and the same one where the namespaces are
+/// equal, however these were made.
 /// Tests `KeyPlaces::number`.
 #[test]
 fn namespaces_are_told_apart(rt: HostRuntime) -> Result<(), Fail> {
@@ -249,6 +257,8 @@ fn ask_keys_of_one_hash(
     Ok(())
 }
 
+/// 64 keys of one hash get the numbers from 0 on, a further one is refused, and each of the 64 is
+/// found again.
 /// Tests `KeyPlaces::number`.
 #[test]
 fn keys_of_one_hash_are_told_apart(rt: HostRuntime) -> Result<(), Fail> {
@@ -267,6 +277,8 @@ fn names(places: &KeyPlaces, notes: &mut KeyNotes, number: usize, key: &Key) -> 
     notes.knows(number) && places.key(notes, number) == key
 }
 
+/// The first lane has numbered three keys, which the second knows once they agree; what the second
+/// numbers then the first does not know.
 /// Tests `KeyPlaces::new`, `KeyPlaces::notes`, `KeyPlaces::agree`, `KeyPlaces::key` and
 /// `KeyNotes::knows`.
 #[test]
@@ -289,6 +301,8 @@ fn agreeing_teaches_the_second_lane(rt: HostRuntime) -> Result<(), Fail> {
     Ok(())
 }
 
+/// With 64 keys the first and the last cell of the contexts 0, 1 and 255 are the context times 64,
+/// plus the key.
 /// Tests `KeyPlaces::cell`.
 #[test]
 fn cells_of_all_contexts_and_keys(rt: HostRuntime) -> Result<(), Fail> {

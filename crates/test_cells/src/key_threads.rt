@@ -109,13 +109,17 @@ fn number_beside<R: Abort + Threads + Sync>(
     Ok(())
 }
 
-/// Tests `KeyPlaces::agree`.
+/// Two threads number ten keys at once, in opposite orders, in 1,000 rounds: in each they have one
+/// number for a key, and all numbers are below ten.
+/// Tests `KeyPlaces::number`.
 #[test]
 fn two_threads_number_the_same_keys(rt: HostRuntime) -> Result<(), Fail> {
     number_beside(&rt, rt.alloc(), 2)
 }
 
-/// Tests `KeyPlaces::agree`.
+/// Sixteen threads number ten keys at once, every other one in the opposite order, in 1,000 rounds:
+/// in each they have one number for a key, and all numbers are below ten.
+/// Tests `KeyPlaces::number`.
 #[test]
 fn sixteen_threads_number_the_same_keys(rt: HostRuntime) -> Result<(), Fail> {
     number_beside(&rt, rt.alloc(), 16)
@@ -176,6 +180,8 @@ fn agree_in_turn(
     same(rt, are_first(&wanted), true, "the numbers from 0 on");
 }
 
+/// Sixteen lanes number ten keys at once, each in a thread of its own, and after the join each
+/// agrees with a further lane on every number.
 /// Tests `KeyPlaces::agree`.
 #[test]
 fn sixteen_lanes_agree_after_the_join(rt: HostRuntime) -> Result<(), Fail> {

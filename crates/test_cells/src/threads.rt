@@ -119,6 +119,8 @@ fn draw_beside<R: Abort + Threads + Wait + Sync>(
     same(rt, full, Err(CellRefusal::NumbersFull), "a further one");
 }
 
+/// Two threads draw 25 numbers each and put them in one cell: each number is drawn once and, but
+/// for the last put, replaced once, and then no number is left.
 /// Tests `Cells::next_number`, `Cells::put`, `Cells::remove` and `Cells::seal`.
 #[test]
 fn two_threads_draw_and_put(rt: HostRuntime) {
@@ -188,6 +190,8 @@ fn fill_while_others_put<R: Threads + Wait + Sync>(
     )
 }
 
+/// One thread fills and empties a cell 15 times while another puts 15 numbers in a second cell, and
+/// no call is refused.
 /// Tests `Cells::fill`, `Cells::fail` and `Cells::abandon`.
 #[test]
 fn two_threads_fill_and_put(rt: HostRuntime) {
@@ -275,8 +279,8 @@ fn collect_while_another_claims<R: Threads + Wait + Sync>(
     )
 }
 
-// Lane 1 is mid-way in a collect nearly always, so an event of lane 0 between its two passes comes
-// soon.
+/// One lane claims a cell and gives it up without pause, and a collect of another, which is mid-way
+/// in one nearly always, soon is contended.
 /// Tests `Cells::next_number`, `Cells::put`, `Cells::remove`, `Cells::seal`, `Cells::claim`,
 /// `Cells::collect` and `Cells::nearest`.
 #[test]

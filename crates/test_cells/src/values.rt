@@ -49,6 +49,8 @@ fn shown(values: &Values<u8>, number: u32) -> Option<u8> {
     Some(*found)
 }
 
+/// Two of three numbers get a value: both notes of each show it, a further value is handed back,
+/// and a number without a value shows none.
 /// Tests `Values::place`, `Values::show`, `Values::has_number`, `Values::show_known`,
 /// `Values::agree` and `Note::number`.
 #[test]
@@ -92,6 +94,8 @@ fn agreed(values: &Values<u8>, mut note: Note<u8>) -> Option<u8>
     Some(*found)
 }
 
+/// A thread places a value and ends: the value is shown to this thread, its note agrees with the
+/// thread's, and a further value is handed back.
 /// Tests `Values::place`, `Values::show` and `Values::has_number`.
 #[test]
 fn value_seen_after_the_thread_ended(rt: HostRuntime) -> Result<(), Fail> {
@@ -169,6 +173,8 @@ fn placed_by_lane(
     (notes, placed)
 }
 
+/// A lane in another thread places a value, which this thread's lane does not know before it finds
+/// the same one.
 /// Tests `Notes::meet`.
 #[test]
 fn lanes_of_two_threads_meet(rt: HostRuntime) -> Result<(), Fail> {
@@ -193,6 +199,8 @@ fn lanes_of_two_threads_meet(rt: HostRuntime) -> Result<(), Fail> {
     Ok(())
 }
 
+/// One lane places a value and another one's is handed back: both know that number then and find
+/// one value, and know no number without a value.
 /// Tests `Notes::get`, `Notes::knows`, `Notes::place`, `SilentNotes::place`, `Values::place`,
 /// `Values::new`, `Values::capacity` and `Notes::new`.
 #[test]
@@ -261,6 +269,8 @@ fn found_silently(
     Some((first, second))
 }
 
+/// A lane whose notes nobody asks places a value, and that of another such lane is handed back:
+/// both find the first value, and none under other numbers.
 /// Tests `Notes::get`, `Notes::knows`, `Notes::place`, `SilentNotes::place` and `Values::place`.
 #[test]
 fn silent_notes_find_what_was_placed(rt: HostRuntime) -> Result<(), Fail> {
@@ -298,6 +308,8 @@ fn last_number(alloc: Global, capacity: u32) -> Result<(u32, bool, bool), Fail>
     ))
 }
 
+/// With 1, 65,535 and 1,048,575 numbers the last one takes a value and is known, and the next is
+/// not.
 /// Tests `Values::new`, `Values::capacity` and `Notes::new`.
 #[test]
 fn capacities_from_1_to_1048575(rt: HostRuntime) -> Result<(), Fail> {
@@ -309,6 +321,7 @@ fn capacities_from_1_to_1048575(rt: HostRuntime) -> Result<(), Fail> {
     Ok(())
 }
 
+/// With a capacity of 0 there is no number, and neither kind of notes finds a value.
 /// Tests `Values::new`, `Values::capacity` and `Notes::new`.
 #[test]
 fn no_places_for_no_numbers(rt: HostRuntime) -> Result<(), Fail> {

@@ -14,6 +14,8 @@ fn next(rt: &impl Abort, answer: Result<u64, CellRefusal>, wanted: Result<u64, C
     same(rt, answer, wanted, "the next word");
 }
 
+/// The word of a value has its state, number and version, and is made of them, and that after a
+/// remove or a put has the next version.
 /// Tests `word`, `parts` and `after`.
 #[test]
 fn words_and_versions(rt: HostRuntime) {
@@ -26,6 +28,8 @@ fn words_and_versions(rt: HostRuntime) {
     next(&rt, after(50_331_730, Act::Put(0, 7)), Ok(67_108_978));
 }
 
+/// The word of a kept fault has its state, number and version, and is made of them; a remove, a
+/// seal and a put take the fault out, and a claim that fails makes such a word.
 /// Tests `word`, `parts`, `after` and `Cells::seal`.
 #[test]
 fn failed_words(rt: HostRuntime) {
@@ -43,6 +47,8 @@ fn failed_words(rt: HostRuntime) {
     );
 }
 
+/// At the last versions a claim, a put and a remove are refused as `Exhausted`, but a seal is not,
+/// and after it a put is refused as `Closed`.
 /// Tests `word`, `parts` and `after`.
 #[test]
 fn versions_run_out(rt: HostRuntime) {
@@ -67,6 +73,8 @@ fn versions_run_out(rt: HostRuntime) {
 
 // The versions stand in the upper 40 bits of these words, a number in the 20 below them, and the
 // state in the lowest four.
+/// At the last version that takes a claim it is filled or given up, the value is sealed, and a call
+/// that needs a further version is refused.
 /// Tests `word`, `parts` and `after`.
 #[test]
 fn versions_at_their_limits(rt: HostRuntime) {
@@ -90,7 +98,8 @@ fn versions_at_their_limits(rt: HostRuntime) {
     next(&rt, after(sealed, Act::Put(0, 9)), closed);
 }
 
-// The same of a word with a fault.
+/// A claim at the last such version fails: the fault can only be sealed, and one a version earlier
+/// also replaced or removed.
 /// Tests `word`, `parts` and `after`.
 #[test]
 fn failed_words_at_their_limits(rt: HostRuntime) {
@@ -125,6 +134,8 @@ fn opened(
     }
 }
 
+/// Cells of the usual size are opened up to its limits, and refused as `BadLimit` for one more
+/// cell, lane, try or number, and for no lane, try or number.
 /// Tests `Cells::open`, `Cells::open_for` and `Cells::tries`.
 #[test]
 fn open_within_limits(rt: HostRuntime) {
@@ -145,6 +156,8 @@ fn open_within_limits(rt: HostRuntime) {
     }
 }
 
+/// More than the usual cells, lanes and numbers are opened up to the limits of the large size, and
+/// one more of each is refused as `BadLimit`.
 /// Tests `Cells::open_for`.
 #[test]
 fn open_for_within_limits(rt: HostRuntime) {
@@ -166,6 +179,7 @@ fn open_for_within_limits(rt: HostRuntime) {
     }
 }
 
+/// What a size has at most are limits of it, and one more cell, lane or number makes others.
 /// Tests `are_limits`.
 #[test]
 fn limits_of_each_size(rt: HostRuntime) {

@@ -89,7 +89,8 @@ fn make_and_end<R: Abort + Wait>(
     end(rt, store, closer, first, second);
 }
 
-/// Tests `CloseAction::close`, `close` and `take_closer`.
+/// Tests `CloseAction::close`, `close` and `take_closer`: one lane makes a server, so a close
+/// without that lane is refused, and one by both lanes stops the server once.
 #[test]
 fn server_is_stopped_once(rt: HostRuntime) {
     let key = server_key(rt.alloc()).expect(&rt, "a key");

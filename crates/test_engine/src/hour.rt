@@ -99,7 +99,8 @@ pub(crate) fn two_lanes<R: Abort, V: StoreValue + Drop>(
     (first, second)
 }
 
-/// Tests `open_run` and `take_lane`.
+/// Tests `open_run` and `take_lane`: a thread stores a server in the engine's context, and another
+/// lane finds it from the context of a method.
 #[test]
 fn first_hour(rt: HostRuntime) {
     let key = server_key(rt.alloc()).expect(&rt, "a key");
@@ -176,7 +177,8 @@ fn ask_both<R: Abort + Sync + Threads + Wait>(
     assert!(rt; asked == (Some((1, 8080)), Some((1, 8080))));
 }
 
-/// Tests `Store::compute` and `Store::compute_numbered`.
+/// Tests `Store::compute` and `Store::compute_numbered`: two threads need the server at once, and
+/// both have the same one.
 #[test]
 fn server_made_once(rt: HostRuntime) {
     let key = server_key(rt.alloc()).expect(&rt, "a key");

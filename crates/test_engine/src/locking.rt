@@ -32,7 +32,8 @@ fn run_test(locks: &Locks, lane: &mut LockLane, requests: &[LockRequest]) -> Res
     }
 }
 
-/// Tests `LockLane::number`, `Locks::open`, `Locks::try_take`, `Locks::take_wait` and `Held::set`.
+/// Tests `LockLane::number`, `Locks::open`, `Locks::try_take`, `Locks::take_wait` and `Held::set`:
+/// a test takes one lock for writing and one for reading, and gives both back.
 #[test]
 fn guide_to_locks(rt: HostRuntime) -> Result<(), Fail> {
     let (locks, mut lanes) = Locks::open(rt.alloc(), &["db", "files"], 2, 64)?;

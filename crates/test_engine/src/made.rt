@@ -27,7 +27,8 @@ fn ask(store: &Store<Server>, lane: &mut Lane<Server>, key: &Key) -> Option<(u32
     told(store.found_or_made(answer, lane))
 }
 
-/// Tests `Store::found_or_made`.
+/// Tests `Store::found_or_made`: the first compute makes the server, and later ones of both lanes
+/// find it.
 #[test]
 fn value_is_made_and_then_found(rt: HostRuntime) {
     let key = server_key(rt.alloc()).expect(&rt, "a key");
@@ -104,7 +105,8 @@ fn unkept(store: &Store<Server>, lane: &mut Lane<Server>, alloc: Global) -> bool
     full && own && tells(store, lane, failed, "no port")
 }
 
-/// Tests `Store::found_or_made` and `fault_of`.
+/// Tests `Store::found_or_made` and `fault_of`: a refusal, a number that stands for nothing, and a
+/// value or a fault that was not kept each come to a fault with the text that tells it.
 #[test]
 fn answers_without_a_value_are_told(rt: HostRuntime) {
     let mut opened = open_for_two(rt.alloc()).expect(&rt, "a store");
@@ -153,7 +155,8 @@ fn fails(
     }
 }
 
-/// Tests `Store::found_or_made` and `fault_of`.
+/// Tests `Store::found_or_made` and `fault_of`: a factory fails in a store that keeps faults, and
+/// the compute of another lane comes to that fault and not to its own.
 #[test]
 fn kept_fault_is_told_to_each_lane(rt: HostRuntime) {
     let key = server_key(rt.alloc()).expect(&rt, "a key");

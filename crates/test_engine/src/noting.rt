@@ -131,7 +131,8 @@ fn note_twice<R: Wait>(
     }
 }
 
-/// Tests `run_tree`.
+/// Tests `run_tree`: a suite notes two failures of a test in the test's context, where an
+/// after-callback finds the first.
 #[test]
 fn after_callback_sees_the_first_failure(rt: HostRuntime) -> Result<(), Fail> {
     let mut opened = open_for_two(rt.alloc())?;

@@ -124,7 +124,8 @@ pub(crate) fn run_page<R: Threads + Wait + Sync>(
     Ok(report_text(alloc, run.store.tree(), &run.results)?)
 }
 
-/// Tests `run_leaves`, `outcome_with`, `run_tree`, `open_run` and `is_leaf`.
+/// Tests `run_leaves`, `outcome_with`, `run_tree`, `open_run` and `is_leaf`: four tests on two
+/// lanes need a server, which one of them makes, the others find, and the run's end stops.
 #[test]
 fn engine_in_a_page(rt: HostRuntime) {
     let servers = Servers::new();

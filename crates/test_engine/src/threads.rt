@@ -33,7 +33,8 @@ fn comes_to<R: AllocGlobal + Clock + Clone + Drop + Files>(rt: &R, count: Option
     false
 }
 
-/// Tests `run_children` and `run_tree`.
+/// Tests `run_children` and `run_tree`: once a run on four lanes has ended, the process has as many
+/// threads as before.
 #[test]
 fn no_thread_is_left_after_a_run(rt: HostRuntime) {
     let servers = Servers::new();

@@ -77,6 +77,8 @@ fn told_first(alloc: Global, text: &str) -> Result<String, AllocError> {
     }
 }
 
+/// Texts with one or several mistakes have all the faults of the first stage that has one, and the
+/// fault that ends the reading is the first of them.
 /// Tests `all_faults`.
 #[test]
 fn all_faults_by_stages(rt: HostRuntime) -> Result<(), Fail> {
@@ -108,6 +110,7 @@ fn too_many_keys_alone(rt: HostRuntime) -> Result<(), Fail> {
     Ok(())
 }
 
+/// Bytes that are no text have that fault alone, whatever else is wrong.
 /// Tests `faults_of_plan`.
 #[test]
 fn no_text_alone(rt: HostRuntime) -> Result<(), Fail> {

@@ -90,6 +90,8 @@ fn told(alloc: Global, nodes: &[PlanNode]) -> Result<String, AllocError> {
     Ok(lines)
 }
 
+/// A plan with modes and callbacks of each kind, also empty ones, is read with their steps in
+/// order.
 /// Tests `PlanNode::callbacks` and `read_plan`.
 #[test]
 fn reads_modes_and_callbacks(rt: HostRuntime) -> Result<(), Fail> {

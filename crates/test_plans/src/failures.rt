@@ -3,7 +3,7 @@ use crate::same::same;
 use ext_model::{ContextNo, Fault};
 use ext_run::{
     Call, Failures, FaultPlace, Kind, ListForm, NoListener, NodeResult, RunListener, Size,
-    ToldFaults, failures_text,
+    ToldFaults, failures_text, plan_of,
 };
 use std::alloc::{AllocError, Global};
 use std::sync::atomic::{AtomicU64, Ordering};
@@ -26,7 +26,15 @@ fn at(kind: Kind, from: ContextNo, index: usize, step: usize) -> FaultPlace {
     }
 }
 
-/// Tests `failures_text`, `ToldFaults::note` and `ToldFaults::new`.
+/// What is told of these faults of the nodes of `PLAN`.
+fn text_of(alloc: Global, told: &ToldFaults, form: ListForm) -> Result<String, Fail> {
+    let plan = plan_of(alloc, PLAN.as_bytes(), Size::Usual)?;
+    Ok(failures_text(alloc, &plan, told, form)?)
+}
+
+/// Three faults of two nodes are told by the nodes' order, each with the call and the step, or the
+/// close, where it came.
+/// Tests `failures_text`, `plan_of`, `ToldFaults::note` and `ToldFaults::new`.
 #[test]
 fn faults_are_told_once_more_by_node(rt: HostRuntime) -> Result<(), Fail> {
     let alloc = rt.alloc();
@@ -38,13 +46,14 @@ fn faults_are_told_once_more_by_node(rt: HostRuntime) -> Result<(), Fail> {
     failures.ended(&NodeResult::skipped(2, true), 3);
     let told = failures.into_told();
     same(&rt, told.lost, false, "whether a fault was lost");
-    let text = failures_text(alloc, PLAN.as_bytes(), Size::Usual, &told, ListForm::Lines)?;
+    let text = text_of(alloc, &told, ListForm::Lines)?;
     let wanted =
         "[e:x]/[m:1]: no memory (close)\n[e:x]/[m:2]: first (test, step 3)\n[e:x]/[m:2]: second (after_each 1 of [e:x], step 0)\n";
     same(&rt, text.as_str(), wanted, "the faults");
     Ok(())
 }
 
+/// Faults of callbacks are told with the field of the plan, the callback's index and the step.
 /// Tests `failures_text`.
 #[test]
 fn callbacks_are_told_by_their_field(rt: HostRuntime) -> Result<(), Fail> {
@@ -53,7 +62,7 @@ fn callbacks_are_told_by_their_field(rt: HostRuntime) -> Result<(), Fail> {
     told.note(alloc, 0, at(Kind::BeforeAll, 0, 2, 1), &Fault::Memory);
     told.note(alloc, 0, at(Kind::AfterAll, 0, 0, 4), &Fault::Memory);
     told.note(alloc, 1, at(Kind::BeforeEach, 1, 0, 0), &Fault::Memory);
-    let text = failures_text(alloc, PLAN.as_bytes(), Size::Usual, &told, ListForm::Lines)?;
+    let text = text_of(alloc, &told, ListForm::Lines)?;
     let wanted =
         "[e:x]: no memory (before_all 2, step 1)\n[e:x]: no memory (after_all 0, step 4)\n[e:x]/[m:1]: no memory (before_each 0 of [e:x]/[m:1], step 0)\n";
     same(&rt, text.as_str(), wanted, "the faults");
@@ -68,6 +77,8 @@ const AS_JSON: &str =
 {"id":"[e:x]/[m:2]","fault":"second","call":"after_each","index":1,"of":"[e:x]","step":0}
 "#;
 
+/// Faults of a close, a test and callbacks are told as JSON, by the nodes' order, with what does
+/// not apply as `null`.
 /// Tests `failures_text`.
 #[test]
 fn faults_are_told_as_json(rt: HostRuntime) -> Result<(), Fail> {
@@ -83,11 +94,12 @@ fn faults_are_told_as_json(rt: HostRuntime) -> Result<(), Fail> {
     );
     told.note(alloc, 0, at(Kind::BeforeAll, 0, 2, 1), &Fault::Memory);
     told.note(alloc, 1, at(Kind::BeforeEach, 1, 0, 5), &Fault::Memory);
-    let text = failures_text(alloc, PLAN.as_bytes(), Size::Usual, &told, ListForm::Json)?;
+    let text = text_of(alloc, &told, ListForm::Json)?;
     same(&rt, text.as_str(), AS_JSON, "the faults");
     Ok(())
 }
 
+/// A fault was lost for want of memory, and the JSON tells so behind those that were not.
 /// Tests `failures_text`.
 #[test]
 fn lost_faults_are_told_as_json(rt: HostRuntime) -> Result<(), Fail> {
@@ -95,7 +107,7 @@ fn lost_faults_are_told_as_json(rt: HostRuntime) -> Result<(), Fail> {
     let mut told = ToldFaults::new(alloc);
     told.note(alloc, 0, at(Kind::AfterAll, 0, 0, 4), &Fault::Memory);
     told.lost = true;
-    let text = failures_text(alloc, PLAN.as_bytes(), Size::Usual, &told, ListForm::Json)?;
+    let text = text_of(alloc, &told, ListForm::Json)?;
     let wanted =
         "{\"id\":\"[e:x]\",\"fault\":\"no memory\",\"call\":\"after_all\",\"index\":0,\"of\":\"[e:x]\",\"step\":4}\n{\"lost\":true}\n";
     same(&rt, text.as_str(), wanted, "the faults");
@@ -128,6 +140,7 @@ impl RunListener for Sum {
     }
 }
 
+/// A listener behind `Failures` is told of a start, two faults and an end, once each.
 /// Tests `Failures::new`.
 #[test]
 fn each_is_passed_on_once(rt: HostRuntime) -> Result<(), Fail> {
@@ -142,6 +155,7 @@ fn each_is_passed_on_once(rt: HostRuntime) -> Result<(), Fail> {
     Ok(())
 }
 
+/// A fault was lost for want of memory, and a line tells so behind those that were not.
 /// Tests `failures_text`.
 #[test]
 fn lost_faults_are_told(rt: HostRuntime) -> Result<(), Fail> {
@@ -149,7 +163,7 @@ fn lost_faults_are_told(rt: HostRuntime) -> Result<(), Fail> {
     let mut told = ToldFaults::new(alloc);
     told.note(alloc, 1, FaultPlace::Close, &Fault::Memory);
     told.lost = true;
-    let text = failures_text(alloc, PLAN.as_bytes(), Size::Usual, &told, ListForm::Lines)?;
+    let text = text_of(alloc, &told, ListForm::Lines)?;
     let wanted = "[e:x]/[m:1]: no memory (close)\nfurther faults were lost: no memory\n";
     same(&rt, text.as_str(), wanted, "the faults");
     Ok(())

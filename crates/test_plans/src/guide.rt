@@ -7,6 +7,8 @@ use crate::same::same;
 use ext_model::{Look, PlainStore};
 use std::test::Fail;
 
+/// An engine of one thread keeps, puts, looks up, removes, computes and seals, with the answers
+/// that the guide tells.
 /// Tests `PlainStore::get`.
 #[test]
 fn guide_to_the_plain_store(rt: HostRuntime) -> Result<(), Fail> {

@@ -36,6 +36,8 @@ fn reader(bytes: &[u8], good: Option<usize>) -> SlowReader<'_> {
     SlowReader { bytes, good }
 }
 
+/// A reader that gives one byte at a time and a writer that takes one change neither the answer nor
+/// the report.
 /// Tests `run`.
 #[test]
 fn slow_devices_change_nothing(rt: HostRuntime) -> Result<(), Fail> {
@@ -52,6 +54,7 @@ fn slow_devices_change_nothing(rt: HostRuntime) -> Result<(), Fail> {
     Ok(())
 }
 
+/// Wherever in the plan a read fails, the run is refused as `Read` and nothing is written.
 /// Tests `run`.
 #[test]
 fn each_failing_read_is_told(rt: HostRuntime) -> Result<(), Fail> {
@@ -75,6 +78,7 @@ fn each_failing_read_is_told(rt: HostRuntime) -> Result<(), Fail> {
     Ok(())
 }
 
+/// Wherever in the report a write fails or takes nothing, the run ends as `Write`.
 /// Tests `run`.
 #[test]
 fn each_failing_write_is_told(rt: HostRuntime) -> Result<(), Fail> {
@@ -111,6 +115,7 @@ fn faults_print_their_lines(rt: HostRuntime) -> Result<(), Fail> {
     Ok(())
 }
 
+/// A writer that takes the report but cannot flush it ends the run as `Write`.
 /// Tests `run`.
 #[test]
 fn failing_flush_is_told(rt: HostRuntime) -> Result<(), Fail> {

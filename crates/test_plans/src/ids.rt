@@ -59,6 +59,8 @@ const TEXTS: [(&str, &str); 10] = [
     ("[engine:]", "id: I7 at 8"),
 ];
 
+/// Texts that are ids have their segments and are written as they were read, and each other text
+/// has its first fault.
 /// Tests `UniqueId::parse`, `UniqueId::write`, `UniqueId::write_to`, `UniqueId::segment` and
 /// `UniqueId::len`.
 #[test]
@@ -116,6 +118,8 @@ const PARTS: [(&str, &str, &str, &str, &str); 6] = [
     ("a", "b", "c", "", "id: part 1 has no value"),
 ];
 
+/// Parts with any characters make an id that escapes them, and empty parts, none at all, and more
+/// than 16 have their fault.
 /// Tests `UniqueId::from_parts`.
 #[test]
 fn ids_of_parts(rt: HostRuntime) -> Result<(), Fail> {
@@ -148,6 +152,7 @@ fn appends(
     Ok(())
 }
 
+/// A part is appended with its marks escaped, and an empty part, or one behind 16, has its fault.
 /// Tests `UniqueId::append`.
 #[test]
 fn segments_are_appended(rt: HostRuntime) -> Result<(), Fail> {
@@ -211,6 +216,7 @@ const PAIRS: [(&str, &str, bool, bool); 5] = [
     ),
 ];
 
+/// An id is the parent of its children alone, equals itself alone, and is equal to its copy.
 /// Tests `UniqueId::is_parent_of`.
 #[test]
 fn knows_children_and_copies(rt: HostRuntime) -> Result<(), Fail> {

@@ -28,6 +28,8 @@ fn is_namespace(
     Ok(*namespace_of_two == other)
 }
 
+/// A namespace equals one of the same parts in order, whether they were given or appended, but none
+/// in another order, nor the global one with the same appended.
 /// Tests `Namespace::create`, `Namespace::append`, `StepKeys::call`, `StepCall::at` and
 /// `run_plain`.
 #[test]
@@ -106,6 +108,8 @@ fn declares_two(rt: &impl Abort, alloc: Global, directory: &mut Directory) -> Re
     tells_of_two(rt, alloc, directory)
 }
 
+/// Two keys are declared, one of them twice: each has one number, and a key of another namespace
+/// has none.
 /// Tests `Key::new`, `Directory::declare` and `Directory::number_of`.
 #[test]
 fn keys_are_declared_once(rt: HostRuntime) -> Result<(), Fail> {
@@ -123,6 +127,8 @@ const OF_THREE: [(&str, Result<usize, TreeFault>); 6] = [
     ("c", Ok(2)),
 ];
 
+/// A directory that takes three keys refuses a fourth as `TooMany`, and still answers the numbers
+/// of the three.
 /// Tests `Directory::declare`.
 #[test]
 fn keys_are_as_many_as_allowed(rt: HostRuntime) -> Result<(), Fail> {
@@ -153,6 +159,8 @@ fn declares_one_too_many(
     Ok(())
 }
 
+/// A directory that takes 64 keys refuses a further one as `TooMany`, and still answers the last
+/// number.
 /// Tests `Directory::declare` and `Directory::number_of`.
 #[test]
 fn keys_are_64_at_most(rt: HostRuntime) -> Result<(), Fail> {

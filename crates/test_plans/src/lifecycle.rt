@@ -86,6 +86,8 @@ impl Callbacks for Thrice {
     }
 }
 
+/// The second callback before a test fails: no further one and no test is called, and all
+/// after-callbacks are, the last one first.
 /// Tests `run_body`, `Tally::is_successful`, `run_afters`, `befores_of`, `afters_of`,
 /// `calls_round`, `Tally::new`, `Tally::add` and `run_calls`.
 #[test]
@@ -113,6 +115,7 @@ fn before_fault_skips_the_test(rt: HostRuntime) -> Result<(), Fail> {
     Ok(())
 }
 
+/// A test is called between a callback before it and one after it, and all three are successful.
 /// Tests `run_calls`.
 #[test]
 fn test_runs_between_its_callbacks(rt: HostRuntime) -> Result<(), Fail> {
@@ -138,6 +141,8 @@ fn test_runs_between_its_callbacks(rt: HostRuntime) -> Result<(), Fail> {
     Ok(())
 }
 
+/// A callback before all tests aborts and a close fails afterwards: the node has failed with the
+/// fault of the close, and one more is counted.
 /// Tests `run_befores`, `Tally::result`, `Closed::add` and `NodeResult::skipped`.
 #[test]
 fn close_fault_is_told_before_an_abort(rt: HostRuntime) -> Result<(), Fail> {

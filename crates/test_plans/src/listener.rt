@@ -5,7 +5,7 @@ use crate::rows::{FOUR_LANES, PLAIN};
 use crate::same::same;
 use ext_model::Fault;
 use ext_run::{
-    Call, FaultPlace, Kind, NodeResult, Options, ReportForm, RunListener, Size, run_with_listener,
+    Call, FaultPlace, Kind, NodeResult, Options, ReportForm, RunListener, Size, plan_of, run_plan,
 };
 use std::alloc::Global;
 use std::process::Abort;
@@ -199,9 +199,9 @@ fn failing_report<R: Threads + Wait + Sync + Abort, L: RunListener + Sync>(
 ) -> Result<String, Fail>
     requires { options.plain ≡ false → (1 ≤ options.lanes) × (options.lanes ≤ 16) }
 {
-    let mut reader = plan.as_bytes();
+    let plan = plan_of(alloc, plan.as_bytes(), options.size)?;
     let mut written = Vec::new(alloc);
-    let summary = run_with_listener(rt, alloc, &mut reader, &mut written, options, listener)?;
+    let summary = run_plan(rt, alloc, &mut written, &plan, options, listener)?;
     same(rt, summary.failed, true, "whether a node failed");
     let text = std::str::from_utf8(written.as_slice()).map_err(|_| "the report is text")?;
     Ok(String::from_str(alloc, text)?)
@@ -228,7 +228,9 @@ fn hears_each_node<R: Threads + Wait + Sync + Abort>(
     Ok(())
 }
 
-/// Tests `run_with_listener`.
+/// In a plain run and on four lanes the listener is told once of each node's start, fault and end,
+/// in this order, and nothing of a skipped one.
+/// Tests `run_plan`.
 #[test]
 fn listener_is_told_once_of_each_node_that_ran(rt: HostRuntime) -> Result<(), Fail> {
     hears_each_node(&rt, rt.alloc(), PLAIN)?;
@@ -254,7 +256,9 @@ fn hears_three_faults<R: Threads + Wait + Sync + Abort>(
     Ok(())
 }
 
-/// Tests `run_with_listener`.
+/// In a plain run and on four lanes the listener is told the three faults of a test in order, of
+/// which the report has the first and a count.
+/// Tests `run_plan`.
 #[test]
 fn listener_is_told_all_faults_of_a_test(rt: HostRuntime) -> Result<(), Fail> {
     hears_three_faults(&rt, rt.alloc(), PLAIN)?;
@@ -325,7 +329,9 @@ fn one_waits<R: Threads + Wait + Sync + Abort + Clock>(
     Ok(())
 }
 
-/// Tests `run_with_listener` and `run_tree`.
+/// Of two tests that may not run at once, by a lock or since one is isolated, both are told as
+/// started before the first one ends.
+/// Tests `run_plan` and `run_tree`.
 #[test]
 fn listener_is_told_of_a_test_that_waits_for_a_lock(rt: HostRuntime) -> Result<(), Fail> {
     one_waits(&rt, rt.alloc(), ONE_LOCK)?;

@@ -7,6 +7,7 @@ use std::test::Fail;
 const LOCKED: &str =
     "[[node]]\nid = \"[engine:x]\"\nisolated = true\n\n[[node]]\nid = \"[engine:x]/[class:A]\"\nlocks = [\"READ db\"]\n\n[[node]]\nid = \"[engine:x]/[class:A]/[method:m()]\"\nisolated = false\nlocks = [\"READ_WRITE db\", \"READ READ\"]\ntest = []\n";
 
+/// A plan with an isolated node and locks is read with the mode and the name of each lock.
 /// Tests `PlanLock::name` and `read_plan`.
 #[test]
 fn reads_isolation_and_locks(rt: HostRuntime) -> Result<(), Fail> {

@@ -10,9 +10,8 @@ use std::test::Fail;
 /// The report of the plain run of the plan that this text writes.
 fn report_of(alloc: Global, text: &str) -> Result<String, Fail> {
     let plan = read_plan(alloc, text)?;
-    let tree = plan.tree(alloc)?;
-    let run = run_plain(alloc, &plan, &tree, &NoListener)?;
-    let report = report_text(alloc, &tree, run.results.as_slice())?;
+    let run = run_plain(alloc, &plan, &NoListener)?;
+    let report = report_text(alloc, plan.tree(), run.results.as_slice())?;
     Ok(report)
 }
 
@@ -34,6 +33,8 @@ const REPORTS: [(&str, &str); 3] = [
     ),
 ];
 
+/// Steps name keys that no label declares, and labelled keys by their names, and find and close
+/// what they put.
 /// Tests `run_plain`.
 #[test]
 fn keys_need_no_declaration(rt: HostRuntime) -> Result<(), Fail> {
@@ -61,6 +62,8 @@ fn plan_of_65(alloc: Global) -> Result<String, AllocError> {
     Ok(text)
 }
 
+/// A test looks up 64 keys, one of them again, and then a further one, for which it fails with
+/// `directory full`.
 /// Tests `run_plain`.
 #[test]
 fn a_65th_key_is_refused(rt: HostRuntime) -> Result<(), Fail> {
@@ -91,6 +94,8 @@ fn plan_at_both_limits(alloc: Global) -> Result<String, AllocError> {
     Ok(text)
 }
 
+/// A put under a 65th key fails with `directory full` and has drawn the last number, so the next
+/// one fails with `numbers full`.
 /// Tests `run_plain`.
 #[test]
 fn a_put_draws_its_number_before_its_key_is_refused(rt: HostRuntime) -> Result<(), Fail> {

@@ -80,6 +80,8 @@ const EIGHT_NUMBERS: [Call; 15] = [
     Call::Gets(Look::Closed(0)),
 ];
 
+/// A plain store puts, claims, fills, removes and seals, and each call answers what was worked out
+/// by hand.
 /// Tests `PlainStore::keep`, `PlainStore::put`, `PlainStore::remove`, `PlainStore::claim`,
 /// `PlainStore::fill`, `PlainStore::fail`, `PlainStore::abandon`, `PlainStore::seal` and
 /// `PlainStore::get`.
@@ -99,6 +101,8 @@ const TWO_NUMBERS: [Call; 7] = [
     Call::Keeps(Err(PlainFault::NumbersFull)),
 ];
 
+/// A plain store of two numbers refuses a put in a sealed context as `Closed` and a third number as
+/// `NumbersFull`.
 /// Tests `PlainStore::keep`, `PlainStore::put`, `PlainStore::remove`, `PlainStore::claim`,
 /// `PlainStore::fill`, `PlainStore::fail`, `PlainStore::abandon` and `PlainStore::seal`.
 #[test]
@@ -118,6 +122,7 @@ const ABANDONED: [Call; 8] = [
     Call::Claims(0, Err(PlainFault::Closed)),
 ];
 
+/// A claim is given up: the place is empty, and once it is sealed a claim is refused as `Closed`.
 /// Tests `PlainStore::keep`, `PlainStore::put`, `PlainStore::remove`, `PlainStore::claim`,
 /// `PlainStore::fill`, `PlainStore::fail`, `PlainStore::abandon` and `PlainStore::seal`.
 #[test]
@@ -167,6 +172,8 @@ const FAILED: [Call; 33] = [
     Call::Gets(Look::Closed(0)),
 ];
 
+/// A failed claim leaves its fault's number, which look-ups and claims meet until it is replaced or
+/// removed, and which a seal does not keep.
 /// Tests `PlainStore::fail`, `PlainStore::put` and `PlainStore::remove`.
 #[test]
 fn failed_place_keeps_its_fault(rt: HostRuntime) {

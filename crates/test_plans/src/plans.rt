@@ -50,6 +50,8 @@ fn plan_told(alloc: Global, plan: &Plan) -> Result<String, AllocError> {
     Ok(lines)
 }
 
+/// A plan of one key and a chain of three contexts is read with its key, its nodes and the steps of
+/// its test.
 /// Tests `read_plan`.
 #[test]
 fn reads_the_chain(rt: HostRuntime) -> Result<(), Fail> {
@@ -129,6 +131,8 @@ const STEPS: [(&str, &str); 5] = [
     ),
 ];
 
+/// Each word is read with its key, text and height, also where a key or a text could be taken for
+/// another word.
 /// Tests `read_plan` and `StepKeys::key_of`.
 #[test]
 fn reads_each_step(rt: HostRuntime) -> Result<(), Fail> {
@@ -160,6 +164,8 @@ const PLANS: [(&str, &str); 2] = [
     ),
 ];
 
+/// Keys with names and namespaces, also empty ones, and nodes in any order of a tree are read as
+/// they stand.
 /// Tests `read_plan`.
 #[test]
 fn reads_names_namespaces_and_trees(rt: HostRuntime) -> Result<(), Fail> {
@@ -216,6 +222,8 @@ const DECLARED: [(usize, &str, &str, &str); 7] = [
     (65, "", "\"no step\"", "plan: P8 node 0"),
 ];
 
+/// A plan declares 64 different keys, under more labels too, and one more is refused as P11, unless
+/// a step has a fault, which comes before.
 /// Tests `keys_are_few` and `read_plan`.
 #[test]
 fn declared_keys_are_64_at_most(rt: HostRuntime) -> Result<(), Fail> {
@@ -242,6 +250,7 @@ fn plan_below(alloc: Global, head: &str, count: usize) -> Result<String, AllocEr
     format!(in alloc; "{head}{}", keys.as_str())
 }
 
+/// A plan declares as many keys as its `keys`, rounded up to 32, and one more is refused as P11.
 /// Tests `keys_are_few` and `read_plan`.
 #[test]
 fn declared_keys_have_a_place_each(rt: HostRuntime) -> Result<(), Fail> {
@@ -279,6 +288,8 @@ fn places_told(alloc: Global, head: &str) -> Result<String, AllocError> {
     }
 }
 
+/// A plan's `keys` of 1 to 1,024 is rounded up to 32, is 64 if not given, and anything else is
+/// refused as P4.
 /// Tests `read_plan`.
 #[test]
 fn reads_how_many_keys_there_are(rt: HostRuntime) -> Result<(), Fail> {
@@ -295,6 +306,7 @@ fn keeps_faults(alloc: Global, head: &str) -> Result<bool, Fail> {
     Ok(read_plan(alloc, text.as_str())?.keep_faults)
 }
 
+/// A plan keeps faults if its `keep_faults` is `true`, and not if that is `false` or not given.
 /// Tests `read_plan`.
 #[test]
 fn reads_whether_faults_are_kept(rt: HostRuntime) -> Result<(), Fail> {
@@ -334,6 +346,7 @@ const NODES: [(usize, Size, &str); 3] = [
     (257, Size::Large, "257 nodes, Large"),
 ];
 
+/// A plan of the usual size has 256 nodes at most, and a large one may have more.
 /// Tests `read_plan_within`.
 #[test]
 fn nodes_are_few_for_the_size(rt: HostRuntime) -> Result<(), Fail> {

@@ -415,6 +415,7 @@ struct Told {
     object: Vec<u8>,
 }
 
+/// Plans whose races were worked out by hand are told with exactly these.
 /// Tests `races`, `races_text`, `Word::text`, `Word::changes`, `Word::looks_along`,
 /// `Word::computes`, `Word::gives_value`, `Word::leaves_closeable` and `Word::has_text`.
 #[test]
@@ -493,6 +494,8 @@ const OBJECTS: [([&str; 6], &str); 3] = [
     ),
 ];
 
+/// Plans with a race, with none, and with computes that share a value are told as JSON, with a mark
+/// in a key escaped.
 /// Tests `races_json`.
 #[test]
 fn races_as_json(rt: HostRuntime) -> Result<(), AllocError> {
@@ -533,6 +536,8 @@ const PUTS: [(u32, Size, &str, &str); 3] = [
     (258, Size::Large, ONE, ONE_OBJECT),
 ];
 
+/// Steps that may draw more numbers than a plan of the usual size has are told as that limit, and
+/// in a large plan they are not.
 /// Tests `races`, `races_text` and `races_json`.
 #[test]
 fn numbers_are_few_for_the_size(rt: HostRuntime) -> Result<(), AllocError> {

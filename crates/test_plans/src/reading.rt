@@ -23,6 +23,8 @@ impl Read for RecoveringReader<'_> {
     }
 }
 
+/// A read fails that would go well the second time, and the run is refused as `Read` without
+/// another.
 /// Tests `read_input`.
 #[test]
 fn first_failing_read_ends_the_run(rt: HostRuntime) -> Result<(), Fail> {
@@ -71,6 +73,8 @@ const LENGTHS: [(usize, Size, Result<usize, RunFault>); 3] = [
     (1_048_577, Size::Large, Ok(1_048_577)),
 ];
 
+/// An input of the usual size is refused from 1,048,577 bytes on as `TooLong`, and a large one is
+/// not.
 /// Tests `read_input`.
 #[test]
 fn bytes_are_few_for_the_size(rt: HostRuntime) -> Result<(), Fail> {

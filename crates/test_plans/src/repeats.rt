@@ -81,6 +81,8 @@ const STEPS: [(&str, &str, &str); 4] = [
     ("", "\"none a up 2\"", "plan: P8 node 2"),
 ];
 
+/// A test with `repeat` is read as a container of its repetitions, and a fault in its steps is told
+/// of its table.
 /// Tests `read_plan`.
 #[test]
 fn reads_repeated_tests(rt: HostRuntime) -> Result<(), Fail> {

@@ -155,6 +155,8 @@ const OF_TWO_CLASSES: [Ended; 7] = [
     Ended { node: 6, ..TEST },
 ];
 
+/// Two classes with values that were computed, found and closed, and with an aborted test, have
+/// their lines and totals, and no node failed.
 /// Tests `report_text` and `any_failed`.
 #[test]
 fn report_of_two_classes(rt: HostRuntime) -> Result<(), Fail> {
@@ -181,6 +183,7 @@ tests 3 successful 2 aborted 1 failed 0 skipped 0
 computed 1 found 2 closed 3 close faults 0
 ";
 
+/// A result is left out, and the tree has no line for it and does not count it.
 /// Tests `tree_report`.
 #[test]
 fn tree_without_a_result(rt: HostRuntime) -> Result<(), Fail> {
@@ -279,6 +282,7 @@ fn report_for_people_of_tests_alone(rt: HostRuntime) -> Result<(), Fail> {
     shows(&rt, rt.alloc(), &WANT_OF_MEMORY, true, wanted)
 }
 
+/// Control characters are written as escapes, line feeds too, and all other characters as they are.
 /// Tests `write_visible`.
 #[test]
 fn control_characters_are_visible(rt: HostRuntime) -> Result<(), Fail> {
@@ -292,6 +296,7 @@ fn control_characters_are_visible(rt: HostRuntime) -> Result<(), Fail> {
     Ok(())
 }
 
+/// Control characters are written as escapes, but line feeds and all other characters as they are.
 /// Tests `write_visible_lines`.
 #[test]
 fn control_characters_of_lines_are_visible(rt: HostRuntime) -> Result<(), Fail> {
@@ -309,6 +314,7 @@ const WANT_OF_MEMORY: [Ended; 1] = [Ended {
     ..TEST
 }];
 
+/// A test that had no memory is reported as failed, with that fault.
 /// Tests `report_text`.
 #[test]
 fn report_of_want_of_memory(rt: HostRuntime) -> Result<(), Fail> {
@@ -331,6 +337,7 @@ const GREATEST_COUNTS: [Ended; 2] = [
     },
 ];
 
+/// Two nodes found as many values as can be counted, and the totals have twice as many.
 /// Tests `report_text`.
 #[test]
 fn report_of_the_greatest_counts(rt: HostRuntime) -> Result<(), Fail> {
@@ -397,6 +404,8 @@ const OF_RESERVE: [Ended; 7] = [CONTAINER, CLASS, CASES, UNUSED, CASE, UNUSED_ST
 /// Those that are left.
 const LEFT: [Ended; 5] = [CONTAINER, CLASS, CASES, CASE, SKIPPED];
 
+/// Nodes kept in reserve that did not come are left out of the results with all below them, and a
+/// skipped test that is no such node stays.
 /// Tests `leave_out_reserve` and `report_text`.
 #[test]
 fn report_without_the_reserve(rt: HostRuntime) -> Result<(), Fail> {

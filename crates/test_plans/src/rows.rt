@@ -112,6 +112,8 @@ pub(crate) fn chain(alloc: Global, steps: &str) -> Result<String, Fail> {
     Ok(text)
 }
 
+/// A method puts a value and wants it: a plain run and runs on one lane and four have the report of
+/// a plan that passes.
 /// Tests `run_plain`, `parallel_results`, `PlanSuite::new`, `may_have_lacked` and `run`.
 #[test]
 fn chain_put_and_want(rt: HostRuntime) -> Result<(), Fail> {
@@ -144,6 +146,7 @@ fn chain_of_puts(alloc: Global, count: u32) -> Result<String, Fail> {
     chain(alloc, steps.as_str())
 }
 
+/// A method puts 65,536 times, and as a large plan it passes in a plain run and on one lane.
 /// Tests `run_plain` and `parallel_results`.
 #[test]
 fn large_plans_draw_more_numbers(rt: HostRuntime) -> Result<(), Fail> {
@@ -212,6 +215,8 @@ fn refuses<R: Threads + Wait + Sync + Abort>(
     Ok(())
 }
 
+/// An empty text, one that is no document, bytes that are no text and a bad step have their line
+/// each, and nothing is written.
 /// Tests `read_plan` and `run`.
 #[test]
 fn refused_plans(rt: HostRuntime) -> Result<(), Fail> {

@@ -30,6 +30,8 @@ fn write_labels(alloc: Global, text: &str, told: &mut String) -> Result<(), Fail
     Ok(())
 }
 
+/// Of four labels two name one key, and the others, which differ in the namespace or its order,
+/// name keys of their own.
 /// Tests `Plan::store_keys` and `PlanKey::store_key`.
 #[test]
 fn labels_name_keys_by_name_and_namespace(rt: HostRuntime) -> Result<(), Fail> {
@@ -124,6 +126,7 @@ fn read_names(alloc: Global, text: &str) -> Result<String, Fail> {
     names_told(alloc, &plan)
 }
 
+/// Steps name keys by labels and by names, and those with the name of a label's key name that key.
 /// Tests `Step::key`, `Step::parts`, `read_plan`, `StepKeys::key_of` and `StepKeys::call`.
 #[test]
 fn steps_name_keys_without_a_label(rt: HostRuntime) -> Result<(), Fail> {

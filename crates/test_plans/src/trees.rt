@@ -78,6 +78,7 @@ const TREES: [(&str, &str); 7] = [
     ("[a:b]\n[a:b]", "id 1 stands twice"),
 ];
 
+/// Ids of a tree have their paths and children, and ids that are none have their first fault.
 /// Tests `Tree::build`, `Tree::path`, `Tree::id` and `Tree::children`.
 #[test]
 fn trees_and_their_faults(rt: HostRuntime) -> Result<(), Fail> {
@@ -119,6 +120,7 @@ fn counts_told(alloc: Global, ids: &[UniqueId]) -> Result<String, AllocError> {
 /// Numbers of children of a root, with what is told of such a tree.
 const CHILDREN: [(u32, &str); 2] = [(255, "256 255"), (256, "too many contexts or keys")];
 
+/// A root with 255 children is a tree, and with one more it is refused.
 /// Tests `Tree::build`.
 #[test]
 fn contexts_are_256_at_most(rt: HostRuntime) -> Result<(), Fail> {
@@ -170,6 +172,7 @@ fn last_context_told(alloc: Global, tree: &Tree) -> Result<String, AllocError> {
     format!(in alloc; "{} {path:?} {children}", tree.len())
 }
 
+/// A tree of 65,536 contexts is built where so many are allowed, and one more is refused.
 /// Tests `Tree::build_within`.
 #[test]
 fn contexts_are_65_536_at_most(rt: HostRuntime) -> Result<(), Fail> {
@@ -194,6 +197,8 @@ const THREE: [(&str, &str); 4] = [
     ("[a:b]\n[a:b]\n[a:b]\n[a:b]", "too many contexts or keys"),
 ];
 
+/// Of at most three contexts a chain of three is built, a fourth is refused as too many before any
+/// other fault, and ids within the limit have their own.
 /// Tests `Tree::build_within`.
 #[test]
 fn contexts_are_as_many_as_asked_for(rt: HostRuntime) -> Result<(), Fail> {
@@ -218,6 +223,7 @@ fn deep(alloc: Global) -> Result<String, AllocError> {
     Ok(ids)
 }
 
+/// A chain of 16 contexts is built, and the path of the deepest has all of them.
 /// Tests `Tree::path`.
 #[test]
 fn paths_are_16_deep_at_most(rt: HostRuntime) -> Result<(), Fail> {

@@ -89,6 +89,10 @@ impl<'a> Suite<Page> for NotedSuite<'a> {
         None
     }
 
+    fn is_enabled(&self, _node: ContextNo) -> bool {
+        true
+    }
+
     fn action(&self, _node: ContextNo) -> LetGo {
         LetGo
     }
@@ -175,6 +179,8 @@ after each of 3
 after all of 1
 ";
 
+/// A class registers one callback of each kind, which are called once round its two tests or round
+/// each of them, for the node that they belong to.
 /// Tests `run_tree`.
 #[test]
 fn callbacks_of_a_class(rt: HostRuntime) {

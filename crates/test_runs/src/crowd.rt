@@ -179,6 +179,8 @@ fn is_reported_on<R: Threads + Wait + Sync>(
 // One report, however many lanes there are. Each run is a test of its own, since a test has a
 // minute, and without a proof it takes a good part of one.
 
+/// On one lane half of the tests come during the run: the report has each of them, and nothing of
+/// the nodes in reserve that were left over.
 /// Tests `run_leaves`, `LeafSuite::is_enabled` and `leave_out_reserve`.
 #[test]
 fn half_of_20_000_tests_come_during_the_run(rt: HostRuntime) -> Result<(), Fail> {
@@ -186,14 +188,14 @@ fn half_of_20_000_tests_come_during_the_run(rt: HostRuntime) -> Result<(), Fail>
     Ok(())
 }
 
-/// Tests `run_leaves`: the same on four lanes.
+/// Tests `run_leaves`: on four lanes half of the tests come, and the report is that of one lane.
 #[test]
 fn half_of_20_000_tests_come_on_4_lanes(rt: HostRuntime) -> Result<(), Fail> {
     assert!(rt; is_reported_on(&rt, rt.alloc(), 4)?);
     Ok(())
 }
 
-/// Tests `run_leaves`: the same on sixteen lanes.
+/// Tests `run_leaves`: on sixteen lanes half of the tests come, and the report is that of one lane.
 #[test]
 fn half_of_20_000_tests_come_on_16_lanes(rt: HostRuntime) -> Result<(), Fail> {
     assert!(rt; is_reported_on(&rt, rt.alloc(), 16)?);

@@ -80,6 +80,8 @@ fn run_two<R: Abort + Threads + Wait + Sync>(rt: &R, alloc: Global, gate: &Meeti
     assert!(rt; ran.is_ok(), "a run");
 }
 
+/// The gate holds each of two children at its start until both have started, so two lanes run them
+/// at once.
 /// Tests `run_tree`.
 #[test]
 fn two_children_run_at_once(rt: HostRuntime) {

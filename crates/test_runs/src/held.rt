@@ -136,6 +136,10 @@ impl<'a> Suite<Table> for TableSuite<'a> {
         }
     }
 
+    fn is_enabled(&self, _node: ContextNo) -> bool {
+        true
+    }
+
     fn action(&self, _node: ContextNo) -> LetTry<'a> {
         LetTry { signs: self.signs }
     }
@@ -285,6 +289,8 @@ fn lock_is_held<R: Threads + Wait + Sync + Abort>(rt: &R, alloc: Global, key: &K
     same(rt, text.as_str(), wanted, "the report");
 }
 
+/// While the context of a test is closed another lane tries to read by the lock by which the test
+/// writes, and is refused as `Taken`.
 /// Tests `run_tree`.
 #[test]
 fn test_locks_are_held_until_its_context_is_closed(rt: HostRuntime) {

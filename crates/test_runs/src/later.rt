@@ -130,7 +130,7 @@ fn rows_come_during_the_run(rt: HostRuntime) -> Result<(), Fail> {
     Ok(())
 }
 
-/// Tests `run_tree`: the same on four lanes.
+/// Tests `run_tree`: on four lanes the report and what is asked for are those of one lane.
 #[test]
 fn rows_come_on_four_lanes(rt: HostRuntime) -> Result<(), Fail> {
     let table = Table::of(3, NONE);

@@ -98,6 +98,10 @@ impl<'a> Suite<Page> for QuietSuite<'a> {
         None
     }
 
+    fn is_enabled(&self, _node: ContextNo) -> bool {
+        true
+    }
+
     fn action(&self, _node: ContextNo) -> LetGo {
         LetGo
     }
@@ -200,18 +204,24 @@ fn value_is_unknown<R: Threads + Wait + Sync + Abort>(rt: &R, alloc: Global, con
     same(rt, why, EngineFault::Unjoined(context, 1), "the refusal");
 }
 
+/// A value of another lane in the root, shown to nobody, refuses the run as `Unjoined`, and each
+/// lane of the run knows the key that its first one named.
 /// Tests `run_tree`.
 #[test]
 fn value_of_another_lane_in_the_root(rt: HostRuntime) {
     value_is_unknown(&rt, rt.alloc(), 0);
 }
 
+/// A value of another lane in a container, shown to nobody, refuses the run as `Unjoined`, with
+/// that context.
 /// Tests `run_tree` and `open_run`.
 #[test]
 fn value_of_another_lane_in_a_container(rt: HostRuntime) {
     value_is_unknown(&rt, rt.alloc(), 1);
 }
 
+/// A value of another lane in the context of a test, shown to nobody, refuses the run as
+/// `Unjoined`, with that context.
 /// Tests `run_tree`.
 #[test]
 fn value_of_another_lane_in_a_test(rt: HostRuntime) {

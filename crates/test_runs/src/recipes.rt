@@ -183,6 +183,8 @@ fn report_on<R: Threads + Wait + Sync, C: Clock + Sync>(
     Ok(text)
 }
 
+/// Four cases share a value: one passes at its second attempt, one fails and the one after it is
+/// aborted, and the report has times, attempts and the slowest two.
 /// Tests `run_leaves`, `UniqueId::append`, `outcome_with`, `report_text_with` and `slowest_tests`.
 #[test]
 fn cases_run_until_one_fails(rt: HostRuntime) -> Result<(), Fail> {

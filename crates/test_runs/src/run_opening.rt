@@ -52,6 +52,8 @@ fn refused(
     );
 }
 
+/// An opening with several mistakes is refused for an id first, then for the tree, for the limits
+/// of the store, and last for the names of the locks.
 /// Tests `open_run` and `read_ids`.
 #[test]
 fn refused_openings_of_runs(rt: HostRuntime) {
@@ -84,6 +86,8 @@ fn lanes_of(alloc: Global, size: Size, lanes: usize) -> Result<(usize, usize), O
     Ok((opened.lanes.len(), opened.lock_lanes.len()))
 }
 
+/// A run opens with 16 lanes of the usual size or 32 of the large one, and is refused one more as
+/// `BadLimit`.
 /// Tests `open_run`.
 #[test]
 fn lanes_by_size(rt: HostRuntime) {
@@ -116,6 +120,8 @@ fn contexts_of(
     Ok(opened.store.tree().len())
 }
 
+/// A run of the usual size opens with 256 contexts and 65,535 numbers, and a large one with more
+/// contexts and 1,048,575 numbers; one more is refused.
 /// Tests `open_run`.
 #[test]
 fn openings_by_size(rt: HostRuntime) -> Result<(), Fail> {
@@ -161,6 +167,8 @@ fn leaves_refused<R: Threads + Wait + Sync>(
     run.err()
 }
 
+/// Leaves run within the limits of lanes and tries, and are refused outside them as `BadLimit`, and
+/// for ids that are no tree or none at all by that fault first.
 /// Tests `run_leaves`.
 #[test]
 fn refused_runs_of_leaves(rt: HostRuntime) {
@@ -185,6 +193,7 @@ fn refused_runs_of_leaves(rt: HostRuntime) {
     assert!(rt; leaves_refused(&rt, alloc, &[], limits(0, 8)) == none);
 }
 
+/// A leaf returns a fault, and its test has failed with that one.
 /// Tests `run_leaves`.
 #[test]
 fn fault_of_a_leaf_is_that_of_its_test(rt: HostRuntime) -> Result<(), Fail> {

@@ -160,6 +160,8 @@ fn tells_lines<R: Abort>(
     Ok(())
 }
 
+/// Of seven nodes some have a time or an attempt, which the reports in JUnit's XML, as text, as a
+/// tree and as JSON lines tell.
 /// Tests `junit_report_with`, `json_report_with`, `report_text_with` and `tree_report_with`.
 #[test]
 fn reports_with_times_and_attempts(rt: HostRuntime) -> Result<(), Fail> {
@@ -204,6 +206,8 @@ took 1.999 s [engine:x]/[class:B]/[method:d()]
 took 0.005 s [engine:x]/[class:A]/[method:a()]
 ";
 
+/// Of four tests as many as are asked for are told, the slowest first, and of two that took as long
+/// the first in the tree; containers are not told.
 /// Tests `slowest_tests`.
 #[test]
 fn slowest_tests_first(rt: HostRuntime) -> Result<(), Fail> {

@@ -94,6 +94,8 @@ impl Scenario for Opened {
     }
 }
 
+/// A look-up and a compute go along a path that leaves out the class, and find nothing of what
+/// stands there, and along one with the class, and find it.
 /// Tests `Store::get_along`, `Store::begin_along` and `Store::begin_along_quietly`.
 #[test]
 fn path_of_its_own_decides(rt: HostRuntime) {
@@ -129,12 +131,15 @@ impl Scenario for Paths {
     }
 }
 
+/// Contexts of the store make a path in any order, and one that is not the store's, or comes twice,
+/// makes none.
 /// Tests `Store::is_trail`.
 #[test]
 fn paths_are_contexts_of_the_store(rt: HostRuntime) {
     with_chain(&rt, rt.alloc(), 8, &Paths);
 }
 
+/// Sixteen contexts of a store make a path, and seventeen make none.
 /// Tests `Store::is_trail`.
 #[test]
 fn paths_are_16_contexts_at_most(rt: HostRuntime) -> Result<(), Fail> {

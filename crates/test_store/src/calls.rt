@@ -16,6 +16,8 @@ use std::process::Abort;
 use std::thread;
 use std::thread::Threads;
 
+/// A value stands in the root: a remove in the class answers nothing, and both lanes find it from
+/// the method then.
 /// Tests `Store::get`, `Store::get_numbered`, `Store::remove` and `Store::remove_numbered`.
 #[test]
 fn remove_own_context_only_in_two_lanes(rt: HostRuntime) {
@@ -29,6 +31,8 @@ fn remove_own_context_only_in_two_lanes(rt: HostRuntime) {
     rows(&rt, rt.alloc(), 8, &all);
 }
 
+/// One lane has put a value in the root, and the first call of the other, a look-up, a remove, a
+/// compute, a put or a close, sees it.
 /// Tests `Store::get`, `Store::put` and `Store::remove`.
 #[test]
 fn first_calls_see_what_another_lane_put(rt: HostRuntime) {
@@ -196,6 +200,7 @@ impl Scenario for SeenByAnother {
     }
 }
 
+/// A lane stores a value in a thread of its own, and both lanes find it and are shown it then.
 /// Tests `Store::show` and `Store::meet`.
 #[test]
 fn value_seen_by_another_lane(rt: HostRuntime) {
@@ -239,6 +244,8 @@ impl Scenario for TwoNumbers {
     }
 }
 
+/// A store of two numbers keeps two values and hands a third back as `NumbersFull`, and the first
+/// can still be put and taken out.
 /// Tests `Store::keep` and `Kept::number`.
 #[test]
 fn numbers_run_out(rt: HostRuntime) {
@@ -284,6 +291,8 @@ impl Scenario for PutElsewhere {
     }
 }
 
+/// A value comes back from a put under a key that gets no number, refused as `DirectoryFull`, and
+/// is put under another key.
 /// Tests `Store::put`, `Store::put_numbered`, `Store::get`, `Store::remove`, `Store::compute`,
 /// `Store::get_wait`, `Store::put_wait`, `Store::remove_wait` and `Store::compute_wait`.
 #[test]
@@ -339,6 +348,8 @@ impl Scenario for AnyOrder {
     }
 }
 
+/// Of two kept values the second is put first, by a caller that goes by the clauses alone, and the
+/// first is found then.
 /// Tests `Store::keep` and `Store::put`.
 #[test]
 fn kept_values_are_stored_in_any_order(rt: HostRuntime) {
@@ -363,6 +374,8 @@ fn opened(
     Some(lanes_and_closers(alloc, contexts(alloc)?, limits))
 }
 
+/// A store opens with the fewest and the most lanes, tries, keys and numbers, and one fewer or more
+/// of any is refused as `BadLimit`.
 /// Tests `Store::open`.
 #[test]
 fn open_within_the_limits_of_the_store(rt: HostRuntime) {

@@ -315,7 +315,7 @@ fn fill(
     ensures { IsLaneOf store.now.id lane.new }
 {
     let filled = if way == Way::TwoQuietCalls {
-        store.fill_quietly(lane, claim, value)
+        store.fill_decided_quietly(lane, claim, value)
     } else {
         store.fill(lane, claim, value)
     };
@@ -346,7 +346,7 @@ fn end_failed(
         return Compute::Failed(fault);
     }
     let failed = if way == Way::TwoQuietCalls {
-        store.fail_quietly(lane, claim, fault)
+        store.fail_decided_quietly(lane, claim, fault)
     } else {
         store.fail(lane, claim, fault)
     };

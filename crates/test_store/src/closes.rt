@@ -47,6 +47,8 @@ impl CloseAction<Letter> for Recorder {
     }
 }
 
+/// Three closeable values stand in a context, one of them put over an earlier one, and a close
+/// gives its action their numbers, the latest first.
 /// Tests `FallingNumbers::put_in`, `FallingNumbers::put_in_kept`, `FallingNumbers::as_slice`,
 /// `Store::open`, `Store::seal`, `CloseAction::close` and `close`.
 #[test]
@@ -62,6 +64,8 @@ fn closes_latest_first(rt: HostRuntime) {
     rows(&rt, rt.alloc(), 8, &all);
 }
 
+/// A context without a value is closed: look-ups from it are answered `Closed`, and those from the
+/// class above it find nothing.
 /// Tests `CloseAction::close` and `close`.
 #[test]
 fn empty_context_is_closed(rt: HostRuntime) {
@@ -73,6 +77,8 @@ fn empty_context_is_closed(rt: HostRuntime) {
     rows(&rt, rt.alloc(), 8, &all);
 }
 
+/// A close by a lane that was not shown the value of another is refused as `Unjoined`, and one with
+/// both lanes closes it.
 /// Tests `Store::knows`, `CloseAction::close` and `close`.
 #[test]
 fn unjoined_lane_refuses_close(rt: HostRuntime) {
@@ -84,6 +90,7 @@ fn unjoined_lane_refuses_close(rt: HostRuntime) {
     rows(&rt, rt.alloc(), 8, &all);
 }
 
+/// Of three values in a context one is closeable, and a close gives its action that one alone.
 /// Tests `Store::seal`, `CloseAction::close` and `close`.
 #[test]
 fn values_that_are_not_closeable_stay(rt: HostRuntime) {
@@ -96,6 +103,8 @@ fn values_that_are_not_closeable_stay(rt: HostRuntime) {
     rows(&rt, rt.alloc(), 8, &all);
 }
 
+/// The action fails for each of three values: it is given all three, and the close tells the first
+/// fault and how many there are beside it.
 /// Tests `CloseAction::close` and `close`.
 #[test]
 fn faults_do_not_stop_the_others(rt: HostRuntime) {

@@ -13,6 +13,7 @@ use std::alloc::Global;
 use std::process::Abort;
 use std::thread::Threads;
 
+/// A factory fails and nothing is found then, so the next compute stores its value.
 /// Tests `Store::compute` and `Store::compute_numbered`.
 #[test]
 fn failed_factory_leaves_cell_empty(rt: HostRuntime) {
@@ -26,9 +27,11 @@ fn failed_factory_leaves_cell_empty(rt: HostRuntime) {
     rows(&rt, rt.alloc(), 8, &all);
 }
 
+/// A compute made of a begin and what ends its claim answers as one call does: it computes, finds,
+/// fails, and meets a kept fault.
 /// Tests `Store::begin`, `Store::begin_numbered`, `Store::begin_numbered_quietly`, `Store::fill`,
-/// `Store::fill_quietly`, `Store::fail`, `Store::fail_quietly`, `Store::abandon` and
-/// `Store::abandon_quietly`.
+/// `Store::fill_decided_quietly`, `Store::fail`, `Store::fail_decided_quietly`, `Store::abandon`
+/// and `Store::abandon_quietly`.
 #[test]
 fn two_calls_answer_as_one(rt: HostRuntime) {
     let found = Look::Found { at: 1, number: 1 };
@@ -55,6 +58,8 @@ fn two_calls_answer_as_one(rt: HostRuntime) {
     rows_with_faults(&rt, rt.alloc(), 8, &all);
 }
 
+/// A value stands in the root: computes of both lanes in the method find it, their factories come
+/// back unused, and under another key nothing is found.
 /// Tests `Store::get`, `Store::get_numbered`, `Store::put`, `Store::remove`, `Store::compute`,
 /// `Store::get_wait`, `Store::put_wait`, `Store::remove_wait`, `Store::compute_wait` and
 /// `Store::compute_numbered`.
@@ -71,6 +76,8 @@ fn value_at_root_leaves_factory_unused(rt: HostRuntime) {
     rows(&rt, rt.alloc(), 8, &all);
 }
 
+/// A lane computes a value in the class, which both find from the method and are shown, until it is
+/// removed and a compute in the method stores another.
 /// Tests `Store::compute` and `Store::compute_numbered`.
 #[test]
 fn computed_value_is_shown_and_found(rt: HostRuntime) {
@@ -86,7 +93,10 @@ fn computed_value_is_shown_and_found(rt: HostRuntime) {
     rows(&rt, rt.alloc(), 8, &all);
 }
 
-/// Tests `Store::compute`, `Store::compute_numbered`, `Store::fill` and `Store::fill_quietly`.
+/// The only number is drawn, so a compute hands its value back as `Unkept`, and neither lane finds
+/// anything there.
+/// Tests `Store::compute`, `Store::compute_numbered`, `Store::fill` and
+/// `Store::fill_decided_quietly`.
 #[test]
 fn compute_without_a_number_hands_its_value_back(rt: HostRuntime) {
     let all = [
@@ -174,6 +184,7 @@ impl Scenario for Boxed {
     }
 }
 
+/// A box that a caller made is the factory, and the value of its first call is stored.
 /// Tests `Store::compute` and `Store::compute_numbered`.
 #[test]
 fn caller_gives_a_box(rt: HostRuntime) {

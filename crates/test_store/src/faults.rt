@@ -4,6 +4,8 @@ use crate::opening::{closeable, plain};
 use ext_model::Look;
 use ext_store::{KeepFault, Refusal};
 
+/// A kept fault is shown and met from below until a put replaces it, and a close of a context with
+/// a value and a fault closes the value alone.
 /// Tests `Store::open`, `Store::keeps_faults`, `Store::get`, `Store::get_numbered`,
 /// `Store::get_wait`, `Store::get_wait_numbered`, `Store::put`, `Store::remove`,
 /// `Store::show_fault`, `Store::compute`, `Store::compute_numbered`, `CloseAction::close` and
@@ -26,6 +28,8 @@ fn kept_fault_stands_until_it_is_replaced(rt: HostRuntime) {
     rows_with_faults(&rt, rt.alloc(), 8, &all);
 }
 
+/// A fault kept in the root is met from the method until it is removed: then a factory runs there,
+/// and the fault can still be shown.
 /// Tests `Store::put`, `Store::remove`, `Store::show_fault`, `Store::compute` and
 /// `Store::compute_numbered`.
 #[test]
@@ -44,6 +48,7 @@ fn removed_fault_lets_a_factory_run(rt: HostRuntime) {
     rows_with_faults(&rt, rt.alloc(), 8, &all);
 }
 
+/// A kept fault is shown to both lanes as a fault and not as a value, and a value not as a fault.
 /// Tests `Store::show_fault`.
 #[test]
 fn fault_is_shown_to_each_lane_and_is_no_value(rt: HostRuntime) {
@@ -61,6 +66,8 @@ fn fault_is_shown_to_each_lane_and_is_no_value(rt: HostRuntime) {
     rows_with_faults(&rt, rt.alloc(), 8, &all);
 }
 
+/// Two faults and a value are kept along a path, and look-ups and computes meet the nearest, and
+/// the next one once that is removed.
 /// Tests `Store::get`, `Store::get_numbered`, `Store::get_wait` and `Store::get_wait_numbered`.
 #[test]
 fn nearest_of_faults_and_values_decides(rt: HostRuntime) {
@@ -83,6 +90,8 @@ fn nearest_of_faults_and_values_decides(rt: HostRuntime) {
     rows_with_faults(&rt, rt.alloc(), 8, &all);
 }
 
+/// A context with a fault and no closeable value is closed: its action is given nothing, calls
+/// there are answered `Closed`, and the fault can still be shown.
 /// Tests `CloseAction::close` and `close`.
 #[test]
 fn closed_context_passes_over_its_faults(rt: HostRuntime) {
@@ -103,7 +112,9 @@ fn closed_context_passes_over_its_faults(rt: HostRuntime) {
     rows_with_faults(&rt, rt.alloc(), 8, &all);
 }
 
-/// Tests `Store::compute`, `Store::fail` and `Store::fail_quietly`.
+/// The only number is drawn, so the fault of a factory comes back as `FaultUnkept`, and nothing is
+/// found or shown.
+/// Tests `Store::compute`, `Store::fail` and `Store::fail_decided_quietly`.
 #[test]
 fn fault_without_a_number_comes_back(rt: HostRuntime) {
     let all = [
@@ -120,6 +131,7 @@ fn fault_without_a_number_comes_back(rt: HostRuntime) {
     rows_with_faults(&rt, rt.alloc(), 1, &all);
 }
 
+/// In a store that keeps no faults a factory fails, and nothing is found or shown then.
 /// Tests `Store::open`, `Store::keeps_faults`, `Store::get`, `Store::get_numbered`,
 /// `Store::get_wait`, `Store::get_wait_numbered`, `Store::show_fault`, `Store::compute`,
 /// `Store::compute_numbered`, `Store::compute_wait` and `Store::compute_wait_numbered`.

@@ -38,6 +38,8 @@ pub(crate) fn name_from<R: Abort, V: StoreValue + Drop>(
     }
 }
 
+/// All 64 numbers are given: each call by a further key is refused as `DirectoryFull`, and those by
+/// the last key that has one are not.
 /// Tests `Kept::number`, `Lane::number`, `Store::number`, `Store::get`, `Store::put`,
 /// `Store::remove`, `Store::compute`, `Store::get_wait`, `Store::put_wait`, `Store::remove_wait`,
 /// `Store::compute_wait` and `Store::compute_numbered`.

@@ -13,6 +13,8 @@ use std::alloc::Global;
 use std::process::Abort;
 use std::thread::Threads;
 
+/// Two lanes name three keys, in different orders: each key has one number in both, and one lane
+/// finds what the other put under it.
 /// Tests `Kept::number`, `Lane::number`, `Store::number`, `Store::key_count` and `Lane::knows_key`.
 #[test]
 fn key_has_one_number_in_both_lanes(rt: HostRuntime) {
@@ -32,6 +34,8 @@ fn key_has_one_number_in_both_lanes(rt: HostRuntime) {
     rows(&rt, rt.alloc(), 8, &all);
 }
 
+/// A look-up, a remove and a compute give their keys the first three numbers, which both lanes are
+/// told.
 /// Tests `Kept::number`, `Lane::number`, `Store::number`, `Store::key_count` and `Lane::knows_key`.
 #[test]
 fn look_up_and_remove_take_a_number(rt: HostRuntime) {
@@ -46,6 +50,8 @@ fn look_up_and_remove_take_a_number(rt: HostRuntime) {
     rows(&rt, rt.alloc(), 8, &all);
 }
 
+/// A context is closed before several keys are named: calls there by these keys are refused as
+/// `Closed`, and those in the class above are not until that is closed.
 /// Tests `CloseAction::close` and `close`.
 #[test]
 fn closed_to_keys_named_later(rt: HostRuntime) {
@@ -136,6 +142,8 @@ impl Scenario for NumberBeforeKey {
     }
 }
 
+/// A value is put under a number that no key has yet, and the key that gets it later finds the
+/// value.
 /// Tests `Kept::number`, `Lane::number`, `Store::number`, `Store::key_count`, `Lane::knows_key`,
 /// `Store::get`, `Store::get_numbered`, `Store::put`, `Store::remove`, `Store::compute`,
 /// `Store::get_wait`, `Store::put_wait`, `Store::remove_wait` and `Store::compute_wait`.

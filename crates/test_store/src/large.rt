@@ -90,6 +90,8 @@ fn put_after<R: Abort>(rt: &R, alloc: Global, before: u32, numbers: u32) {
     );
 }
 
+/// A lane draws 66,000 numbers and puts the value of the next one, which another lane finds and is
+/// shown.
 /// Tests `Store::open`, `Store::keep`, `Kept::number`, `Store::put`, `Store::get` and
 /// `Store::show`.
 #[test]
@@ -104,8 +106,10 @@ fn last_number_is_shown_to_another_lane(rt: HostRuntime) {
     put_after(&rt, rt.alloc(), 1_048_574, 1_048_575);
 }
 
+/// The last two of 32 lanes put, find, compute and remove what the other sees then, and the method
+/// is closed once the lane that computed is in hand.
 /// Tests `Store::number`, `Store::get`, `Store::put`, `Store::remove`, `Store::compute`,
-/// `Store::begin`, `Store::begin_numbered_quietly`, `Store::fill`, `Store::fill_quietly`,
+/// `Store::begin`, `Store::begin_numbered_quietly`, `Store::fill`, `Store::fill_decided_quietly`,
 /// `Store::abandon`, `Store::abandon_quietly`, `Store::show`, `Lane::number` and `close`.
 #[test]
 fn last_of_32_lanes_makes_all_calls(rt: HostRuntime) {
@@ -132,6 +136,8 @@ fn last_of_32_lanes_makes_all_calls(rt: HostRuntime) {
     rows_by_last_lanes(&rt, rt.alloc(), 8, &all);
 }
 
+/// A store opens with 65,535 numbers of the usual size or 1,048,575 of the large one, and is
+/// refused one more as `BadLimit`.
 /// Tests `Store::open`.
 #[test]
 fn open_within_the_numbers_of_a_size(rt: HostRuntime) {
@@ -258,6 +264,8 @@ fn close_last<R: Abort>(rt: &R, alloc: Global, classes: u32) -> Result<(), Fail>
     Ok(())
 }
 
+/// In a large store a value is put in the last of 300 contexts, is found there, and is the only one
+/// that a close gives its action.
 /// Tests `Tree::build_within`, `Store::open`, `Closer::context`, `Store::put`, `Store::get` and
 /// `close`.
 #[test]
@@ -304,6 +312,8 @@ fn close_all<R: Abort>(
     }
 }
 
+/// Each of 1,000 contexts has a value, and their closes, the last context first, each give the
+/// action that one alone.
 /// Tests `Tree::build_within`, `Store::open`, `Store::put` and `close`.
 #[test]
 fn all_of_1000_contexts_are_closed(rt: HostRuntime) -> Result<(), Fail> {

@@ -125,6 +125,8 @@ fn put_and_close<R: Abort>(rt: &R, alloc: Global, unused: usize, count: usize, p
     closes_latest_first(rt, alloc, &store, &mut first, closer, count);
 }
 
+/// A context has from one to 1,024 values, in one block of keys or several, and a close gives its
+/// action all their numbers, the latest first.
 /// Tests `Store::open`, `Store::key_count`, `Store::number`, `Store::put`, `Store::seal_unused`,
 /// `FallingNumbers::put_in` and `close`.
 #[test]
@@ -201,6 +203,8 @@ fn compute_under_last<R: Abort>(
     same(rt, removed, Ok(Some(1)), "the remove");
 }
 
+/// One lane names 1,024 keys, another computes a value under the last of them, and the first finds
+/// it and takes it out.
 /// Tests `Store::number`, `Lane::knows_key`, `Store::compute_numbered`, `Store::get_numbered` and
 /// `Store::remove_numbered`.
 #[test]

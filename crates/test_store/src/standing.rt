@@ -157,12 +157,16 @@ fn claim_stands_in_all_cases<R: Abort + Wait>(rt: &R, alloc: Global, waits: bool
     claim_stands(rt, alloc, fault_unkept, End::FaultUnkept);
 }
 
+/// A factory looks up its own key by another lane and is answered `Busy`, whether its value or its
+/// fault is kept afterwards or not.
 /// Tests `Store::compute`.
 #[test]
 fn claim_stands_while_a_factory_runs(rt: HostRuntime) {
     claim_stands_in_all_cases(&rt, rt.alloc(), false);
 }
 
+/// A factory of a waiting form looks up its own key by another lane and is answered `Busy`, whether
+/// its value or its fault is kept afterwards or not.
 /// Tests `Store::compute_wait`.
 #[test]
 fn claim_stands_while_a_factory_of_a_waiting_form_runs(rt: HostRuntime) {

@@ -52,6 +52,8 @@ const WIDEST: Limits = Limits {
     size: Size::Usual,
 };
 
+/// A store of the usual size with as much of everything as there can be opens with 16 lanes and 256
+/// closers.
 /// Tests `Store::open`.
 #[test]
 fn widest_store_is_opened(rt: HostRuntime) -> Result<(), Fail> {

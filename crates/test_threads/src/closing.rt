@@ -242,6 +242,8 @@ fn race_once<R: Abort + Threads + Sync>(
     settle(rt, alloc, store, first, second, key);
 }
 
+/// A lane puts a value under a new key while another closes the context, in 1,000 races: the value
+/// comes back and is put above, or it stands and is closed later.
 /// Tests `Store::put` and `close`.
 #[test]
 fn key_is_named_while_its_context_is_closed(rt: HostRuntime) {

@@ -342,6 +342,8 @@ fn open(alloc: Global) -> Option<Opened>
     })
 }
 
+/// Fifteen lanes put a value each under new keys while another closes their context, in 1,000
+/// rounds: each value is closed once, with that context or with the one above.
 /// Tests `Store::put` and `close`.
 #[test]
 fn sixteen_lanes_name_keys_while_their_context_is_closed(rt: HostRuntime) {

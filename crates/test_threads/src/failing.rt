@@ -175,6 +175,8 @@ fn fail_once<R: Abort + Threads + Wait + Clock + Sync>(
     same(rt, signs.runs.load(Ordering::SeqCst), 1, "factories");
 }
 
+/// Two threads compute one key by factories that fail: one of them runs, and both lanes are shown
+/// its fault.
 /// Tests `Store::compute` and `Store::compute_numbered`.
 #[test]
 fn failing_factory_runs_once_for_two_lanes(rt: HostRuntime) {

@@ -137,6 +137,8 @@ fn run_and_call_beside<R: Abort + Clock + Threads + Sync>(
     call_afterwards(rt, alloc, store, closer, &mut hand, kept, &keys[0]);
 }
 
+/// While a factory is held another lane's calls at its key are answered `Busy`, those at another
+/// key are not, and after a close by both lanes they are answered `Closed`.
 /// Tests `Store::get`, `Store::get_numbered`, `Store::put`, `Store::put_numbered`,
 /// `CloseAction::close` and `close`.
 #[test]
@@ -201,6 +203,8 @@ fn run_and_put_above<R: Abort + Clock + Threads + Sync>(
     look(rt, store, &mut first, 0, name, above);
 }
 
+/// A lane puts a value in the root while a factory in the class runs, which has looked there
+/// before, so both values stand and each is found.
 /// Tests `Store::compute` and `Store::compute_numbered`.
 #[test]
 fn a_parent_value_after_the_second_look(rt: HostRuntime) {
@@ -324,6 +328,8 @@ fn run_and_close_beside<R: Abort + Clock + Threads + Sync>(
     close_twice(rt, alloc, store, closer, first, second);
 }
 
+/// A close is refused as `Busy` while a factory runs and as `Unjoined` without the factory's lane,
+/// and by both lanes it closes all values.
 /// Tests `CloseAction::close` and `close`.
 #[test]
 fn close_waits_for_the_factory_and_its_lane(rt: HostRuntime) {

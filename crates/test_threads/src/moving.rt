@@ -153,6 +153,8 @@ fn never_missed<R: Abort + Threads + Wait + Sync>(
     same(rt, shown, true, "each number's value is shown");
 }
 
+/// A value goes from the root to the class and back, stored before it is removed, and another lane
+/// finds it at each of 100,000 looks and is shown each number's value then.
 /// Tests `Store::get` and `Store::get_numbered`.
 #[test]
 fn value_that_moves_is_never_missed(rt: HostRuntime) {

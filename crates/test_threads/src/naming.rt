@@ -283,12 +283,16 @@ fn name_often<R: Abort + Threads + Sync>(rt: &R, alloc: Global, lanes: usize) {
     }
 }
 
+/// Two lanes name ten keys at once, in opposite orders, in 1,000 rounds: in each a key has one
+/// number, and both lanes find what was put under it.
 /// Tests `Store::meet`.
 #[test]
 fn two_lanes_name_keys_in_opposite_orders(rt: HostRuntime) {
     name_often(&rt, rt.alloc(), 2);
 }
 
+/// Sixteen lanes name ten keys at once, every other one in the opposite order, in 1,000 rounds: in
+/// each a key has one number, and all lanes find what was put under it.
 /// Tests `Store::meet`.
 #[test]
 fn sixteen_lanes_name_keys_in_opposite_orders(rt: HostRuntime) {

@@ -160,6 +160,8 @@ fn open_for_numbers(alloc: Global) -> Option<Opened<Letter>>
     open_store(alloc, limits)
 }
 
+/// One lane puts 1,000 numbers, each over the one before, and no look-up of another lane meanwhile
+/// finds a lower number than one before it.
 /// Tests `Store::get` and `Store::get_numbered`.
 #[test]
 fn numbers_never_fall(rt: HostRuntime) {

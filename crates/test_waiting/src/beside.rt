@@ -17,7 +17,7 @@ use std::time::Clock;
 
 /// The call that waits.
 #[derive(Clone, Copy)]
-enum Call {
+pub(crate) enum Call {
     /// A look-up from the method.
     Get,
     /// A compute from the method.
@@ -27,7 +27,7 @@ enum Call {
 }
 
 /// What the call finds; nothing where it is refused, or has another answer.
-fn found_by<R: Wait>(
+pub(crate) fn found_by<R: Wait>(
     rt: &R,
     store: &Store<Letter>,
     lane: &mut Lane<Letter>,

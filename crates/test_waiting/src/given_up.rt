@@ -1,12 +1,10 @@
-//! Claims that are given up since an ancestor got a value meanwhile: a lane that sleeps for one
-//! goes on. And computes that are refused, which wake all who sleep, since they may have given a
-//! claim up.
+//! Claims that are given up, since an ancestor got a value meanwhile, wake all who sleep.
 ghost use Rattle.std.specs.Prelude.{◌<◌, All, length};
 ghost use Rattle.ext_store.specs.Stores.{IsLaneOf};
 
-use crate::held::{Gate, same, watch_more};
-use crate::opening::{Letter, limits, with_pair, with_store};
-use ext_model::{Fault, KeyNo, Look};
+use crate::held::{Gate, same, watch_next};
+use crate::opening::{Letter, limits, with_store};
+use ext_model::{Fault, KeyNo};
 use ext_store::{Closer, Compute, Lane, Store, Unused};
 use ext_tree::Key;
 use std::alloc::Global;
@@ -17,133 +15,223 @@ use std::test::Fail;
 use std::thread::{Threads, join};
 use std::time::Clock;
 
-// How often a value is put at the root and taken out again.
+// How often a value is put at the root and taken out again in one round, at most.
 const PUTS: u64 = 60_000;
 
-/// How far the three lanes are.
+// How often a compute begins in one round, at most.
+const BEGINS: u64 = 2_000_000;
+
+// How many rounds there are at most: in one of them a claim is given up before a factory runs.
+const ROUNDS: u64 = 400;
+
+/// How a compute begins.
+#[derive(Clone, Copy)]
+enum Begin {
+    /// By `begin_numbered`.
+    Plain,
+    /// By `begin_along`.
+    Along,
+    /// By `compute_wait`.
+    Waiting,
+}
+
+/// How far the lanes of a round are: one sleeps in the class, one puts and removes values at the
+/// root, and one begins computes in the method.
 #[derive(Drop)]
-struct Progress {
-    /// Removes that were answered, of the lane that sleeps.
-    removes: AtomicU64,
-    /// Computes that found a value or were in the way of a put: some of them have given their claim
-    /// up.
-    unused: AtomicU64,
-    /// How many lanes have ended: first the one that puts, and then the one that computes.
-    ended: AtomicU64,
+struct Round {
+    begin: Begin,
+    /// Holds the others until the first lane sleeps.
+    gate: Gate,
+    /// 1 while values are to be put.
+    puts_go_on: AtomicU64,
+    puts: AtomicU64,
+    /// 1 where the lane that slept went on though no claim was ended but by giving it up.
+    woken: AtomicU64,
 }
 
-/// Puts a value at the root and takes it out again; says whether it was kept.
-fn put_and_remove(store: &Store<Letter>, lane: &mut Lane<Letter>, key: &Key) -> bool
-    requires lane { IsLaneOf store.now.id lane.old }
-    requires context { 0 < length store.now.tree }
-    ensures { IsLaneOf store.now.id lane.new }
-{
-    let Ok(kept) = store.keep(lane, Letter { letter: 'x' }) else {
-        return false;
-    };
-    let put = store.put(lane, 0, key, kept);
-    let removed = store.remove(lane, 0, key);
-    put.is_ok() && removed.is_ok()
-}
-
-/// Puts a value at the root, and takes it out again once the lane that computes has met it.
-fn put_until_met<R: Abort + Clock>(
-    rt: &R,
-    store: &Store<Letter>,
-    lane: &mut Lane<Letter>,
-    key: &Key,
-    progress: &Progress,
-)
-    requires lane { IsLaneOf store.now.id lane.old }
-    requires context { 0 < length store.now.tree }
-    ensures { IsLaneOf store.now.id lane.new }
-{
-    let Ok(kept) = store.keep(lane, Letter { letter: 'x' }) else {
-        return;
-    };
-    let _put = store.put(lane, 0, key, kept);
-    watch_more(rt, &progress.unused);
-    let _removed = store.remove(lane, 0, key);
-}
-
-/// Puts and removes again and again, without waiting.
-fn put_above(store: &Store<Letter>, lane: &mut Lane<Letter>, key: &Key, progress: &Progress)
-    requires lane { IsLaneOf store.now.id lane.old }
-    requires context { 0 < length store.now.tree }
-{
-    for _ in 0..PUTS {
-        put_and_remove(store, lane, key);
+impl Round {
+    fn new(begin: Begin) -> Round {
+        Round {
+            begin,
+            gate: Gate::new(1),
+            puts_go_on: AtomicU64::new(0),
+            puts: AtomicU64::new(0),
+            woken: AtomicU64::new(0),
+        }
     }
-    progress.ended.store(1, Ordering::SeqCst);
+
+    fn start_puts<R: Abort + Clock>(&self, rt: &R) {
+        self.puts_go_on.store(1, Ordering::SeqCst);
+        watch_next(rt, &self.puts, 0);
+    }
+
+    fn end_puts(&self) {
+        self.puts_go_on.store(2, Ordering::SeqCst);
+    }
+
+    /// Tells that the lane which slept went on, where it has.
+    fn tell_woken(&self, is_woken: bool) {
+        if is_woken {
+            self.woken.store(1, Ordering::SeqCst);
+        }
+    }
 }
 
-/// Puts once until the two others have begun, and then again and again.
-fn put_beside<R: Abort + Clock>(
-    rt: &R,
-    store: &Store<Letter>,
-    lane: &mut Lane<Letter>,
-    key: &Key,
-    progress: &Progress,
-)
+/// Puts a value at the root and takes it out again, where a number is left.
+fn put_and_remove(store: &Store<Letter>, lane: &mut Lane<Letter>, key: &Key)
     requires lane { IsLaneOf store.now.id lane.old }
     requires context { 0 < length store.now.tree }
+    ensures { IsLaneOf store.now.id lane.new }
 {
-    put_until_met(rt, store, lane, key, progress);
-    put_above(store, lane, key, progress);
+    if let Ok(kept) = store.keep(lane, Letter { letter: 'x' }) {
+        let _put = store.put(lane, 0, key, kept);
+        let _removed = store.remove(lane, 0, key);
+    }
 }
 
-/// Removes in the method until the two others have ended: it sleeps where it meets a claim twice.
-fn remove_below<R: Wait>(
-    rt: &R,
-    store: &Store<Letter>,
-    lane: &mut Lane<Letter>,
-    key: &Key,
-    progress: &Progress,
-)
+/// Puts and removes values at the root while the round asks for them.
+fn race<R: Wait>(rt: &R, store: &Store<Letter>, lane: &mut Lane<Letter>, key: &Key, round: &Round)
     requires lane { IsLaneOf store.now.id lane.old }
-    requires context { 2 < length store.now.tree }
+    requires context { 0 < length store.now.tree }
 {
     for _ in rt.forever() {
-        if progress.ended.load(Ordering::SeqCst) == 2 {
-            break;
+        match round.puts_go_on.load(Ordering::SeqCst) {
+            0 => {}
+            1 if round.puts.load(Ordering::SeqCst) < PUTS => {
+                put_and_remove(store, lane, key);
+                round.puts.fetch_add(1, Ordering::SeqCst);
+            }
+            _ => break,
         }
-        let _removed = store.remove_wait(rt, lane, 2, key);
-        progress.removes.fetch_add(1, Ordering::SeqCst);
     }
 }
 
-/// Computes in the method; says whether the factory ran.
-fn compute_below(store: &Store<Letter>, lane: &mut Lane<Letter>, key: &Key) -> bool
-    requires lane { IsLaneOf store.now.id lane.old }
-    requires context { 2 < length store.now.tree }
-    ensures { IsLaneOf store.now.id lane.new }
-{
-    let factory = |_key: &Key| -> Result<Letter, Fault> { Err(Fault::Memory) };
-    matches!(store.compute(lane, 2, key, factory), Compute::Failed(_))
-}
-
-/// Computes until the lane that puts has ended. Where no factory ran the claim was given up, or
-/// there was none: the lane that removes goes on, or the test fails.
-fn compute_beside<R: Abort + Clock>(
+/// Waits in the class for the claim that holds the gate.
+fn sleep_in_class<R: Clock + Wait>(
     rt: &R,
     store: &Store<Letter>,
     lane: &mut Lane<Letter>,
     key: &Key,
-    progress: &Progress,
+    gate: &Gate,
+)
+    requires lane { IsLaneOf store.now.id lane.old }
+    requires context { 1 < length store.now.tree }
+{
+    gate.come(rt);
+    let _looked = store.get_wait(rt, lane, 1, key);
+    gate.end();
+}
+
+/// Claims the class's place until another lane sleeps for it, and ends the claim so that nobody is
+/// woken. Says whether that lane sleeps.
+fn put_to_sleep<R: Clock>(
+    rt: &R,
+    store: &Store<Letter>,
+    lane: &mut Lane<Letter>,
+    number: KeyNo,
+    gate: &Gate,
+) -> bool
+    requires lane { IsLaneOf store.now.id lane.old }
+    requires context { 2 < length store.now.tree }
+    requires key { number < length store.now.id.keys }
+    ensures { IsLaneOf store.now.id lane.new }
+{
+    let Ok(claim) = store.begin_numbered(lane, 1, number) else {
+        return false;
+    };
+    let sleeps = gate.pass(rt);
+    store.abandon_quietly(lane, claim);
+    sleeps
+}
+
+/// Begins a compute in the method, and ends it so that nobody is woken.
+fn begin_quietly(store: &Store<Letter>, lane: &mut Lane<Letter>, number: KeyNo, along: bool)
+    requires lane { IsLaneOf store.now.id lane.old }
+    requires context { 2 < length store.now.tree }
+    requires key { number < length store.now.id.keys }
+    ensures { IsLaneOf store.now.id lane.new }
+{
+    let path = [2, 1, 0];
+    let begun = if along && store.is_trail(&path) {
+        store.begin_along(lane, &path, number)
+    } else {
+        store.begin_numbered(lane, 2, number)
+    };
+    if let Ok(claim) = begun {
+        store.abandon_quietly(lane, claim);
+    }
+}
+
+/// Computes in the method. Where its factory is called, it tells whether the lane that sleeps went
+/// on before, and ends the round.
+fn compute_waiting<R: Clock + Wait>(
+    rt: &R,
+    store: &Store<Letter>,
+    lane: &mut Lane<Letter>,
+    key: &Key,
+    round: &Round,
+)
+    requires lane { IsLaneOf store.now.id lane.old }
+    requires context { 2 < length store.now.tree }
+    ensures { IsLaneOf store.now.id lane.new }
+{
+    let factory = |_key: &Key| -> Result<Letter, Fault> {
+        round.end_puts();
+        round.tell_woken(round.gate.ends_soon(rt));
+        Err(Fault::Memory)
+    };
+    let _computed = store.compute_wait(rt, lane, 2, key, factory);
+}
+
+/// Begins computes in the method until the lane that sleeps went on, or a factory is called.
+fn begin_until_woken<R: Clock + Wait>(
+    rt: &R,
+    store: &Store<Letter>,
+    lane: &mut Lane<Letter>,
+    key: &Key,
+    number: KeyNo,
+    round: &Round,
+)
+    requires lane { IsLaneOf store.now.id lane.old }
+    requires context { 2 < length store.now.tree }
+    requires key { number < length store.now.id.keys }
+{
+    for _ in 0..BEGINS {
+        if round.puts_go_on.load(Ordering::SeqCst) != 1 {
+            break;
+        }
+        if round.gate.has_ended() {
+            round.tell_woken(true);
+            break;
+        }
+        match round.begin {
+            Begin::Plain => begin_quietly(store, lane, number, false),
+            Begin::Along => begin_quietly(store, lane, number, true),
+            Begin::Waiting => compute_waiting(rt, store, lane, key, round),
+        }
+    }
+}
+
+/// Has another lane sleep, and begins computes until it goes on. Where nothing wakes it the test
+/// fails.
+fn wake_by_giving_up<R: Abort + Clock + Wait>(
+    rt: &R,
+    store: &Store<Letter>,
+    lane: &mut Lane<Letter>,
+    key: &Key,
+    round: &Round,
 )
     requires lane { IsLaneOf store.now.id lane.old }
     requires context { 2 < length store.now.tree }
 {
-    for _ in 0..u64::MAX {
-        if progress.ended.load(Ordering::SeqCst) == 1 {
-            break;
-        }
-        if !compute_below(store, lane, key) {
-            progress.unused.fetch_add(1, Ordering::SeqCst);
-            watch_more(rt, &progress.removes);
-        }
+    if let Ok(number) = store.number(lane, key)
+        && put_to_sleep(rt, store, lane, number, &round.gate)
+    {
+        round.start_puts(rt);
+        begin_until_woken(rt, store, lane, key, number, round);
     }
-    progress.ended.store(2, Ordering::SeqCst);
+    round.end_puts();
+    round.gate.watch(rt);
 }
 
 /// The three lanes at once, each in a thread of its own.
@@ -152,7 +240,7 @@ fn run<R: Abort + Clock + Threads + Wait + Sync>(
     store: &Store<Letter>,
     key: &Key,
     lanes: &mut [Lane<Letter>],
-    progress: &Progress,
+    round: &Round,
 )
     requires lanes { All (IsLaneOf store.now.id) lanes.old }
     requires contexts { 2 < length store.now.tree }
@@ -169,229 +257,69 @@ fn run<R: Abort + Clock + Threads + Wait + Sync>(
                 rt,
                 ||
                     requires { IsLaneOf store.now.id first.now × (2 < length store.now.tree) }
-                { put_beside(rt, store, first, key, progress) },
+                { wake_by_giving_up(rt, store, first, key, round) },
                 ||
                     requires { IsLaneOf store.now.id second.now × (2 < length store.now.tree) }
-                { compute_beside(rt, store, second, key, progress) },
+                { race(rt, store, second, key, round) },
             );
         },
         ||
             requires { IsLaneOf store.now.id third.now × (2 < length store.now.tree) }
-        { remove_below(rt, store, third, key, progress) },
+        { sleep_in_class(rt, store, third, key, &round.gate) },
     );
 }
 
-/// Asserts that some computes found a value, or were in the way of a put.
-fn settle<R: Abort + Clock + Threads + Wait + Sync>(
+/// Whether a lane that sleeps was woken by a claim that was given up, in a store of its own.
+fn is_woken<R: Abort + Clock + Threads + Wait + Sync>(
     rt: &R,
-    store: &Store<Letter>,
-    key: &Key,
-    lanes: &mut [Lane<Letter>],
-)
-    requires lanes { All (IsLaneOf store.now.id) lanes.old }
-    requires contexts { 2 < length store.now.tree }
-{
-    let progress = Progress {
-        removes: AtomicU64::new(0),
-        unused: AtomicU64::new(0),
-        ended: AtomicU64::new(0),
-    };
-    run(rt, store, key, lanes, &progress);
-    let unused = progress.unused.load(Ordering::SeqCst);
-    same(rt, unused > 0, true, "whether a factory did not run");
-}
-
-/// Tests `Store::remove_wait`.
-#[test]
-fn remove_waits_for_a_claim_that_is_given_up(rt: HostRuntime) -> Result<(), Fail> {
+    alloc: Global,
+    begin: Begin,
+) -> Result<bool, Fail> {
+    let round = &Round::new(begin);
     with_store(
-        rt.alloc(),
+        alloc,
         limits(3, false),
         |store: &Store<Letter>, key: &Key, lanes: &mut [Lane<Letter>], _closers: &mut Vec<Closer>|
             requires lanes { All (IsLaneOf store.now.id) lanes.old }
             requires contexts { 2 < length store.now.tree }
-        { settle(&rt, store, key, lanes) },
-    )
+        { run(rt, store, key, lanes, round) },
+    )?;
+    Ok(round.woken.load(Ordering::SeqCst) == 1)
 }
 
-/// How a compute begins.
-#[derive(Clone, Copy)]
-enum Begin {
-    /// By `begin_numbered`.
-    Plain,
-    /// By `begin_along`.
-    Along,
-    /// By `compute_wait`.
-    Waiting,
-}
-
-/// Why a claim in the method is refused; nothing where it is not.
-fn refused_claim(
-    store: &Store<Letter>,
-    lane: &mut Lane<Letter>,
-    number: KeyNo,
-    along: bool,
-) -> Option<Unused>
-    requires lane { IsLaneOf store.now.id lane.old }
-    requires context { 2 < length store.now.tree }
-    requires key { number < length store.now.id.keys }
-{
-    let path = [2, 1, 0];
-    if !store.is_trail(&path) {
-        return None;
-    }
-    let begun = if along {
-        store.begin_along(lane, &path, number)
-    } else {
-        store.begin_numbered(lane, 2, number)
-    };
-    match begun {
-        Ok(claim) => {
-            store.abandon_quietly(lane, claim);
-            None
-        }
-        Err(why) => Some(why),
-    }
-}
-
-/// Whether a compute in the method is refused, since the class has a value.
-fn is_refused<R: Wait>(
-    rt: &R,
-    store: &Store<Letter>,
-    lane: &mut Lane<Letter>,
-    key: &Key,
-    number: KeyNo,
-    begin: Begin,
-) -> bool
-    requires lane { IsLaneOf store.now.id lane.old }
-    requires context { 2 < length store.now.tree }
-    requires key { number < length store.now.id.keys }
-{
-    let found = Some(Unused::Found { at: 1, number: 1 });
-    match begin {
-        Begin::Plain => refused_claim(store, lane, number, false) == found,
-        Begin::Along => refused_claim(store, lane, number, true) == found,
-        Begin::Waiting => {
-            let make = |_key: &Key| -> Result<Letter, Fault> { Err(Fault::Memory) };
-            let computed = store.compute_wait(rt, lane, 2, key, make);
-            matches!(
-                computed,
-                Compute::Found {
-                    at: 1,
-                    number: 1,
-                    ..
-                }
-            )
-        }
-    }
-}
-
-/// Claims the class's place until another lane waits for it, ends the claim by a value so that
-/// nobody is woken, and begins a compute in the method. Says whether that is refused.
-fn fill_and_begin<R: Clock + Wait>(
-    rt: &R,
-    store: &Store<Letter>,
-    lane: &mut Lane<Letter>,
-    key: &Key,
-    gate: &Gate,
-    begin: Begin,
-) -> bool
-    requires lane { IsLaneOf store.now.id lane.old }
-    requires context { 2 < length store.now.tree }
-{
-    let Ok(number) = store.number(lane, key) else {
-        return false;
-    };
-    let Ok(claim) = store.begin_numbered(lane, 1, number) else {
-        return false;
-    };
-    let is_met = gate.pass(rt);
-    let filled = store.fill_quietly(lane, claim, Letter { letter: 'x' });
-    is_met && filled.is_ok() && is_refused(rt, store, lane, key, number, begin)
-}
-
-/// What a look-up in the class answers that waits for the claim.
-fn look_beside<R: Clock + Wait>(
-    rt: &R,
-    store: &Store<Letter>,
-    lane: &mut Lane<Letter>,
-    key: &Key,
-    gate: &Gate,
-) -> Option<Look>
-    requires lane { IsLaneOf store.now.id lane.old }
-    requires context { 1 < length store.now.tree }
-{
-    gate.come(rt);
-    let looked = store.get_wait(rt, lane, 1, key);
-    gate.end();
-    looked.ok()
-}
-
-/// Asserts that a lane which sleeps for a claim that was ended without a wake goes on once a
-/// compute is refused that begins so.
-fn refuse_beside<R: Abort + Clock + Threads + Wait + Sync>(
-    rt: &R,
-    store: &Store<Letter>,
-    key: &Key,
-    first: &mut Lane<Letter>,
-    second: &mut Lane<Letter>,
-    begin: Begin,
-)
-    requires first { IsLaneOf store.now.id first.old }
-    requires second { IsLaneOf store.now.id second.old }
-    requires contexts { 2 < length store.now.tree }
-{
-    let gate = &Gate::new(1);
-    let (refused, looked) = join(
-        rt,
-        ||
-            requires { IsLaneOf store.now.id first.now × (2 < length store.now.tree) }
-        {
-            let refused = fill_and_begin(rt, store, first, key, gate, begin);
-            gate.watch(rt);
-            refused
-        },
-        || look_beside(rt, store, second, key, gate),
-    );
-    same(rt, refused, true, "whether the compute is refused");
-    let found = Look::Found { at: 1, number: 1 };
-    same(rt, looked, Some(found), "the look-up");
-}
-
-/// The same in a store of its own.
-fn refused_wakes<R: Abort + Clock + Threads + Wait + Sync>(
+/// Asserts that in some round a lane that sleeps is woken by a claim that is given up.
+fn given_up_wakes<R: Abort + Clock + Threads + Wait + Sync>(
     rt: &R,
     alloc: Global,
     begin: Begin,
 ) -> Result<(), Fail> {
-    with_pair(
-        rt,
-        alloc,
-        limits(2, false),
-        |rt: &R, store: &Store<Letter>, key: &Key, first: &mut Lane<Letter>, second: &mut Lane<
-            Letter,
-        >|
-            requires first { IsLaneOf store.now.id first.old }
-            requires second { IsLaneOf store.now.id second.old }
-            requires contexts { 2 < length store.now.tree }
-        { refuse_beside(rt, store, key, first, second, begin) },
-    )
+    let mut woken = false;
+    for _ in 0..ROUNDS {
+        if is_woken(rt, alloc, begin)? {
+            woken = true;
+            break;
+        }
+    }
+    same(rt, woken, true, "whether a claim that is given up wakes");
+    Ok(())
 }
 
-/// Tests `Store::begin`, `Store::begin_numbered`, `Store::fill_quietly` and `StoreCore::wake`.
+/// A lane sleeps for a claim whose end woke nobody. It goes on once `begin` gives its claim up.
 #[test]
-fn refused_begin_wakes_who_sleeps(rt: HostRuntime) -> Result<(), Fail> {
-    refused_wakes(&rt, rt.alloc(), Begin::Plain)
+fn begin_given_up_wakes_who_sleeps(rt: HostRuntime) -> Result<(), Fail> {
+    given_up_wakes(&rt, rt.alloc(), Begin::Plain)
 }
 
-/// Tests `Store::begin_along`, `Store::fill_quietly` and `StoreCore::wake`.
+/// A lane sleeps for a claim whose end woke nobody. It goes on once `begin_along` gives its claim
+/// up.
 #[test]
-fn refused_begin_along_wakes_who_sleeps(rt: HostRuntime) -> Result<(), Fail> {
-    refused_wakes(&rt, rt.alloc(), Begin::Along)
+fn begin_along_given_up_wakes_who_sleeps(rt: HostRuntime) -> Result<(), Fail> {
+    given_up_wakes(&rt, rt.alloc(), Begin::Along)
 }
 
-/// Tests `Store::compute_wait`, `StoreCore::claim`, `Store::fill_quietly` and `StoreCore::wake`.
+/// A lane sleeps for a claim whose end woke nobody. It goes on once `compute_wait` gives its claim
+/// up, before it calls its factory.
 #[test]
-fn refused_compute_wakes_who_sleeps(rt: HostRuntime) -> Result<(), Fail> {
-    refused_wakes(&rt, rt.alloc(), Begin::Waiting)
+fn compute_given_up_wakes_who_sleeps(rt: HostRuntime) -> Result<(), Fail> {
+    given_up_wakes(&rt, rt.alloc(), Begin::Waiting)
 }

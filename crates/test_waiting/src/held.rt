@@ -65,11 +65,6 @@ pub(crate) fn watch_next<R: Abort + Clock>(rt: &R, calls: &AtomicU64, before: u6
     assert!(rt; made, "a lane is left asleep");
 }
 
-/// Looks until another lane has made one call more than now.
-pub(crate) fn watch_more<R: Abort + Clock>(rt: &R, calls: &AtomicU64) {
-    watch_next(rt, calls, calls.load(Ordering::SeqCst));
-}
-
 /// Takes some time.
 pub(crate) fn spin(turns: u64) {
     let word = AtomicU64::new(0);
@@ -117,6 +112,22 @@ impl Gate {
     /// Of another lane: tells that it was answered.
     pub(crate) fn end(&self) {
         self.ended.fetch_add(1, Ordering::SeqCst);
+    }
+
+    /// Whether all others were answered.
+    pub(crate) fn has_ended(&self) -> bool {
+        self.ended.load(Ordering::SeqCst) == self.waiters
+    }
+
+    /// Whether all others were answered within some milliseconds.
+    pub(crate) fn ends_soon(&self, clock: &impl Clock) -> bool {
+        for _ in 0..10 {
+            if self.has_ended() {
+                return true;
+            }
+            sleep(clock, Duration::from_millis(1));
+        }
+        false
     }
 
     /// Fails the test where another lane was not answered in time.

@@ -74,6 +74,10 @@ impl Suite<Payload> for PlainSuite<'_> {
         None
     }
 
+    fn is_enabled(&self, _node: ContextNo) -> bool {
+        true
+    }
+
     fn action(&self, _node: ContextNo) -> Counting {
         Counting { closed: 0 }
     }

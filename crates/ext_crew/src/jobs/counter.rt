@@ -129,7 +129,7 @@ pub(crate) fn put_outcome<T: Drop, O: Drop, M: Allocator>(
 ///
 /// Every hand was joined into the first one again (`join_seat::<Hires>` of the counter), so its
 /// draws are all that there were: each number below some number once. Each job that was given back
-/// has its outcome at its place; a job that was not drawn has none, and its item is dropped.
+/// has its outcome at its index; a job that was not drawn has none, and its item is dropped.
 /// `outcomes` is empty and has room for an outcome for each item, so no memory is taken.
 pub(crate) fn take_outcomes<T: Drop, O: Drop, M: Allocator>(
     table: CounterTable<T, O, M>,

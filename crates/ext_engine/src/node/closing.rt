@@ -32,7 +32,7 @@ pub(crate) fn close_again<R: Wait, V: StoreValue + Drop, A: CloseAction<V>>(
     for _ in rt.forever() {
         match close(store, left, lanes, action) {
             Ok(closed) => {
-                lanes[0].recall();
+                lanes[0].tell_proof();
                 return Ok(closed);
             }
             Err((back, why)) => {

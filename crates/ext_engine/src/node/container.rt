@@ -57,7 +57,7 @@ pub(crate) fn open_container<'a, R: Wait, V: StoreValue + Drop, S: Suite<V>>(
     ensures own_lanes { All (IsLaneOf nodes.now.store.now.id) lanes.new }
     ensures count { length lanes.new ≡ length lanes.old }
     ensures begun { IfOk result (λ r. IsOpen nodes.now.store.now item.node r.0) }
-    ensures befores { IfOk result (λ r. Opens (setting_of V.is_closeable S.suite_view S.may_disable S.registered S.call_gives S.action_gives S.Action.close_gives
+    ensures befores { IfOk result (λ r. Opens (setting_of V.is_closeable S.suite_view S.enabled_gives S.registered S.call_gives S.action_gives S.Action.close_gives
         nodes.now.suite.now nodes.now.store.now nodes.now.locks.now) item.node lanes.old r.0 lanes.new) }
     ensures children { IfOk result (λ r. AreChildren nodes.now.store.now (S.suite_view nodes.now.suite.now) (depth - 1) item.node r.1 × (1 ≤ depth)) }
     ensures fault { IfErr result (λ why. why ≡ engine_fault.Memory) }
@@ -113,10 +113,10 @@ pub(crate) fn close_container<'a, R: Wait, V: StoreValue + Drop, S: Suite<V>>(
     ensures own_lanes { All (IsLaneOf nodes.now.store.now.id) lanes.new }
     ensures count { length lanes.new ≡ length lanes.old }
     ensures ends { IfOk result (λ ran. (path : List ℕ) (befores : List Outcome) → IsOpenBy (S.registered nodes.now.suite.now) node path befores begun
-        → EndsContainer (setting_of V.is_closeable S.suite_view S.may_disable S.registered S.call_gives S.action_gives S.Action.close_gives
+        → EndsContainer (setting_of V.is_closeable S.suite_view S.enabled_gives S.registered S.call_gives S.action_gives S.Action.close_gives
         nodes.now.suite.now nodes.now.store.now nodes.now.locks.now) node path befores lanes.old (ran_view ran) lanes.new) }
     ensures unclosed { IfErr result (λ why. (path : List ℕ) (befores : List Outcome) → IsOpenBy (S.registered nodes.now.suite.now) node path befores begun
-        → IsLeftUnclosed (setting_of V.is_closeable S.suite_view S.may_disable S.registered S.call_gives S.action_gives S.Action.close_gives
+        → IsLeftUnclosed (setting_of V.is_closeable S.suite_view S.enabled_gives S.registered S.call_gives S.action_gives S.Action.close_gives
         nodes.now.suite.now nodes.now.store.now nodes.now.locks.now) node path lanes.old why lanes.new) }
 {
     let OpenContainer {

@@ -81,11 +81,11 @@ impl<'a, R: Wait, V: StoreValue + Drop, S: Suite<V>> NodeRunner<'a, R, V, S> {
         ensures lanes { IsUsable self.now.store.now self.now.locks.now (record { first = lanes.new; second = lock_lanes.new }) }
         ensures count { length lanes.new ≡ length lanes.old }
         ensures run { IfOk result (λ ran. (path : List ℕ) × IsPathOf self.now.store.now.tree item.node path
-            × TestRun (setting_of V.is_closeable S.suite_view S.may_disable S.registered S.call_gives S.action_gives S.Action.close_gives self.now.suite.now self.now.store.now self.now.locks.now) item.node path
+            × TestRun (setting_of V.is_closeable S.suite_view S.enabled_gives S.registered S.call_gives S.action_gives S.Action.close_gives self.now.suite.now self.now.store.now self.now.locks.now) item.node path
             (record { first = lanes.old; second = lock_lanes.old }) (map ran_view ran.items) (record { first = lanes.new; second = lock_lanes.new })) }
         ensures early { IfErr result (λ why. IsNotBegun (record { first = lanes.old; second = lock_lanes.old }) why (record { first = lanes.new; second = lock_lanes.new })
             ⊎ ((path : List ℕ) × IsPathOf self.now.store.now.tree item.node path
-            × TestEndsEarly (setting_of V.is_closeable S.suite_view S.may_disable S.registered S.call_gives S.action_gives S.Action.close_gives self.now.suite.now self.now.store.now self.now.locks.now) item.node path
+            × TestEndsEarly (setting_of V.is_closeable S.suite_view S.enabled_gives S.registered S.call_gives S.action_gives S.Action.close_gives self.now.suite.now self.now.store.now self.now.locks.now) item.node path
             (record { first = lanes.old; second = lock_lanes.old }) why (record { first = lanes.new; second = lock_lanes.new }))) }
     {
         let node = item.node;
@@ -116,7 +116,7 @@ impl<'a, R: Wait, V: StoreValue + Drop, S: Suite<V>> NodeRunner<'a, R, V, S> {
     fn test_parts(&self, alloc: Global, node: ContextNo) -> Result<TestParts, AllocError>
         requires node { node < length self.now.store.now.tree }
         requires runnable { IsRunnable self.now.store.now self.now.locks.now (S.suite_view self.now.suite.now) }
-        ensures { IfOk result (ArePartsOf (setting_of V.is_closeable S.suite_view S.may_disable S.registered S.call_gives S.action_gives S.Action.close_gives
+        ensures { IfOk result (ArePartsOf (setting_of V.is_closeable S.suite_view S.enabled_gives S.registered S.call_gives S.action_gives S.Action.close_gives
             self.now.suite.now self.now.store.now self.now.locks.now) node) }
     {
         let path = self.store.tree().path(node);
@@ -145,9 +145,9 @@ impl<'a, R: Wait, V: StoreValue + Drop, S: Suite<V>> NodeRunner<'a, R, V, S> {
         requires test { (S.suite_view self.now.suite.now).is_test node ≡ true }
         requires closer { IsCloserOf self.now.store.now closer × (closer.context ≡ node) }
         requires node { node < length self.now.store.now.tree }
-        requires parts { ArePartsOf (setting_of V.is_closeable S.suite_view S.may_disable S.registered S.call_gives S.action_gives S.Action.close_gives
+        requires parts { ArePartsOf (setting_of V.is_closeable S.suite_view S.enabled_gives S.registered S.call_gives S.action_gives S.Action.close_gives
             self.now.suite.now self.now.store.now self.now.locks.now) node parts }
-        ensures { TestEnds (setting_of V.is_closeable S.suite_view S.may_disable S.registered S.call_gives S.action_gives S.Action.close_gives
+        ensures { TestEnds (setting_of V.is_closeable S.suite_view S.enabled_gives S.registered S.call_gives S.action_gives S.Action.close_gives
             self.now.suite.now self.now.store.now self.now.locks.now) (λ ran. map ran_view ran.items) node
             (record { first = lanes.old; second = lock_lanes.old }) result (record { first = lanes.new; second = lock_lanes.new }) }
     {
@@ -175,9 +175,9 @@ impl<'a, R: Wait, V: StoreValue + Drop, S: Suite<V>> NodeRunner<'a, R, V, S> {
         requires test { (S.suite_view self.now.suite.now).is_test node ≡ true }
         requires closer { IsCloserOf self.now.store.now closer × (closer.context ≡ node) }
         requires node { node < length self.now.store.now.tree }
-        requires parts { ArePartsOf (setting_of V.is_closeable S.suite_view S.may_disable S.registered S.call_gives S.action_gives S.Action.close_gives
+        requires parts { ArePartsOf (setting_of V.is_closeable S.suite_view S.enabled_gives S.registered S.call_gives S.action_gives S.Action.close_gives
             self.now.suite.now self.now.store.now self.now.locks.now) node parts.now }
-        ensures { TestEnds (setting_of V.is_closeable S.suite_view S.may_disable S.registered S.call_gives S.action_gives S.Action.close_gives self.now.suite.now self.now.store.now self.now.locks.now) of_test node
+        ensures { TestEnds (setting_of V.is_closeable S.suite_view S.enabled_gives S.registered S.call_gives S.action_gives S.Action.close_gives self.now.suite.now self.now.store.now self.now.locks.now) of_test node
             (record { first = lanes.old; second = lock_lanes.old }) result (record { first = lanes.new; second = lock_lanes.new }) }
     {
         let body = Call {
@@ -230,9 +230,9 @@ impl<'a, R: Wait, V: StoreValue + Drop, S: Suite<V>> NodeRunner<'a, R, V, S> {
         requires own_lanes { All (IsLaneOf self.now.store.now.id) lanes.old }
         requires closer { IsCloserOf self.now.store.now closer }
         requires context { closer.context ≡ node }
-        ensures closes { IfOk result (λ closes. (faults : List (Option Fault)) × ClosesNode (setting_of V.is_closeable S.suite_view S.may_disable S.registered S.call_gives S.action_gives S.Action.close_gives
+        ensures closes { IfOk result (λ closes. (faults : List (Option Fault)) × ClosesNode (setting_of V.is_closeable S.suite_view S.enabled_gives S.registered S.call_gives S.action_gives S.Action.close_gives
             self.now.suite.now self.now.store.now self.now.locks.now) node lanes.old faults lanes.new × (closes ≡ closed_of faults)) }
-        ensures unjoined { IfErr result (λ number. LeavesOpen (setting_of V.is_closeable S.suite_view S.may_disable S.registered S.call_gives S.action_gives S.Action.close_gives
+        ensures unjoined { IfErr result (λ number. LeavesOpen (setting_of V.is_closeable S.suite_view S.enabled_gives S.registered S.call_gives S.action_gives S.Action.close_gives
             self.now.suite.now self.now.store.now self.now.locks.now) node lanes.old (engine_fault.Unjoined node number) lanes.new) }
         ensures own_lanes { All (IsLaneOf self.now.store.now.id) lanes.new }
         ensures count { length lanes.new ≡ length lanes.old }

@@ -38,6 +38,7 @@ impl LeafSuite<Page> for MeetingLeaves {
     }
 }
 
+/// Each of two leaves waits until both have started, and on two lanes both are successful.
 /// Tests `run_leaves`.
 #[test]
 fn two_leaves_run_at_once(rt: HostRuntime) -> Result<(), Fail> {

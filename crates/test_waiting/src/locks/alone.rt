@@ -20,15 +20,15 @@ fn take_alone(locks: &Locks, lane: &mut LockLane, set: &LockSet) -> bool
     ensures same { (lane.new.table ≡ lane.old.table) × (lane.new.lanes ≡ lane.old.lanes) }
 {
     lock_laws();
-    locks.recall();
-    lane.recall();
+    locks.tell_proof();
+    lane.tell_proof();
     match locks.try_take(lane, set) {
         Ok(held) => {
             locks.give(lane, held);
             true
         }
         Err(_) => {
-            lane.recall();
+            lane.tell_proof();
             false
         }
     }
@@ -73,7 +73,7 @@ impl<R: Abort> Scenario<R> for Alone {
     }
 }
 
-/// Tests `Locks::open`, `Locks::try_take`, `Locks::give`, `Locks::recall` and `LockLane::recall`.
+/// Tests `Locks::open`, `Locks::try_take`, `Locks::give`, `Locks::tell_proof` and `LockLane::tell_proof`.
 #[test]
 fn lane_alone_is_never_refused(rt: HostRuntime) {
     with_locks(&rt, rt.alloc(), &["a"], 1, 1, Alone);

@@ -159,7 +159,7 @@ impl<R: Abort> Scenario<R> for BesideGlobalLock {
     }
 }
 
-/// Tests `LockLane::number`, `Locks::open`, `Locks::try_take`, `Locks::recall` and
+/// Tests `LockLane::number`, `Locks::open`, `Locks::try_take`, `Locks::tell_proof` and
 /// `Locks::exclusive`.
 #[test]
 fn third_lane_takes_the_global_lock(rt: HostRuntime) {

@@ -1,8 +1,8 @@
 use Rattle.std.proofs.Common.{suc, ap, ◌∙◌, arith}
-use Rattle.ext_rows.specs.declared.view.View.{View}
-use Rattle.ext_rows.specs.Views.{giving, born}
-use Rattle.ext_rows.specs.Marks.{marks}
-use Rattle.ext_rows.proofs.Seats.{splits_lane}
+use Rattle.ext_cells.specs.declared.view.View.{View}
+use Rattle.ext_cells.specs.InnerViews.{giving, born}
+use Rattle.ext_cells.specs.InnerMarks.{marks}
+use Rattle.ext_cells.proofs.Seats.{splits_lane}
 use Rattle.ext_cells.proofs.Given.{given_one, born_lane, giver_lane}
 use Rattle.ext_cells.proofs.opening.give_out.Goals as goal
 

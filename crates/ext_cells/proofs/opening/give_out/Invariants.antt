@@ -1,6 +1,6 @@
 use Rattle.std.proofs.Common.{◌≡◌, ℕ, ◌+◌}
 use Rattle.ext_cells.specs.Lanes.{fresh_lanes}
-use Rattle.ext_rows.specs.Views.{limits_of}
+use Rattle.ext_cells.specs.InnerViews.{limits_of}
 use Rattle.ext_cells.proofs.Given.{giver}
 use Rattle.ext_cells.proofs.opening.give_out.Given as goal
 

@@ -1,12 +1,12 @@
 use Rattle.std.proofs.Common.{ℕ, ◌+◌, ap, ◌∙◌}
 use Rattle.std.specs.Prelude.{replicate}
-use Rattle.ext_rows.specs.Views.{limits_of}
-use Rattle.ext_rows.specs.Marks.{marks}
-use Rattle.ext_rows.proofs.Seats.{opens}
-use Rattle.ext_rows.proofs.Marked.{is_layout}
+use Rattle.ext_cells.specs.InnerViews.{limits_of}
+use Rattle.ext_cells.specs.InnerMarks.{marks}
+use Rattle.ext_cells.proofs.Seats.{opens}
+use Rattle.ext_cells.proofs.Marked.{is_layout}
 use Rattle.ext_cells.proofs.opening.open_words.Goals as goal
 
 pub of_words-requires : goal.of_words-requires
 of_words-requires c =
     let limits = c.args.limits.now in
-    opens limits (marks limits.cells) _ (is_layout (limits_of limits)) c.requires.lanes (c.as_slice.ensures.value ∙ c.in_ok-words.ensures ∙ ap (λ (n : ℕ). replicate {A = ℕ} (limits.cells + 1 + n) 0) c.row_count.ensures.count)
+    opens limits (marks limits.cells) _ (is_layout (limits_of limits)) c.requires.lanes (c.as_slice.ensures.value ∙ c.in_ok-words.ensures ∙ ap (λ (n : ℕ). replicate {A = ℕ} (limits.cells + 1 + n) 0) c.block_count.ensures.count)

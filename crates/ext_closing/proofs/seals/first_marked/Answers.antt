@@ -26,7 +26,7 @@ loop-block-preserved g c =
     let steps = inv.steps in
     let next = fronts_within c.loop-block.lane.cells u.new.lane.cells 1 (omega (arith, one)) in
     record {
-      so_far = with_all_unused c.args.store.now c.args.closer.now.context c.loop-block.lane.cells u.new.lane.cells same (legal_as c.loop-block.lane.cells u.new.lane.cells same c.recall.ensures.legal)
+      so_far = with_all_unused c.args.store.now c.args.closer.now.context c.loop-block.lane.cells u.new.lane.cells same (legal_as c.loop-block.lane.cells u.new.lane.cells same c.tell_proof.ensures.legal)
           c.loop-block.block u.result below (omega (arith, c.if-marks-ne0.false)) u.ensures.answer c.args.lane.now.cells [] inv.so_far;
       done = one_more_done c.args.store.now c.args.closer.now.context c.loop-block.block u.result c.args.lane.now.cells u.new.lane.cells u.new.lane.cells
           (record { between = c.loop-block.lane.cells; done = inv.done; unused = u.ensures.answer; step = u.ensures.steps })
@@ -50,7 +50,7 @@ returns-then-marks-ne0-clause-marked g c =
     let next = fronts_within c.loop-block.lane.cells u.new.lane.cells 1 (omega (arith, one)) in
     record {
       is_marked = record { within = below; unused = λ key none. u.ensures.answer.unused key none };
-      so_far = with_unused c.args.store.now c.args.closer.now.context c.loop-block.lane.cells u.new.lane.cells same (legal_as c.loop-block.lane.cells u.new.lane.cells same c.recall.ensures.legal)
+      so_far = with_unused c.args.store.now c.args.closer.now.context c.loop-block.lane.cells u.new.lane.cells same (legal_as c.loop-block.lane.cells u.new.lane.cells same c.tell_proof.ensures.legal)
           c.loop-block.block u.result (c.loop-block.block * 32) below u.ensures.answer c.args.lane.now.cells [] inv.so_far;
       begun = record { between = c.loop-block.lane.cells; done = inv.done; unused = u.ensures.answer; step = u.ensures.steps };
       steps = omega (arith, steps, next);

@@ -19,7 +19,7 @@ returns-clause-sealed g c =
     if_ok {P = λ done. SealsOn store context from (from + 32) u.new.lane.cells new.lane.cells old new.numbers} {Q = λ done. SealsOn store context from (from + 32) c.args.lane.now.cells new.lane.cells old new.numbers}
     c.seal_marked.result
     (λ done is before so_far. is before
-    (with_unused store context c.args.lane.now.cells u.new.lane.cells same (legal_as c.args.lane.now.cells u.new.lane.cells same c.recall.ensures.legal)
+    (with_unused store context c.args.lane.now.cells u.new.lane.cells same (legal_as c.args.lane.now.cells u.new.lane.cells same c.tell_proof.ensures.legal)
     c.args.block u.result from c.requires.block u.ensures.answer before old so_far))
     c.seal_marked.ensures.sealed
 
@@ -36,7 +36,7 @@ returns-clause-stops g c =
     {Q = λ why. (before : Lane) → SealedSoFar store context from before c.args.lane.now.cells old → SealingEnds store context before new.lane.cells (Some why)}
     c.seal_marked.result
     (λ why is before so_far. is before
-    (with_unused store context c.args.lane.now.cells u.new.lane.cells same (legal_as c.args.lane.now.cells u.new.lane.cells same c.recall.ensures.legal)
+    (with_unused store context c.args.lane.now.cells u.new.lane.cells same (legal_as c.args.lane.now.cells u.new.lane.cells same c.tell_proof.ensures.legal)
     c.args.block u.result from c.requires.block u.ensures.answer before old so_far))
     c.seal_marked.ensures.stops
 

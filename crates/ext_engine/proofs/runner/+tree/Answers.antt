@@ -53,7 +53,7 @@ TreeRunner::run_beside-returns-in-Ok g t c = record {
     (search rules),
     (
         let r = c.args.self.now.nodes in
-        let ts = setting_of g.V.StoreValue.is_closeable g.S.Suite.suite_view g.S.Suite.may_disable g.S.Callbacks.registered g.S.Suite.call_gives g.S.Suite.action_gives g.S.Action.CloseAction.close_gives r.suite.now r.store.now r.locks.now in
+        let ts = setting_of g.V.StoreValue.is_closeable g.S.Suite.suite_view g.S.Suite.enabled_gives g.S.Callbacks.registered g.S.Suite.call_gives g.S.Suite.action_gives g.S.Action.CloseAction.close_gives r.suite.now r.store.now r.locks.now in
         let Ends : ℕ → Lanes g.row.V.Denot → Result (List Ran) EngineFault → Lanes g.row.V.Denot → Type 0 = EndsAs (TreeRun ts c.args.depth) (EndsEarly ts c.args.depth) in
         run-weaker _ _ c.in-Ok.ensures.run (λ job u o v r.
         let X : Lanes g.row.V.Denot → Lanes g.row.V.Denot → Type 0 = λ s z. IfOk o (λ w. TreeRun ts c.args.depth r.item.node s (map ran_view w.items) z) × IfErr o (λ why. EndsEarly ts c.args.depth r.item.node s why z) in
@@ -87,7 +87,7 @@ TreeRunner::run_body-run_in_turn-requires-clause-ready g t c κs inside =
 pub TreeRunner::run_body-returns : goal.TreeRunner::run_body-returns
 TreeRunner::run_body-returns g t c =
     let r = c.args.self.now.nodes in
-    let ts = setting_of g.V.StoreValue.is_closeable g.S.Suite.suite_view g.S.Suite.may_disable g.S.Callbacks.registered g.S.Suite.call_gives g.S.Suite.action_gives g.S.Action.CloseAction.close_gives r.suite.now r.store.now r.locks.now in
+    let ts = setting_of g.V.StoreValue.is_closeable g.S.Suite.suite_view g.S.Suite.enabled_gives g.S.Callbacks.registered g.S.Suite.call_gives g.S.Suite.action_gives g.S.Action.CloseAction.close_gives r.suite.now r.store.now r.locks.now in
     let size = length-map c.args.children.beside.items (λ (i : Item). i.node) in
     let nodes = map (λ (i : Item). i.node) c.args.children.beside.items in
     let body = body-of ts (TreeRun ts c.args.depth) (λ i s o u. EndsAs (TreeRun ts c.args.depth) (EndsEarly ts c.args.depth) (slice_index_or nodes i 0) s (answer_of o) u) c.args.node nodes (map (λ i. i.node) c.args.children.in_turn.items)
@@ -109,7 +109,7 @@ TreeRunner::run_in_turn-loop-item-init g t c =
       items = search rules;
       lanes = c.requires.ready.2;
       count = refl;
-      run = ran-none (TreeRun (setting_of g.V.StoreValue.is_closeable g.S.Suite.suite_view g.S.Suite.may_disable g.S.Callbacks.registered g.S.Suite.call_gives g.S.Suite.action_gives g.S.Action.CloseAction.close_gives r.suite.now r.store.now r.locks.now) c.args.depth) _ _ (ap (flat_map ran_in) c.requires.room.0);
+      run = ran-none (TreeRun (setting_of g.V.StoreValue.is_closeable g.S.Suite.suite_view g.S.Suite.enabled_gives g.S.Callbacks.registered g.S.Suite.call_gives g.S.Suite.action_gives g.S.Action.CloseAction.close_gives r.suite.now r.store.now r.locks.now) c.args.depth) _ _ (ap (flat_map ran_in) c.requires.room.0);
       given = search rules;
       room = search rules;
     }
@@ -127,7 +127,7 @@ TreeRunner::run_in_turn-loop-item-preserved g t c =
       items = append_assoc c.loop-item.yielded (c.in-Some.item ∷ []) c.next.new.self.rest.items ∙ list;
       lanes = c.in_ok-below.ensures.left.0;
       count = c.in_ok-below.ensures.left.1 ∙ I.count;
-      run = ran-push (TreeRun (setting_of g.V.StoreValue.is_closeable g.S.Suite.suite_view g.S.Suite.may_disable g.S.Callbacks.registered g.S.Suite.call_gives g.S.Suite.action_gives g.S.Action.CloseAction.close_gives r.suite.now r.store.now r.locks.now) c.args.depth) c.loop-item.yielded c.in-Some.item (record { first = c.args.lanes.now; second = c.args.lock_lanes.now }) (record { first = c.loop-item.lanes; second = c.loop-item.lock_lanes }) (record { first = c.run_node.new.lanes; second = c.run_node.new.lock_lanes })
+      run = ran-push (TreeRun (setting_of g.V.StoreValue.is_closeable g.S.Suite.suite_view g.S.Suite.enabled_gives g.S.Callbacks.registered g.S.Suite.call_gives g.S.Suite.action_gives g.S.Action.CloseAction.close_gives r.suite.now r.store.now r.locks.now) c.args.depth) c.loop-item.yielded c.in-Some.item (record { first = c.args.lanes.now; second = c.args.lock_lanes.now }) (record { first = c.loop-item.lanes; second = c.loop-item.lock_lanes }) (record { first = c.run_node.new.lanes; second = c.run_node.new.lock_lanes })
           (flat_map ran_in c.loop-item.outcomes.items) more (flat_map ran_in c.push_reserved.new.self.items) I.run c.in_ok-below.ensures.left.2
           (ap (flat_map ran_in) is ∙ flat_map-append ran_in c.loop-item.outcomes.items (Ok c.in_ok-below.below ∷ []) ∙ ap (λ l. flat_map ran_in c.loop-item.outcomes.items ++ l) (append-nil more));
       given = (
@@ -143,17 +143,18 @@ TreeRunner::run_in_turn-loop-item-preserved g t c =
 pub TreeRunner::run_node-returns-then-is_test : goal.TreeRunner::run_node-returns-then-is_test
 TreeRunner::run_node-returns-then-is_test g t c =
     let r = c.args.self.now.nodes in
-    let ts = setting_of g.V.StoreValue.is_closeable g.S.Suite.suite_view g.S.Suite.may_disable g.S.Callbacks.registered g.S.Suite.call_gives g.S.Suite.action_gives g.S.Action.CloseAction.close_gives r.suite.now r.store.now r.locks.now in
+    let ts = setting_of g.V.StoreValue.is_closeable g.S.Suite.suite_view g.S.Suite.enabled_gives g.S.Callbacks.registered g.S.Suite.call_gives g.S.Suite.action_gives g.S.Action.CloseAction.close_gives r.suite.now r.store.now r.locks.now in
     let s : Lanes g.row.V.Denot = record { first = c.args.lanes.now; second = c.args.lock_lanes.now } in
     let z : Lanes g.row.V.Denot = record { first = c.run_test.new.lanes; second = c.run_test.new.lock_lanes } in
     let deep : 1 ≤ c.args.depth = (let e = ap (λ ids. length (id_at ids c.args.item.node)) c.tree-tree.ensures in omega (arith, c.requires.item.depth_is, c.path-path-then-is_test.ensures.depth, c.path-path-then-is_test.ensures.few, e)) in
+    let enabled : ts.enabled_gives c.args.item.node true = subst (ts.enabled_gives c.args.item.node) (search rules) c.is_enabled.ensures in
     let Node : Vec RanNode Global → Type 0 = λ v. (path : List ℕ) × IsPathOf r.store.now.tree c.args.item.node path × TestRun ts c.args.item.node path s (map ran_view v.items) z in
     let Below : Vec RanNode Global → Type 0 = λ v. TreeRun ts c.args.depth c.args.item.node s (map ran_view v.items) z in
     record {
       left = (
         c.run_test.ensures.lanes,
         c.run_test.ensures.count,
-        IfOk-weaker c.run_test.result Node Below (λ v run. tree-of-test ts c.args.depth c.args.item.node s (map ran_view v.items) z deep (search rules) run) c.run_test.ensures.run,
+        IfOk-weaker c.run_test.result Node Below (λ v run. tree-of-test ts c.args.depth c.args.item.node s (map ran_view v.items) z deep (search rules) enabled run) c.run_test.ensures.run,
         if_err c.run_test.result (λ why early. test_early ts c.args.depth c.args.item.node s why z deep (search rules) early) c.run_test.ensures.early,
       );
     }
@@ -161,12 +162,12 @@ TreeRunner::run_node-returns-then-is_test g t c =
 pub TreeRunner::run_node-returns-then-not-is_enabled : goal.TreeRunner::run_node-returns-then-not-is_enabled
 TreeRunner::run_node-returns-then-not-is_enabled g t c =
     let r = c.args.self.now.nodes in
-    let ts = setting_of g.V.StoreValue.is_closeable g.S.Suite.suite_view g.S.Suite.may_disable g.S.Callbacks.registered g.S.Suite.call_gives g.S.Suite.action_gives g.S.Action.CloseAction.close_gives r.suite.now r.store.now r.locks.now in
+    let ts = setting_of g.V.StoreValue.is_closeable g.S.Suite.suite_view g.S.Suite.enabled_gives g.S.Callbacks.registered g.S.Suite.call_gives g.S.Suite.action_gives g.S.Action.CloseAction.close_gives r.suite.now r.store.now r.locks.now in
     let node = c.args.item.node in
     let s : Lanes g.row.V.Denot = record { first = c.args.lanes.now; second = c.args.lock_lanes.now } in
     let deep : 1 ≤ c.args.depth = (let e = ap (λ ids. length (id_at ids node)) c.tree-tree.ensures in omega (arith, c.requires.item.depth_is, c.path-path.ensures.depth, c.path-path.ensures.few, e)) in
     let path = c.path-path.result.now in
-    let allowed : ts.may_disable node = c.is_enabled.ensures (search rules) in
+    let allowed : ts.enabled_gives node false = subst (ts.enabled_gives node) (search rules) c.is_enabled.ensures in
     let Left : Vec RanNode Global → Type 0 = λ v. map ran_view v.items ≡ record { result = skipped_result node (ts.suite.is_test node); went_on = false } ∷ [] in
     let Below : Vec RanNode Global → Type 0 = λ v. TreeRun ts c.args.depth node s (map ran_view v.items) s in
     record {
@@ -185,7 +186,7 @@ TreeRunner::run_node-returns-then-not-is_enabled g t c =
 pub TreeRunner::run_node-returns-in_err-ran : goal.TreeRunner::run_node-returns-in_err-ran
 TreeRunner::run_node-returns-in_err-ran g t c =
     let r = c.args.self.now.nodes in
-    let ts = setting_of g.V.StoreValue.is_closeable g.S.Suite.suite_view g.S.Suite.may_disable g.S.Callbacks.registered g.S.Suite.call_gives g.S.Suite.action_gives g.S.Action.CloseAction.close_gives r.suite.now r.store.now r.locks.now in
+    let ts = setting_of g.V.StoreValue.is_closeable g.S.Suite.suite_view g.S.Suite.enabled_gives g.S.Callbacks.registered g.S.Suite.call_gives g.S.Suite.action_gives g.S.Action.CloseAction.close_gives r.suite.now r.store.now r.locks.now in
     let s : Lanes g.row.V.Denot = record { first = c.args.lanes.now; second = c.args.lock_lanes.now } in
     let told = c.from_residual.ensures in
     let early = not_begun ts c.args.depth c.args.item.node s faults.Memory s (record { told = refl; untouched = refl }) in
@@ -194,7 +195,7 @@ TreeRunner::run_node-returns-in_err-ran g t c =
 pub TreeRunner::run_node-returns-in_err-begun : goal.TreeRunner::run_node-returns-in_err-begun
 TreeRunner::run_node-returns-in_err-begun g t c =
     let r = c.args.self.now.nodes in
-    let ts = setting_of g.V.StoreValue.is_closeable g.S.Suite.suite_view g.S.Suite.may_disable g.S.Callbacks.registered g.S.Suite.call_gives g.S.Suite.action_gives g.S.Action.CloseAction.close_gives r.suite.now r.store.now r.locks.now in
+    let ts = setting_of g.V.StoreValue.is_closeable g.S.Suite.suite_view g.S.Suite.enabled_gives g.S.Callbacks.registered g.S.Suite.call_gives g.S.Suite.action_gives g.S.Action.CloseAction.close_gives r.suite.now r.store.now r.locks.now in
     let s : Lanes g.row.V.Denot = record { first = c.args.lanes.now; second = c.args.lock_lanes.now } in
     let z : Lanes g.row.V.Denot = record { first = c.open_container.new.lanes; second = c.args.lock_lanes.now } in
     let why = c.in_err-begun.field-0.0 in
@@ -213,7 +214,7 @@ TreeRunner::run_node-returns-in_err-begun g t c =
 pub TreeRunner::run_node-returns-in_err-below : goal.TreeRunner::run_node-returns-in_err-below
 TreeRunner::run_node-returns-in_err-below g t c =
     let r = c.args.self.now.nodes in
-    let ts = setting_of g.V.StoreValue.is_closeable g.S.Suite.suite_view g.S.Suite.may_disable g.S.Callbacks.registered g.S.Suite.call_gives g.S.Suite.action_gives g.S.Action.CloseAction.close_gives r.suite.now r.store.now r.locks.now in
+    let ts = setting_of g.V.StoreValue.is_closeable g.S.Suite.suite_view g.S.Suite.enabled_gives g.S.Callbacks.registered g.S.Suite.call_gives g.S.Suite.action_gives g.S.Action.CloseAction.close_gives r.suite.now r.store.now r.locks.now in
     let s : Lanes g.row.V.Denot = record { first = c.args.lanes.now; second = c.args.lock_lanes.now } in
     let z : Lanes g.row.V.Denot = record { first = c.run_body.new.lanes; second = c.run_body.new.lock_lanes } in
     let why = c.in_err-below.field-0.0 in
@@ -237,7 +238,7 @@ TreeRunner::run_node-returns-in_err-below g t c =
 pub TreeRunner::run_node-returns-in_err-own : goal.TreeRunner::run_node-returns-in_err-own
 TreeRunner::run_node-returns-in_err-own g t c =
     let r = c.args.self.now.nodes in
-    let ts = setting_of g.V.StoreValue.is_closeable g.S.Suite.suite_view g.S.Suite.may_disable g.S.Callbacks.registered g.S.Suite.call_gives g.S.Suite.action_gives g.S.Action.CloseAction.close_gives r.suite.now r.store.now r.locks.now in
+    let ts = setting_of g.V.StoreValue.is_closeable g.S.Suite.suite_view g.S.Suite.enabled_gives g.S.Callbacks.registered g.S.Suite.call_gives g.S.Suite.action_gives g.S.Action.CloseAction.close_gives r.suite.now r.store.now r.locks.now in
     let s : Lanes g.row.V.Denot = record { first = c.args.lanes.now; second = c.args.lock_lanes.now } in
     let opened : Lanes g.row.V.Denot = record { first = c.open_container.new.lanes; second = c.args.lock_lanes.now } in
     let body : Lanes g.row.V.Denot = record { first = c.run_body.new.lanes; second = c.run_body.new.lock_lanes } in
@@ -276,7 +277,7 @@ TreeRunner::run_node-returns-in_err-own g t c =
 pub TreeRunner::run_node-gathered-requires-clause-room : goal.TreeRunner::run_node-gathered-requires-clause-room
 TreeRunner::run_node-gathered-requires-clause-room g t c =
     let r = c.args.self.now.nodes in
-    let ts = setting_of g.V.StoreValue.is_closeable g.S.Suite.suite_view g.S.Suite.may_disable g.S.Callbacks.registered g.S.Suite.call_gives g.S.Suite.action_gives g.S.Action.CloseAction.close_gives r.suite.now r.store.now r.locks.now in
+    let ts = setting_of g.V.StoreValue.is_closeable g.S.Suite.suite_view g.S.Suite.enabled_gives g.S.Callbacks.registered g.S.Suite.call_gives g.S.Suite.action_gives g.S.Action.CloseAction.close_gives r.suite.now r.store.now r.locks.now in
     let node = c.args.item.node in
     let s : Lanes g.row.V.Denot = record { first = c.args.lanes.now; second = c.args.lock_lanes.now } in
     let body : Lanes g.row.V.Denot = record { first = c.run_body.new.lanes; second = c.run_body.new.lock_lanes } in
@@ -285,7 +286,7 @@ TreeRunner::run_node-gathered-requires-clause-room g t c =
     let ends = c.in_ok-own.ensures.ends opens.path opens.befores opens.begun_by in
     let own = ran_view c.in_ok-own.own in
     let below = rans_below c.in_ok-below.below in
-    let run = container_ran ts c.args.depth node s c.open_container.new.lanes body after own below opens.path opens.befores c.in_ok-begun.begun.went_on c.in_ok-begun.ensures.children.1 (search rules) opens.path_is opens.befores_made opens.begun_by.went_on_is c.in_ok-below.ensures.left.2 ends refl in
+    let run = container_ran ts c.args.depth node s c.open_container.new.lanes body after own below opens.path opens.befores c.in_ok-begun.begun.went_on c.in_ok-begun.ensures.children.1 (search rules) (subst (ts.enabled_gives node) (search rules) c.is_enabled.ensures) opens.path_is opens.befores_made opens.begun_by.went_on_is c.in_ok-below.ensures.left.2 ends refl in
     let fits = room ts (subst IsTree c.tree-tree.ensures c.len-count.ensures.tree) c.requires.ready.0 c.args.depth c.args.depth c.args.item s (own ∷ below) after c.requires.item run in
     let a = c.len.ensures in let b = c.in_ok-ran.ensures.capacity in let d = c.args.item.closers.ok.0 in
     omega (arith, fits, a, b, d)
@@ -293,7 +294,7 @@ TreeRunner::run_node-gathered-requires-clause-room g t c =
 pub TreeRunner::run_node-returns : goal.TreeRunner::run_node-returns
 TreeRunner::run_node-returns g t c =
     let r = c.args.self.now.nodes in
-    let ts = setting_of g.V.StoreValue.is_closeable g.S.Suite.suite_view g.S.Suite.may_disable g.S.Callbacks.registered g.S.Suite.call_gives g.S.Suite.action_gives g.S.Action.CloseAction.close_gives r.suite.now r.store.now r.locks.now in
+    let ts = setting_of g.V.StoreValue.is_closeable g.S.Suite.suite_view g.S.Suite.enabled_gives g.S.Callbacks.registered g.S.Suite.call_gives g.S.Suite.action_gives g.S.Action.CloseAction.close_gives r.suite.now r.store.now r.locks.now in
     let node = c.args.item.node in
     let s : Lanes g.row.V.Denot = record { first = c.args.lanes.now; second = c.args.lock_lanes.now } in
     let body : Lanes g.row.V.Denot = record { first = c.run_body.new.lanes; second = c.run_body.new.lock_lanes } in
@@ -303,7 +304,7 @@ TreeRunner::run_node-returns g t c =
     let ends = c.in_ok-own.ensures.ends opens.path opens.befores opens.begun_by in
     let own = ran_view c.in_ok-own.own in
     let below = rans_below c.in_ok-below.below in
-    let run = container_ran ts c.args.depth node s c.open_container.new.lanes body after own below opens.path opens.befores c.in_ok-begun.begun.went_on c.in_ok-begun.ensures.children.1 (search rules) opens.path_is opens.befores_made opens.begun_by.went_on_is c.in_ok-below.ensures.left.2 ends refl in
+    let run = container_ran ts c.args.depth node s c.open_container.new.lanes body after own below opens.path opens.befores c.in_ok-begun.begun.went_on c.in_ok-begun.ensures.children.1 (search rules) (subst (ts.enabled_gives node) (search rules) c.is_enabled.ensures) opens.path_is opens.befores_made opens.begun_by.went_on_is c.in_ok-below.ensures.left.2 ends refl in
     record {
       left = (
         usable-then r.store.now r.locks.now body after kept c.close_container.ensures.count refl (c.close_container.ensures.own_lanes, kept.idle),
@@ -316,7 +317,7 @@ TreeRunner::run_node-returns g t c =
 pub TreeRunner::run_body-returns-in_err-first : goal.TreeRunner::run_body-returns-in_err-first
 TreeRunner::run_body-returns-in_err-first g t c =
     let r = c.args.self.now.nodes in
-    let ts = setting_of g.V.StoreValue.is_closeable g.S.Suite.suite_view g.S.Suite.may_disable g.S.Callbacks.registered g.S.Suite.call_gives g.S.Suite.action_gives g.S.Action.CloseAction.close_gives r.suite.now r.store.now r.locks.now in
+    let ts = setting_of g.V.StoreValue.is_closeable g.S.Suite.suite_view g.S.Suite.enabled_gives g.S.Callbacks.registered g.S.Suite.call_gives g.S.Suite.action_gives g.S.Action.CloseAction.close_gives r.suite.now r.store.now r.locks.now in
     let s : Lanes g.row.V.Denot = record { first = c.args.lanes.now; second = c.args.lock_lanes.now } in
     let z : Lanes g.row.V.Denot = record { first = c.run_beside.new.lanes; second = c.run_beside.new.lock_lanes } in
     let why = c.in_err-first.field-0.0 in
@@ -335,7 +336,7 @@ TreeRunner::run_body-returns-in_err-first g t c =
 pub TreeRunner::run_body-returns-in_err-first_refusal : goal.TreeRunner::run_body-returns-in_err-first_refusal
 TreeRunner::run_body-returns-in_err-first_refusal g t c =
     let r = c.args.self.now.nodes in
-    let ts = setting_of g.V.StoreValue.is_closeable g.S.Suite.suite_view g.S.Suite.may_disable g.S.Callbacks.registered g.S.Suite.call_gives g.S.Suite.action_gives g.S.Action.CloseAction.close_gives r.suite.now r.store.now r.locks.now in
+    let ts = setting_of g.V.StoreValue.is_closeable g.S.Suite.suite_view g.S.Suite.enabled_gives g.S.Callbacks.registered g.S.Suite.call_gives g.S.Suite.action_gives g.S.Action.CloseAction.close_gives r.suite.now r.store.now r.locks.now in
     let s : Lanes g.row.V.Denot = record { first = c.args.lanes.now; second = c.args.lock_lanes.now } in
     let z : Lanes g.row.V.Denot = record { first = c.run_beside.new.lanes; second = c.run_beside.new.lock_lanes } in
     let why = c.in_err-first_refusal.field-0.0 in
@@ -356,7 +357,7 @@ TreeRunner::run_body-returns-in_err-first_refusal g t c =
 pub TreeRunner::run_body-returns-in_err-others : goal.TreeRunner::run_body-returns-in_err-others
 TreeRunner::run_body-returns-in_err-others g t c =
     let r = c.args.self.now.nodes in
-    let ts = setting_of g.V.StoreValue.is_closeable g.S.Suite.suite_view g.S.Suite.may_disable g.S.Callbacks.registered g.S.Suite.call_gives g.S.Suite.action_gives g.S.Action.CloseAction.close_gives r.suite.now r.store.now r.locks.now in
+    let ts = setting_of g.V.StoreValue.is_closeable g.S.Suite.suite_view g.S.Suite.enabled_gives g.S.Callbacks.registered g.S.Suite.call_gives g.S.Suite.action_gives g.S.Action.CloseAction.close_gives r.suite.now r.store.now r.locks.now in
     let s : Lanes g.row.V.Denot = record { first = c.args.lanes.now; second = c.args.lock_lanes.now } in
     let between : Lanes g.row.V.Denot = record { first = c.run_beside.new.lanes; second = c.run_beside.new.lock_lanes } in
     let z : Lanes g.row.V.Denot = record { first = c.run_in_turn.new.lanes; second = c.run_in_turn.new.lock_lanes } in
@@ -379,7 +380,7 @@ TreeRunner::run_body-returns-in_err-others g t c =
 pub TreeRunner::run_in_turn-returns-in_err-below : goal.TreeRunner::run_in_turn-returns-in_err-below
 TreeRunner::run_in_turn-returns-in_err-below g t c =
     let r = c.args.self.now.nodes in
-    let ts = setting_of g.V.StoreValue.is_closeable g.S.Suite.suite_view g.S.Suite.may_disable g.S.Callbacks.registered g.S.Suite.call_gives g.S.Suite.action_gives g.S.Action.CloseAction.close_gives r.suite.now r.store.now r.locks.now in
+    let ts = setting_of g.V.StoreValue.is_closeable g.S.Suite.suite_view g.S.Suite.enabled_gives g.S.Callbacks.registered g.S.Suite.call_gives g.S.Suite.action_gives g.S.Action.CloseAction.close_gives r.suite.now r.store.now r.locks.now in
     let s : Lanes g.row.V.Denot = record { first = c.args.lanes.now; second = c.args.lock_lanes.now } in
     let reached : Lanes g.row.V.Denot = record { first = c.loop-item.lanes; second = c.loop-item.lock_lanes } in
     let z : Lanes g.row.V.Denot = record { first = c.run_node.new.lanes; second = c.run_node.new.lock_lanes } in

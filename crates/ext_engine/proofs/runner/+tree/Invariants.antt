@@ -27,7 +27,7 @@ invariant-TreeRunner::run_in_turn-loop-item g l = record {
   items : l.yielded ++ l.item-iterator.rest.items ≡ l.fn.items.items;
   lanes : IsUsable l.self.nodes.store.now l.self.nodes.locks.now (record { first = l.lanes; second = l.lock_lanes });
   count : length l.lanes ≡ length l.fn.lanes;
-  run : RanInTurn (TreeRun (setting_of g.V.StoreValue.is_closeable g.S.Suite.suite_view g.S.Suite.may_disable g.S.Callbacks.registered g.S.Suite.call_gives g.S.Suite.action_gives g.S.Action.CloseAction.close_gives l.self.nodes.suite.now l.self.nodes.store.now l.self.nodes.locks.now) l.depth) (map (λ i. i.node) l.yielded)
+  run : RanInTurn (TreeRun (setting_of g.V.StoreValue.is_closeable g.S.Suite.suite_view g.S.Suite.enabled_gives g.S.Callbacks.registered g.S.Suite.call_gives g.S.Suite.action_gives g.S.Action.CloseAction.close_gives l.self.nodes.suite.now l.self.nodes.store.now l.self.nodes.locks.now) l.depth) (map (λ i. i.node) l.yielded)
       (record { first = l.fn.lanes; second = l.fn.lock_lanes }) (flat_map ran_in l.outcomes.items) (record { first = l.lanes; second = l.lock_lanes });
   given : length l.outcomes.items ≡ length l.yielded;
   room : vec_len l.fn.items ≤ vec_capacity l.outcomes;

@@ -16,13 +16,13 @@ pub place-requires : goal.place-requires
 place-requires g c =
     let st = c.args.store.now in
     let su = g.S.Suite.suite_view c.args.suite.now in
-    let ts = setting_of g.V.StoreValue.is_closeable g.S.Suite.suite_view g.S.Suite.may_disable g.S.Callbacks.registered g.S.Suite.call_gives g.S.Suite.action_gives g.S.Action.CloseAction.close_gives c.args.suite.now st c.args.locks.now in
+    let ts = setting_of g.V.StoreValue.is_closeable g.S.Suite.suite_view g.S.Suite.enabled_gives g.S.Callbacks.registered g.S.Suite.call_gives g.S.Suite.action_gives g.S.Action.CloseAction.close_gives c.args.suite.now st c.args.locks.now in
     let nodes = length st.tree in
     let tree = subst (λ t. IsTree t) c.tree.ensures c.len.ensures.tree in
     let grow = grown ts tree c.requires.runnable 16 0 _ (map ran_view c.in_ok-ran.ran.items) _ c.in_ok-ran.ensures.left.2 in
     let count : c.len.result ≡ nodes = search rules in
     let places : vec_len c.in_ok-results.results ≡ nodes = (let e = skipped-count su c.in_ok-results.results.items c.len.result c.in_ok-results.ensures in let f = c.in_ok-results.results.ok.0 in omega (arith, e, f, count)) in
-    ran-placed c.in_ok-ran.ran.items nodes (vec_len c.in_ok-results.results) places (ran_within st.tree su (g.S.Suite.may_disable c.args.suite.now) tree 16 (map ran_view c.in_ok-ran.ran.items) grow)
+    ran-placed c.in_ok-ran.ran.items nodes (vec_len c.in_ok-results.results) places (ran_within st.tree su (g.S.Suite.enabled_gives c.args.suite.now) tree 16 (map ran_view c.in_ok-ran.ran.items) grow)
 
 pub returns-clause-nodes : goal.returns-clause-nodes
 returns-clause-nodes g c =

@@ -10,6 +10,6 @@ pub returns : goal.returns
 returns g c =
     let r = c.turn_all.ensures.turned in
     record {
-      shared = shared c.args.store.now r.0 r.1 c.args.lanes.now c.turn_all.new.lanes r.2 c.recall_all.ensures r.3 c.agree_all.ensures.agree c.agree_all.ensures.agree_faults;
+      shared = shared c.args.store.now r.0 r.1 c.args.lanes.now c.turn_all.new.lanes r.2 c.tell_proof_of_all.ensures r.3 c.agree_all.ensures.agree c.agree_all.ensures.agree_faults;
       numbered = numbered c.args.store.now r.0 r.1 c.args.lanes.now c.turn_all.new.lanes r.3;
     }

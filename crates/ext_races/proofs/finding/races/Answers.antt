@@ -14,9 +14,6 @@ use Rattle.ext_races.proofs.finding.races.Goals as goal
 pub standing_of-requires-clause-plan : goal.standing_of-requires-clause-plan
 standing_of-requires-clause-plan c = c.requires
 
-pub standing_of-requires-clause-tree : goal.standing_of-requires-clause-tree
-standing_of-requires-clause-tree c = c.in_ok-tree.ensures
-
 pub standing_of-requires-clause-keys : goal.standing_of-requires-clause-keys
 standing_of-requires-clause-keys c = c.of-keys.ensures ∙ ap keys_view c.as_slice.ensures.value
 
@@ -25,7 +22,7 @@ standing_of-requires-clause-made c = ap (made_views []) c.as_slice-5.ensures.val
 
 pub groups_of-requires-clause-nodes : goal.groups_of-requires-clause-nodes
 groups_of-requires-clause-nodes c =
-    subst (All (λ m. m.node < length c.in_ok-tree.tree)) (sym c.as_slice-6.ensures.value) (nodes_in (plan_view c.args.plan.now) c.in_ok-made.made.items c.in_ok-tree.tree c.in_ok-made.ensures c.in_ok-tree.ensures)
+    subst (All (λ m. m.node < length c.tree-tree.result.now)) (sym c.as_slice-6.ensures.value) (nodes_in (plan_view c.args.plan.now) c.in_ok-made.made.items c.tree-tree.result.now c.in_ok-made.ensures c.tree-tree.ensures)
 
 pub found_in-requires-clause-groups : goal.found_in-requires-clause-groups
 found_in-requires-clause-groups c =
@@ -33,8 +30,8 @@ found_in-requires-clause-groups c =
     let made = c.in_ok-made.made.items in
     let keys = c.of-keys.ensures ∙ ap keys_view c.as_slice.ensures.value in
     let named = c.in-Ok.ensures.keys ∙ ap (λ xs. keys_told (keys_in c.of-keys.result) (map made_view xs)) c.as_slice-3.ensures.value ∙ keys_same (keys_in c.of-keys.result) [] [] made in
-    let are = touches_in plan (made_views [] made) c.in_ok-made.ensures (keys_in c.of-keys.result) c.in-Ok.named.0 c.in_ok-tree.tree (groups_view c.in_ok-groups.groups.items) keys c.in_ok-tree.ensures named
-    (rw (← c.as_slice-6.ensures.value) (c.in_ok-groups.ensures.groups (standing plan) c.in_ok-standing.ensures)) in
+    let are = touches_in plan (made_views [] made) c.in_ok-made.ensures (keys_in c.of-keys.result) c.in-Ok.named.0 c.tree-tree.result.now (groups_view c.in_ok-groups.groups.items) keys c.tree-tree.ensures named
+    (rw (← c.as_slice-6.ensures.value) (c.in_ok-groups.ensures.groups (standing plan) (rw c.tree-tree.ensures c.in_ok-standing.ensures))) in
     subst (λ n. IsGrouped n (touches_made plan) (groups_view c.as_slice-7.result.now)) (sym c.len-keys.ensures.count)
     (subst (λ groups. IsGrouped (length c.in-Ok.named.0) (touches_made plan) (groups_view groups)) (sym c.as_slice-7.ensures.value) are)
 

@@ -1,6 +1,7 @@
 use Rattle.std.proofs.Common.{◌≡◌, ◌∙◌, ap, length, map, subst, sym}
 use Rattle.std.specs.List.{flat_map}
 use Rattle.std.proofs.lemmas.Bool.{eqb-true}
+use Rattle.ext_tree.specs.Trees.{children_of}
 use Rattle.ext_plan.specs.Plans.{plan_view}
 use Rattle.ext_plan.specs.PlanCalls.{steps_of_call}
 use Rattle.ext_plan.specs.StepCalls.{keys_in}
@@ -14,14 +15,14 @@ use Rattle.ext_races.proofs.standing.computes_before.Goals as goal
 pub returns-then-is_empty : goal.returns-then-is_empty
 returns-then-is_empty c = λ some.
     let none = eqb-true (length c.children.result.now) 0 (sym c.is_empty.ensures ∙ c.if-is_empty.true) in
-    none_there _ (ap length (sym c.children.ensures) ∙ none) some
+    none_there _ (ap length (sym (c.children.ensures ∙ ap (λ ids. children_of ids c.args.node) c.tree-tree.ensures)) ∙ none) some
 
 pub returns : goal.returns
 returns c = λ some.
     let plan = plan_view c.args.plan.now in
     let declared = keys_in c.args.keys.now in
     let directory = c.args.directory.now in
-    let path : c.path_in-path.result.now ≡ plan_path plan c.args.node = c.path_in-path.ensures.path c.requires.node ∙ ap (λ ids. path_of ids c.args.node) c.requires.tree in
+    let path : c.path_in-path.result.now ≡ plan_path plan c.args.node = c.path_in-path.ensures.path (rw c.tree-tree.ensures c.requires.node) ∙ ap (λ ids. path_of ids c.args.node) c.tree-tree.ensures in
     let calls = c.as_slice.ensures.value ∙ c.in_ok-calls.ensures in
     let all = c.in_ok-note_calls.ensures (first_none declared directory c.path_in-path.result.now c.new-computes.result.items c.new-computes.ensures.items) in
     subst (λ p. AreFirst declared directory p (map act_of (flat_map (steps_of_call plan) (calls_before plan c.args.node))) c.note_calls.new.computes.items) path

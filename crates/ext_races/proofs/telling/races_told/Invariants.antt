@@ -1,5 +1,6 @@
 use Rattle.std.proofs.Common.{◌≡◌, length, take, vec_len, [], fold}
 use Rattle.ext_plan.specs.Plans.{plan_view}
+use Rattle.ext_plan.specs.ReadPlans.{ids_of_nodes}
 use Rattle.ext_races.specs.InnerGroups.{groups_view}
 use Rattle.ext_races.specs.InnerTold.{group_told}
 use Rattle.ext_races.proofs.telling.races_told.Given as goal
@@ -7,5 +8,5 @@ use Rattle.ext_races.proofs.telling.races_told.Given as goal
 abbrev pub invariant-loop-group : goal.invariant-loop-group
 invariant-loop-group l = record {
   told : l.told.items ≡ fold (group_told (plan_view l.plan) l.most) [] (groups_view (take l.group-index l.groups));
-  count : vec_len l.passed ≡ length l.tree;
+  count : vec_len l.passed ≡ length (ids_of_nodes (plan_view l.plan).nodes);
 }

@@ -11,7 +11,7 @@ use Rattle.ext_run.proofs.RunReports.{with_texts}
 use Rattle.ext_run.proofs.results.results_of.Goals as goal
 
 pub plain_results-requires : goal.plain_results-requires
-plain_results-requires g c = record { runnable = c.requires.runnable; contexts = c.requires.contexts }
+plain_results-requires g c = c.requires.runnable
 
 pub returns-in_err-plain_results : goal.returns-in_err-plain_results
 returns-in_err-plain_results g c = record {

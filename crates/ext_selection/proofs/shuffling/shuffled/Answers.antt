@@ -8,17 +8,17 @@ use Rattle.ext_selection.specs.InnerStarts.{AreStarts, IsRegrouped}
 use Rattle.ext_selection.proofs.Starts.{order_again}
 use Rattle.ext_selection.proofs.shuffling.shuffled.Goals as goal
 
-pub returns-clause-places : goal.returns-clause-places
-returns-clause-places c =
-    let places : List ℕ = c.args.places.now in
+pub returns-clause-indices : goal.returns-clause-indices
+returns-clause-indices c =
+    let indices : List ℕ = c.args.indices.now in
     let levels : List ℕ = c.in_ok-levels.levels.items in
-    let level : IsPermutation places c.as_slice-2.result.now =
-    subst (IsPermutation places) (sym c.as_slice-2.ensures.value) c.in_ok-levels.ensures.places in
+    let level : IsPermutation indices c.as_slice-2.result.now =
+    subst (IsPermutation indices) (sym c.as_slice-2.ensures.value) c.in_ok-levels.ensures.indices in
     IfOk-weaker c.regrouped.result
     (λ order. IsPermutation c.as_slice-2.result.now order.items)
-    (λ order. IsPermutation places order.items)
-    (λ order p. IsPermutation-trans places c.as_slice-2.result.now order.items level p)
-    c.regrouped.ensures.places
+    (λ order. IsPermutation indices order.items)
+    (λ order p. IsPermutation-trans indices c.as_slice-2.result.now order.items level p)
+    c.regrouped.ensures.indices
 
 pub returns-clause-order : goal.returns-clause-order
 returns-clause-order c =
@@ -38,7 +38,7 @@ returns-clause-order c =
 pub returns-clause-once : goal.returns-clause-once
 returns-clause-once c = λ count h.
     IfOk-weaker c.regrouped.result
-    (λ order. IsPermutation c.args.places.now order.items)
+    (λ order. IsPermutation c.args.indices.now order.items)
     (λ order. ArePlaces count order.items)
-    (λ order p. moved_places count c.args.places.now order.items p h)
-    (returns-clause-places c)
+    (λ order p. moved_places count c.args.indices.now order.items p h)
+    (returns-clause-indices c)

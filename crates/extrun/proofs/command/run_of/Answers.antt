@@ -11,5 +11,5 @@ returns c =
       options = c.options_in.ensures;
       form_asked = c.asks_for_form.ensures;
       color = subst (λ text. IsColor text c.color_in.result) (first_value-rows found (codes "color")) c.color_in.ensures;
-      beside = c.told_in.ensures;
+      beside = c.asides_in.ensures;
     }

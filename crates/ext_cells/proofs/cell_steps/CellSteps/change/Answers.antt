@@ -1,7 +1,7 @@
-use Rattle.ext_rows.specs.Views.{limits_of}
-use Rattle.ext_rows.specs.Marks.{marks}
-use Rattle.ext_rows.proofs.Steps.{exchanges}
-use Rattle.ext_rows.proofs.Marked.{is_layout}
+use Rattle.ext_cells.specs.InnerViews.{limits_of}
+use Rattle.ext_cells.specs.InnerMarks.{marks}
+use Rattle.ext_cells.proofs.WordSteps.{exchanges}
+use Rattle.ext_cells.proofs.Marked.{is_layout}
 use Rattle.ext_cells.proofs.cell_steps.CellSteps.change.Goals as goal
 
 pub compare_exchange_with-requires : goal.compare_exchange_with-requires

@@ -1,6 +1,6 @@
 use Rattle.std.proofs.Common.{refl, ap, sym, subst}
 use Rattle.ext_cells.specs.InnerSteps.{IsMarked}
-use Rattle.ext_cells.proofs.RowSteps.{Ready, ready_marked, ready_used, may_still, missed_so, made_so}
+use Rattle.ext_cells.proofs.MarkSteps.{Ready, ready_marked, ready_used, may_still, missed_so, made_so}
 use Rattle.ext_cells.proofs.cell_steps.CellSteps.exchange.Goals.{else-old-eq0-via-then-old-eq0+else-not-mark, else-old-eq0-via-else-old-eq0}
 use Rattle.ext_cells.proofs.cell_steps.CellSteps.exchange.Goals as goal
 

@@ -1,7 +1,7 @@
 use Rattle.std.proofs.Common.{ℕ, ◌≡◌, refl, arith}
-use Rattle.ext_rows.specs.declared.view.View.{View}
+use Rattle.ext_cells.specs.declared.view.View.{View}
 use Rattle.ext_cells.specs.InnerSteps.{IsTable}
-use Rattle.ext_cells.proofs.RowSteps.{Ready, ready_count, missed_so, made_so}
+use Rattle.ext_cells.proofs.MarkSteps.{Ready, ready_count, missed_so, made_so}
 use Rattle.ext_cells.proofs.cell_steps.CellSteps.exchange_count.Goals as goal
 
 ready : (v : View) (words known place : ℕ) → IsTable words known v v.limits.cells → place ≡ v.limits.cells → Ready v v known place

@@ -1,8 +1,8 @@
 use Rattle.std.proofs.Common.{ap}
-use Rattle.ext_rows.specs.Views.{limits_of}
-use Rattle.ext_rows.specs.Marks.{marks}
-use Rattle.ext_rows.proofs.Steps.{loads}
-use Rattle.ext_rows.proofs.Marked.{is_layout}
+use Rattle.ext_cells.specs.InnerViews.{limits_of}
+use Rattle.ext_cells.specs.InnerMarks.{marks}
+use Rattle.ext_cells.proofs.WordSteps.{loads}
+use Rattle.ext_cells.proofs.Marked.{is_layout}
 use Rattle.ext_cells.proofs.cell_steps.CellSteps.load.Goals as goal
 
 pub load-requires : goal.load-requires

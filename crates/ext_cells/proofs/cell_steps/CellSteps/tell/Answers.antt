@@ -1,6 +1,6 @@
 use Rattle.std.proofs.Common.{◌≡◌, ap, sym, ◌∙◌, arith}
-use Rattle.ext_rows.specs.Steps.{by_count}
-use Rattle.ext_rows.proofs.Seats.{splits_note, joins_note}
+use Rattle.ext_cells.specs.InnerTableSteps.{by_count}
+use Rattle.ext_cells.proofs.Seats.{splits_note, joins_note}
 use Rattle.ext_cells.proofs.cell_steps.CellSteps.tell.Goals as goal
 
 pub split_seat-note-requires : goal.split_seat-note-requires

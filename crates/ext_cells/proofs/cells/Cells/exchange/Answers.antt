@@ -1,5 +1,5 @@
 use Rattle.std.proofs.Common.{◌≡◌, ◌≤◌, sym, subst, arith}
-use Rattle.ext_rows.specs.Steps.{place_in}
+use Rattle.ext_cells.specs.InnerTableSteps.{place_in}
 use Rattle.ext_cells.proofs.Lanes.{may_exchange, made_lane, made_stays, missed_stays}
 use Rattle.ext_cells.proofs.cells.Cells.exchange.Goals as goal
 

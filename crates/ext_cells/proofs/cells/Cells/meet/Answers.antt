@@ -1,8 +1,8 @@
 use Rattle.std.proofs.Common.{ap, sym, subst, refl, ◌∙◌}
 use mathlib.Core.List.{IsPrefix}
 use Rattle.ext_history.specs.Histories.{seen}
-use Rattle.ext_rows.specs.declared.view.View.{View}
-use Rattle.ext_rows.specs.Views.{note, noted}
+use Rattle.ext_cells.specs.declared.view.View.{View}
+use Rattle.ext_cells.specs.InnerViews.{note, noted}
 use Rattle.ext_cells.proofs.Meeting.{met_stays, met_call, met_step, met_cells, met_told}
 use Rattle.ext_cells.proofs.cells.Cells.meet.Goals as goal
 

@@ -23,13 +23,13 @@ wide blocks some = omega (arith, some)
 
 pub returns-then-again-empty-clause-nearest : goal.returns-then-again-empty-clause-nearest
 returns-then-again-empty-clause-nearest c =
-    (rows_nearest c.args.self.now.id c.args.lane.now c.read_empty-empty.new.lane c.read_versions-again.new.lane c.args.rows.now (c.args.blocks * 32) c.args.column c.read_empty-empty.result c.read_versions-again.result c.requires.lane c.recall.ensures.numbers c.requires.known
+    (rows_nearest c.args.self.now.id c.args.lane.now c.read_empty-empty.new.lane c.read_versions-again.new.lane c.args.rows.now (c.args.blocks * 32) c.args.column c.read_empty-empty.result c.read_versions-again.result c.requires.lane c.tell_proof.ensures.numbers c.requires.known
     c.read_empty-empty.ensures.lane c.read_empty-empty.ensures.read c.read_versions-again.ensures.read c.if-again-empty.true _ c.nearest_at.ensures.none c.nearest_at.ensures.some).0
 
 pub returns-then-again-empty-clause-steps : goal.returns-then-again-empty-clause-steps
 returns-then-again-empty-clause-steps c =
-    (rows_nearest c.args.self.now.id c.args.lane.now c.read_empty-empty.new.lane c.read_versions-again.new.lane c.args.rows.now (c.args.blocks * 32) c.args.column c.read_empty-empty.result c.read_versions-again.result c.requires.lane c.recall.ensures.numbers c.requires.known
-    c.read_empty-empty.ensures.lane c.read_empty-empty.ensures.read c.read_versions-again.ensures.read c.if-again-empty.true _ c.nearest_at.ensures.none c.nearest_at.ensures.some).1 c.args.self.now.tries c.recall.ensures.tries
+    (rows_nearest c.args.self.now.id c.args.lane.now c.read_empty-empty.new.lane c.read_versions-again.new.lane c.args.rows.now (c.args.blocks * 32) c.args.column c.read_empty-empty.result c.read_versions-again.result c.requires.lane c.tell_proof.ensures.numbers c.requires.known
+    c.read_empty-empty.ensures.lane c.read_empty-empty.ensures.read c.read_versions-again.ensures.read c.if-again-empty.true _ c.nearest_at.ensures.none c.nearest_at.ensures.some).1 c.args.self.now.tries c.tell_proof.ensures.tries
 
 -- ---- pass after pass
 
@@ -37,13 +37,13 @@ pub loop-init : goal.loop-init
 loop-init c = record {
   cells = c.read_versions-rest.ensures.lane ∙ (c.read_versions-again.ensures.lane ∙ c.read_empty-empty.ensures.lane);
   passes =
-      rows_begun c.args.self.now.id c.args.lane.now c.read_empty-empty.new.lane c.read_versions-again.new.lane c.args.rows.now (c.args.blocks * 32) c.args.column c.read_empty-empty.result c.read_versions-again.result c.requires.lane c.recall.ensures.numbers c.requires.known
+      rows_begun c.args.self.now.id c.args.lane.now c.read_empty-empty.new.lane c.read_versions-again.new.lane c.args.rows.now (c.args.blocks * 32) c.args.column c.read_empty-empty.result c.read_versions-again.result c.requires.lane c.tell_proof.ensures.numbers c.requires.known
       c.read_empty-empty.ensures.lane c.read_empty-empty.ensures.read c.read_versions-again.ensures.read c.read_versions-rest.new.lane c.read_versions-rest.result c.if-again-empty.false c.read_versions-again.ensures.lane c.read_versions-rest.ensures.read;
 }
 
 pub returns-then-again-seen-clause-nearest : goal.returns-then-again-seen-clause-nearest
 returns-then-again-seen-clause-nearest c =
-    let few = subst (λ z. z.limits.numbers < 2 ^ 20) (sym c.requires.lane) c.recall.ensures.numbers in
+    let few = subst (λ z. z.limits.numbers < 2 ^ 20) (sym c.requires.lane) c.tell_proof.ensures.numbers in
     let i = c.loop.invariant in
     let words = i.passes.0 in
     let cells = cells_in c.args.rows.now (c.args.blocks * 32) c.args.column in
@@ -96,7 +96,7 @@ returns-clause-contended c =
 pub returns-clause-steps : goal.returns-clause-steps
 returns-clause-steps c =
     let tries = c.tries-end.ensures.tries in
-    let least = c.recall.ensures.tries in
+    let least = c.tell_proof.ensures.tries in
     let end = c.loop.auto.counter-end in
     subst (λ n. length (call_fronts c.args.lane.now.view c.loop.lane.view) ≤ n * (c.args.self.now.tries + 1)) (cells_length c.args.rows.now (c.args.blocks * 32) c.args.column)
     (steps_all c.args.lane.now.cells.limits _ _ _ c.loop.invariant.passes.0 c.loop.counter (cells_apart c.args.rows.now (c.args.blocks * 32) c.args.column (wide c.args.blocks c.requires.blocks) c.requires.different) c.loop.invariant.passes.2 _ (omega (arith, tries, least, end)))

@@ -15,7 +15,7 @@ loop-row-init c =
       cells = refl;
       count = empty.0;
       versions = let v = empty.1 in omega (arith, v);
-      read = ([], pass_none c.args.lane.now.cells.limits c.args.lane.now.view c.recall.ensures.legal, c.new-reading.ensures.reading);
+      read = ([], pass_none c.args.lane.now.cells.limits c.args.lane.now.view c.tell_proof.ensures.legal, c.new-reading.ensures.reading);
     }
 
 pub read_at-word-requires-clause-cell : goal.read_at-word-requires-clause-cell

@@ -13,7 +13,7 @@ pub loop-row-init : goal.loop-row-init
 loop-row-init c = record {
   cells = refl;
   versions = omega arith;
-  read = ([], refl, pass_none c.args.lane.now.cells.limits c.args.lane.now.view c.recall.ensures.legal);
+  read = ([], refl, pass_none c.args.lane.now.cells.limits c.args.lane.now.view c.tell_proof.ensures.legal);
 }
 
 pub read_at-word-requires-clause-cell : goal.read_at-word-requires-clause-cell

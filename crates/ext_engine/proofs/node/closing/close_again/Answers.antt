@@ -24,7 +24,7 @@ returns-in-Ok-clause-closes g c =
     let inv = c.loop.invariant in
     let count = count_kept c.loop.lanes c.close.new.lanes c.in-Ok.ensures.happened.lanes ∙ inv.count in
     asked_again g.V.StoreValue.is_closeable g.A.CloseAction.close_gives c.args.store.now c.args.closer c.args.lanes.now c.args.action.now c.in-Ok.closed c.close.new.lanes c.close.new.action
-    (first_legal c.args.store.now c.close.new.lanes _ (omega (arith, count, c.requires.lanes)) c.in-Ok.ensures.own_lanes c.recall.ensures.legal) c.requires.own_lanes
+    (first_legal c.args.store.now c.close.new.lanes _ (omega (arith, count, c.requires.lanes)) c.in-Ok.ensures.own_lanes c.tell_proof.ensures.legal) c.requires.own_lanes
     (record {
       refusals = inv.refused.0;
       asked = c.loop.lanes;

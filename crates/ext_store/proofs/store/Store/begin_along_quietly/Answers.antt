@@ -18,7 +18,7 @@ returns-clause-held g c = along_held c.args.self.now c.args.path.now c.args.key 
 
 pub returns-clause-no_faults : goal.returns-clause-no_faults
 returns-clause-no_faults g c = along_faultless c.args.self.now c.args.path.now c.args.key c.args.lane.now.cells.view c.claim_along_quietly-claimed.new.lane.view c.claim_along_quietly-claimed.result
-    (subst (λ (z : CellsId). IsLegal z.limits (seen_by c.claim_along_quietly-claimed.new.lane.view)) (c.claim_along_quietly-claimed.ensures.lane ∙ (ap (λ (l : StoreLane g.row.V.Denot). l.cells.cells) c.lane.view_is ∙ c.requires.lane.cells)) c.recall-2.ensures.legal)
+    (subst (λ (z : CellsId). IsLegal z.limits (seen_by c.claim_along_quietly-claimed.new.lane.view)) (c.claim_along_quietly-claimed.ensures.lane ∙ (ap (λ (l : StoreLane g.row.V.Denot). l.cells.cells) c.lane.view_is ∙ c.requires.lane.cells)) c.tell_proof-2.ensures.legal)
     (returns-clause-answer g c)
 
 pub returns-clause-stays : goal.returns-clause-stays

@@ -14,10 +14,19 @@ use Rattle.ext_store_core.specs.Waiting.{ClaimsAlongAfterWaits}
 use Rattle.ext_store.specs.Waiting.{ComputesAlongAfterWaits}
 use Rattle.ext_store.proofs.Frames.{frame_keeps, frames_compose, grows}
 use Rattle.ext_store.proofs.Composing.{unused_computes, ends_failed, failed_uses, failed_back, failed_apart, failed_faultless, computes, keeps_not}
-use Rattle.ext_store.proofs.Waited.{computes_later, waits_frame}
+use Rattle.ext_store.proofs.Waited.{computes_later, waits_frame, waits_held}
 use Rattle.ext_store.proofs.Faulting.{along_faultless, handed_faultless}
 use Rattle.ext_store.proofs.Uncalled.{unused_apart, unused_back, unused_decided, unused_uses}
 use Rattle.ext_store.proofs.store.Store.compute_along_wait_named.Goals as goal
+
+pub run_factory-requires-clause-held : goal.run_factory-requires-clause-held
+run_factory-requires-clause-held g c = waits_held c.self.inside.shared c.args.path.now c.args.key c.lane.inside.cells.view c.claim_along_wait.new.lane.view c.in-Ok.claim c.in-Ok.ensures.claim
+
+pub fill_decided-requires-clause-held : goal.fill_decided-requires-clause-held
+fill_decided-requires-clause-held g c = waits_held c.self.inside.shared c.args.path.now c.args.key c.lane.inside.cells.view c.claim_along_wait.new.lane.view c.in-Ok.claim c.in-Ok.ensures.claim
+
+pub end_failed_decided-requires-clause-held : goal.end_failed_decided-requires-clause-held
+end_failed_decided-requires-clause-held g c = waits_held c.self.inside.shared c.args.path.now c.args.key c.lane.inside.cells.view c.claim_along_wait.new.lane.view c.in-Ok.claim c.in-Ok.ensures.claim
 
 pub returns-in-Err-clause-answer : goal.returns-in-Err-clause-answer
 returns-in-Err-clause-answer g c =
@@ -183,7 +192,7 @@ returns-in-Err-clause-no_faults g c off =
     subst (λ (z : StoreView × Lane). ClaimsAlongAfterWaits (context_cells z.0) c.args.path.now c.args.key z.1.view b.view (Err c.in-Err.why)) (λ i. (c.self.view_is i, lane i)) c.in-Err.ensures.claim in
     handed_faultless c.args.factory c.in-Err.why c.hand_back.result c.hand_back.ensures
     (along_faultless s c.args.path.now c.args.key w.between b.view (Err c.in-Err.why)
-    (subst (λ (z : CellsId). IsLegal z.limits (seen_by c.claim_along_wait.new.lane.view)) (c.claim_along_wait.ensures.lane ∙ (ap (λ (l : StoreLane g.row.V.Denot). l.cells.cells) c.lane.view_is ∙ c.requires.lane.cells)) c.recall-in-Err.ensures.legal) w.then_is off)
+    (subst (λ (z : CellsId). IsLegal z.limits (seen_by c.claim_along_wait.new.lane.view)) (c.claim_along_wait.ensures.lane ∙ (ap (λ (l : StoreLane g.row.V.Denot). l.cells.cells) c.lane.view_is ∙ c.requires.lane.cells)) c.tell_proof-in-Err.ensures.legal) w.then_is off)
 
 pub returns-in-Err-run_factory-clause-decided : goal.returns-in-Err-run_factory-clause-decided
 returns-in-Err-run_factory-clause-decided g c = c.end_failed_decided.ensures.decided

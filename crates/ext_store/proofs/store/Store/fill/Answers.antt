@@ -20,12 +20,12 @@ use Rattle.ext_store.proofs.store.Store.fill.Goals as goal
 pub fill-requires-clause-held : goal.fill-requires-clause-held
 fill-requires-clause-held g c =
     subst (λ (l : Lane). IsHeld l.view c.args.claim) (sym (ap (λ (l : StoreLane g.row.V.Denot). l.cells) c.lane.view_is))
-    (kept_held c.args.self.now c.args.lane.now.cells c.keep.new.lane.cells c.requires.lane.cells c.args.claim c.in-Ok.kept (subst (λ (z : CellsId). IsLegal z.limits (seen_by c.keep.new.lane.cells.view)) c.keep.ensures.lane.cells c.recall.ensures.legal) c.in-Ok.ensures.answer.drawn c.requires.held)
+    (kept_held c.args.self.now c.args.lane.now.cells c.keep.new.lane.cells c.requires.lane.cells c.args.claim c.in-Ok.kept (subst (λ (z : CellsId). IsLegal z.limits (seen_by c.keep.new.lane.cells.view)) c.keep.ensures.lane.cells c.tell_proof.ensures.legal) c.in-Ok.ensures.answer.drawn c.requires.held)
 
 pub abandon-requires-clause-held : goal.abandon-requires-clause-held
 abandon-requires-clause-held g c =
     subst (λ (l : Lane). IsHeld l.view c.args.claim) (sym (ap (λ (l : StoreLane g.row.V.Denot). l.cells) c.lane.view_is))
-    (fails_held c.args.self.now c.args.lane.now.cells c.keep.new.lane.cells c.requires.lane.cells c.args.claim c.in-Err.unkept.1 (subst (λ (z : CellsId). IsLegal z.limits (seen_by c.keep.new.lane.cells.view)) c.keep.ensures.lane.cells c.recall-in-Err.ensures.legal) c.in-Err.ensures.answer.fails c.requires.held)
+    (fails_held c.args.self.now c.args.lane.now.cells c.keep.new.lane.cells c.requires.lane.cells c.args.claim c.in-Err.unkept.1 (subst (λ (z : CellsId). IsLegal z.limits (seen_by c.keep.new.lane.cells.view)) c.keep.ensures.lane.cells c.tell_proof-in-Err.ensures.legal) c.in-Err.ensures.answer.fails c.requires.held)
 
 pub returns-in-Ok-clause-events : goal.returns-in-Ok-clause-events
 returns-in-Ok-clause-events g c =

@@ -16,4 +16,4 @@ pub returns-clause-lane : goal.returns-clause-lane
 returns-clause-lane c = c.look_along-looked.ensures.lane
 
 pub returns-clause-no_faults : goal.returns-clause-no_faults
-returns-clause-no_faults c off = looks_faultless c.args.self.now c.args.path.now c.args.key c.args.lane.now c.look_along-looked.new.lane c.requires.lane off (subst (λ (z : CellsId). IsLegal z.limits (seen_by c.look_along-looked.new.lane.view)) c.look_along-looked.ensures.lane c.recall.ensures.legal) c.look_along-looked.result c.look_along-looked.ensures.look
+returns-clause-no_faults c off = looks_faultless c.args.self.now c.args.path.now c.args.key c.args.lane.now c.look_along-looked.new.lane c.requires.lane off (subst (λ (z : CellsId). IsLegal z.limits (seen_by c.look_along-looked.new.lane.view)) c.look_along-looked.ensures.lane c.tell_proof.ensures.legal) c.look_along-looked.result c.look_along-looked.ensures.look

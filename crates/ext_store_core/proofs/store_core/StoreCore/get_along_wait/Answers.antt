@@ -17,4 +17,4 @@ pub returns-clause-lane : goal.returns-clause-lane
 returns-clause-lane g c = c.wait_along-looked.ensures.lane
 
 pub returns-clause-no_faults : goal.returns-clause-no_faults
-returns-clause-no_faults g c off = look_faultless c.args.self.now c.args.path.now c.args.key c.args.lane.now c.wait_along-looked.new.lane c.requires.lane off (subst (λ (z : CellsId). IsLegal z.limits (seen_by c.wait_along-looked.new.lane.view)) c.wait_along-looked.ensures.lane c.recall.ensures.legal) c.wait_along-looked.result c.wait_along-looked.ensures.look
+returns-clause-no_faults g c off = look_faultless c.args.self.now c.args.path.now c.args.key c.args.lane.now c.wait_along-looked.new.lane c.requires.lane off (subst (λ (z : CellsId). IsLegal z.limits (seen_by c.wait_along-looked.new.lane.view)) c.wait_along-looked.ensures.lane c.tell_proof.ensures.legal) c.wait_along-looked.result c.wait_along-looked.ensures.look

@@ -15,6 +15,6 @@ returns-then-ne-clause-reply c = draws_later c.args.self.now.tries c.args.lane.n
 pub loop-preserved : goal.loop-preserved
 loop-preserved c =
     let why : c.in-Err.why ≡ cell.Contended = search rules in
-    after_one_more c.args.self.now.tries c.loop.counter c.args.lane.now c.loop.lane c.keep.new.lane c.recall.ensures.tries c.loop.invariant c.keep.ensures.lane
+    after_one_more c.args.self.now.tries c.loop.counter c.args.lane.now c.loop.lane c.keep.new.lane c.tell_proof.ensures.tries c.loop.invariant c.keep.ensures.lane
     (subst (λ w. cells.Answers c.args.self.now.tries c.loop.lane c.keep.new.lane cells.number_acts (cells.number_reply c.loop.lane) (Err w)) why c.in-Err.ensures.reply)
     (c.in-Err.ensures.contended (ap Err why)) c.keep.ensures.steps

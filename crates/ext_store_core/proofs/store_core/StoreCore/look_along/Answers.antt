@@ -7,7 +7,7 @@ use Rattle.ext_store_core.proofs.store_core.StoreCore.look_along.Goals as goal
 
 pub nearest-requires-clause-known : goal.nearest-requires-clause-known
 nearest-requires-clause-known c =
-    trail_within c.args.self.now (c.blocks-blocks.result * 32) c.args.key _ c.args.path.now c.blocks-blocks.ensures.places c.requires.key (ap (λ (s : ContextCells). s.cells.limits.cells) c.self.view_is ∙ c.recall.ensures.cells) c.requires.path
+    trail_within c.args.self.now (c.blocks-blocks.result * 32) c.args.key _ c.args.path.now c.blocks-blocks.ensures.places c.requires.key (ap (λ (s : ContextCells). s.cells.limits.cells) c.self.view_is ∙ c.tell_proof.ensures.cells) c.requires.path
 
 pub nearest-requires-clause-different : goal.nearest-requires-clause-different
 nearest-requires-clause-different c = trail_different c.args.self.now c.args.path.now c.requires.path

@@ -12,4 +12,4 @@ returns-clause-stands c =
     (stands_by c.args.self.now c.args.path.now c.args.key c.args.lane.now c.look_along-looked.new.lane c.look_along-looked.result c.look_along-looked.ensures.look)
 
 pub returns-clause-legal : goal.returns-clause-legal
-returns-clause-legal c = subst (λ (z : CellsId). IsLegal z.limits (seen_by c.look_along-looked.new.lane.view)) c.look_along-looked.ensures.lane c.recall.ensures.legal
+returns-clause-legal c = subst (λ (z : CellsId). IsLegal z.limits (seen_by c.look_along-looked.new.lane.view)) c.look_along-looked.ensures.lane c.tell_proof.ensures.legal

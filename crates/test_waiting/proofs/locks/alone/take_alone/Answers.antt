@@ -37,4 +37,4 @@ never beginnings only tries set before after (Contended lock) one below least le
 pub returns-in-Err : goal.returns-in-Err
 returns-in-Err c =
     absurd
-    (never c.lock_laws.ensures.beginnings c.lock_laws.ensures.only_lanes _ _ _ _ _ c.requires.alone c.recall-2.ensures.lane c.recall.ensures.limits.2 (subst (λ (n : ℕ). IsLegal n (seen_by c.try_take.new.lane.view)) c.in-Err.ensures.refused_events.lanes c.recall-in-Err.ensures.legal) c.in-Err.ensures.refusal)
+    (never c.lock_laws.ensures.beginnings c.lock_laws.ensures.only_lanes _ _ _ _ _ c.requires.alone c.tell_proof-2.ensures.lane c.tell_proof.ensures.limits.2 (subst (λ (n : ℕ). IsLegal n (seen_by c.try_take.new.lane.view)) c.in-Err.ensures.refused_events.lanes c.tell_proof-in-Err.ensures.legal) c.in-Err.ensures.refusal)

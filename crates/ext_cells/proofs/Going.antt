@@ -1,0 +1,139 @@
+-- The rule after one step of one seat, whatever the step was: the words follow those before it, the history goes on by
+-- events of the stepping lane alone, and the seat has a view that fits them.
+use Rattle.std.proofs.Common.{◌≡◌, ⊎_elim, ℕ, ◌<◌, ◌≤◌, List, [], ◌∷◌, length, get_or, set, arith, refl, sym, ap, subst, ◌∙◌, Some, true}
+use Rattle.std.proofs.lemmas.List.{set-get_or}
+use mathlib.Core.Option.{some}
+use mathlib.Core.List.{IsPrefix}
+use base.Growing.{prefix_refl, prefix_trans}
+use lib.ListN.{get_elem?}
+use Rattle.atomic_table.specs.Table.{State}
+use Rattle.atomic_table.proofs.Lists.{at_set}
+use Rattle.ext_model.specs.declared.event.Act.{Act}
+use Rattle.ext_model.specs.History.{History, own, state_after, IsLegal}
+use Rattle.ext_history.specs.Histories.{seen}
+use Rattle.ext_history.proofs.Fronts.{last_append}
+use Rattle.ext_history.proofs.Lists.{contains_cons}
+use Rattle.ext_cells.specs.declared.limits.CellLimits.{CellLimits}
+use Rattle.ext_cells.specs.declared.view.View.{View}
+use Rattle.ext_cells.specs.Standings.{At, AreCellsOf}
+use Rattle.ext_cells.specs.InnerLayouts.{Layout}
+use Rattle.ext_cells.specs.InnerViews.{limits_of, shown, led, sought}
+use Rattle.ext_cells.specs.InnerRule.{StandsAt, Fits, Kept}
+
+-- cells stay at their places, and blocks' words only grow
+pub record Follows (limits : CellLimits) (l : Layout) (words later : List ℕ) : Type 0 where
+  pub stays : (cell at : ℕ) → cell < limits.cells → l.stands words cell ≡ At at → l.stands later cell ≡ At at
+  pub grows : (place : ℕ) → l.is_block place ≡ true → get_or words place 0 ≤ get_or later place 0
+
+-- what a change of words keeps
+pub record Keeps (limits : CellLimits) (l : Layout) (words : List ℕ) (h : History) (later : List ℕ) : Type 0 where
+  pub follows : Follows limits l words later
+  pub wide : length later ≡ l.width
+  pub sound : l.sound later ≡ true
+  pub are : AreCellsOf (limits_of limits) (l.stands later) h later
+  pub count : get_or later l.count 0 ≡ (state_after h).drawn
+
+pub follows_same : (limits : CellLimits) (l : Layout) (words : List ℕ) → Follows limits l words words
+follows_same limits l words = record { stays = λ cell at less is. is; grows = λ place block. omega arith }
+
+stood : (limits : CellLimits) (l : Layout) (words later : List ℕ) (cell place : ℕ) → Follows limits l words later → StandsAt limits l words cell place → StandsAt limits l later cell place
+stood limits l words later cell place on is = record { within = is.within; stands = on.stays cell place is.within is.stands }
+
+at_least : (a b c : ℕ) → a ≤ b → b ≤ c → a ≤ c
+at_least a b c p q = omega (arith, p, q)
+
+-- ---- what views know
+
+module _ (limits : CellLimits) (l : Layout) (words later : List ℕ) (h : History) (v : View) (on : Follows limits l words later) (f : Fits limits l words h v) where
+  pub fits_shown : (g : History) → Fits limits l later g (shown v g)
+  fits_shown g = let same = sym (last_append [] v.fronts (g ∷ [])) in record {
+    seen_is = subst (λ (z : History). IsPrefix z g) same (prefix_refl g);
+    told_is = (g, refl);
+    limits_are = f.limits_are;
+    lane_is = f.lane_is;
+    own_is = λ n e. ap (own n) same;
+    placed_are = λ cell place there. stood limits l words later cell place on (f.placed_are cell place there);
+    least_is = λ block. at_least _ _ _ (f.least_is block) (on.grows v.block block);
+  }
+
+  -- a view that saw nothing
+  pub fits_stays : Fits limits l later h v
+  fits_stays = record {
+    seen_is = f.seen_is;
+    told_is = f.told_is;
+    limits_are = f.limits_are;
+    lane_is = f.lane_is;
+    own_is = f.own_is;
+    placed_are = λ cell place there. stood limits l words later cell place on (f.placed_are cell place there);
+    least_is = λ block. at_least _ _ _ (f.least_is block) (on.grows v.block block);
+  }
+
+pub fits_led : (limits : CellLimits) (l : Layout) (words : List ℕ) (h : History) (v : View) (cell place : ℕ) → Fits limits l words h v → StandsAt limits l words cell place → Fits limits l words h (led v cell place)
+fits_led limits l words h v cell place f here = record {
+  seen_is = f.seen_is;
+  told_is = f.told_is;
+  limits_are = f.limits_are;
+  lane_is = f.lane_is;
+  own_is = f.own_is;
+  placed_are = λ other at there. ⊎_elim (λ same. subst (λ (t : ℕ × ℕ). StandsAt limits l words t.0 t.1) same here) (λ later. f.placed_are other at later) (contains_cons (cell, place) v.placed (other, at) there);
+  least_is = f.least_is;
+}
+
+pub fits_sought : (limits : CellLimits) (l : Layout) (words : List ℕ) (h : History) (v : View) (place : ℕ) → Fits limits l words h v → Fits limits l words h (sought v place (get_or words place 0))
+fits_sought limits l words h v place f = record {
+  seen_is = f.seen_is;
+  told_is = f.told_is;
+  limits_are = f.limits_are;
+  lane_is = f.lane_is;
+  own_is = f.own_is;
+  placed_are = f.placed_are;
+  least_is = λ block. omega arith;
+}
+
+-- ---- the rule
+
+module _ (limits : CellLimits) (l : Layout) (s : State (Act ℕ) View) (k : Kept limits l s) (id : ℕ) (v w : View) (at : get_elem? s.views id ≡ some v) (lane_stays : v.lane ≡ w.lane) (given_stays : v.given ≡ w.given) where
+  -- a view that stands after the step had the same number and count before it
+  was : (j : ℕ) (u : View) → get_elem? (set s.views id w) j ≡ some u → (x : View) × (get_elem? s.views j ≡ some x) × (x.lane ≡ u.lane) × (x.given ≡ u.given)
+  was j u there =
+      ⊎_elim
+      (λ t. (v, subst (λ n. get_elem? s.views n ≡ some v) (sym t.0) at, lane_stays ∙ ap (λ (x : View). x.lane) t.1, given_stays ∙ ap (λ (x : View). x.given) t.1))
+      (λ t. (u, t.1, refl, refl))
+      (at_set s.views id j w u there)
+
+  pub goes_on : (h : History) → IsPrefix k.history h → IsLegal (limits_of limits) h → ((n : ℕ) → (v.lane ≡ Some n → ⊥) → own n h ≡ own n k.history)
+      → (words : List ℕ) → Follows limits l s.words words → length words ≡ l.width → l.sound words ≡ true → AreCellsOf (limits_of limits) (l.stands words) h words
+      → get_or words l.count 0 ≡ (state_after h).drawn → Fits limits l words h w
+      → Kept limits l (record { words = words; homes = s.homes; views = set s.views id w })
+  goes_on h longer legal others words on wide sound are count fits = record {
+    history = h;
+    legal = legal;
+    wide = wide;
+    sound = sound;
+    cells_are = are;
+    count_is = count;
+    fits = λ j u there. ⊎_elim
+        (λ t. subst (Fits limits l words h) t.1 fits)
+        (λ t. let f = k.fits j u t.1 in let g = fits_stays limits l s.words words k.history u on f in record {
+          seen_is = prefix_trans (seen u.fronts) k.history h f.seen_is longer;
+          told_is = prefix_trans u.told k.history h f.told_is longer;
+          limits_are = f.limits_are;
+          lane_is = f.lane_is;
+          own_is = λ n e. others n (λ mine. t.0 (k.apart j id u v n t.1 at e mine)) ∙ f.own_is n e;
+          placed_are = g.placed_are;
+          least_is = g.least_is;
+        })
+        (at_set s.views id j w u there);
+    apart = λ i j x y n ix jy ex ey. let a = was i x ix in let b = was j y jy in k.apart i j a.0 b.0 n a.1 b.1 (a.2 ∙ ex) (b.2 ∙ ey);
+    one_giver = λ i j x y d e ix jy ex ey. let a = was i x ix in let b = was j y jy in k.one_giver i j a.0 b.0 d e a.1 b.1 (a.3 ∙ ex) (b.3 ∙ ey);
+    most = λ i x d ix ex. let a = was i x ix in k.most i a.0 d a.1 (a.3 ∙ ex);
+    below = λ i j x y n d ix jy ex ey. let a = was i x ix in let b = was j y jy in k.below i j a.0 b.0 n d a.1 b.1 (a.2 ∙ ex) (b.3 ∙ ey);
+    unborn = λ i x d n ix ex le. let a = was i x ix in
+        others n (λ mine. let b = k.below id i v a.0 n d at a.1 mine (a.3 ∙ ex) in absurd (omega arith)) ∙ k.unborn i a.0 d n a.1 (a.3 ∙ ex) le;
+  }
+
+  -- the step changed nothing but the view
+  pub looks : (place : ℕ) → Fits limits l s.words k.history w → Kept limits l (record { words = set s.words place (get_or s.words place 0); homes = s.homes; views = set s.views id w })
+  looks place fits =
+      subst (λ (words : List ℕ). Kept limits l (record { words = words; homes = s.homes; views = set s.views id w })) (sym (set-get_or s.words place 0))
+      (goes_on k.history (prefix_refl k.history) k.legal (λ n _. refl) s.words (follows_same limits l s.words) k.wide k.sound k.cells_are k.count_is fits)

@@ -1,0 +1,16 @@
+use Rattle.std.proofs.Common.{Ok}
+use Rattle.ext_plan_reading.specs.Plans.{plan_view}
+use Rattle.ext_run.specs.OneReports.{ReportsOne}
+use Rattle.ext_run.specs.Reports.{Reports}
+use Rattle.ext_run.proofs.RunReports.{reported, unwritten}
+use Rattle.ext_run.proofs.runs.run_plan.Goals as goal
+
+pub returns-in_err-write_whole-clause-refused : goal.returns-in_err-write_whole-clause-refused
+returns-in_err-write_whole-clause-refused g c =
+    unwritten c.args.options (plan_view c.args.plan.now) c.from_residual-in_err-write_whole.result _ c.from_residual-in_err-write_whole.ensures.1 c.in_err-write_whole.ensures.fault
+
+pub returns-clause-written : goal.returns-clause-written
+returns-clause-written g c = reported (Reports c.args.options (Ok (plan_view c.args.plan.now))) _ _ _ _ _ c.in_ok-output.ensures.run c.as_slice.ensures.value c.in_ok-write_whole.ensures.written
+
+pub returns-clause-one_report : goal.returns-clause-one_report
+returns-clause-one_report g c = reported (ReportsOne c.args.options (Ok (plan_view c.args.plan.now))) _ _ _ _ _ c.in_ok-output.ensures.one c.as_slice.ensures.value c.in_ok-write_whole.ensures.written
