@@ -85,7 +85,6 @@ unfoldable pub line_of_keys : ℕ → ℕ → Option (List ℕ)
 line_of_keys keys places = if nat_le keys places then None
     else Some (if nat_le keys 1024 then raise_line keys places else too_many_line)
 
--- The line of the plan that was read. A refused plan has none.
-abbrev pub keys_explained : Result PlanText RunFault → Option (List ℕ)
-keys_explained (Ok plan) = line_of_keys (length (keys_named plan)) plan.key_places
-keys_explained (Err fault) = None
+-- The line of a plan.
+abbrev pub keys_explained : PlanText → Option (List ℕ)
+keys_explained plan = line_of_keys (length (keys_named plan)) plan.key_places

@@ -1,9 +1,9 @@
 //! Reading a plan without running it.
-ghost use Rattle.std.specs.Prelude.{◌≡◌, ◌≢◌, ◌≤◌, ◌+◌, ℕ, List, None, false, length, option_map, string_bytes, IfOk, IfErr, IfSome, OnOk};
+ghost use Rattle.std.specs.Prelude.{◌≡◌, ◌≢◌, ◌≤◌, ◌+◌, ℕ, List, false, length, option_map, string_bytes, IfOk, IfErr, IfSome, OnOk};
 ghost use Rattle.std.specs.Io.KnownBytes.{Consumes, Appends};
 ghost use Rattle.ext_plan_reading.specs.Plans.{nodes_view, plan_view};
 ghost use Rattle.ext_run.specs.Reports.{input_limit, plan_of_bytes, plan_of_input};
-ghost use Rattle.ext_plan_reading.specs.ReadPlans.{IsRunnablePlan};
+ghost use Rattle.ext_plan_reading.specs.ReadPlans.{IsReadPlan, IsRunnablePlan};
 ghost use Rattle.ext_races.specs.Touches.{keys_named};
 ghost use Rattle.ext_run.specs.Checks.{counts_line, IsCountsOf, IsRacesOf, RefusedUnrun, TellsRaces, is_free, keys_explained, line_of_keys, races_as, raise_line, test_count};
 ghost use Rattle.ext_run.specs.InnerOutputs.{ChecksAs};
@@ -15,7 +15,7 @@ use crate::options::Summary;
 use crate::reading::plan_of;
 use crate::runs::write_whole;
 use ext_model::Size;
-use ext_plan_reading::{Plan, PlanFault, PlanNode};
+use ext_plan_reading::{Plan, PlanNode};
 use ext_races::{Found, count_keys, races, races_json, races_text};
 use std::alloc::{AllocError, Global};
 use std::io::{Read, Write};
@@ -173,37 +173,14 @@ fn counts_line(alloc: Global, plan: &Plan) -> Result<String, AllocError>
     }
 }
 
-/// Explains why steps may fail with `directory full`, in a line without its line feed: the steps of
-/// the plan in these bytes name more different keys than there are places. The line says how many,
-/// and which field of the plan raises the limit. There is none if the steps name no more, or if the
-/// bytes are no plan.
+/// Explains why steps of a run of this plan may fail with `directory full`, in a line without its
+/// line feed: they name more different keys than there are places. The line says how many, and which
+/// field of the plan raises the limit. There is none if the steps name no more.
 ///
-/// Takes memory for the plan, its keys and the line; fails with `AllocError` only if that is
-/// refused.
-pub fn explain_keys(alloc: Global, input: &[u8], size: Size) -> Result<Option<String>, AllocError>
-    ensures explained { IfOk result (λ line. option_map string_bytes line ≡ keys_explained (plan_of_bytes size input.now)) }
-{
-    match plan_of(alloc, input, size) {
-        Ok(plan) => line_of_plan(alloc, &plan),
-        Err(fault) => no_line(fault),
-    }
-}
-
-/// No line, since the plan is refused with this fault.
-fn no_line(fault: PlanFault) -> Result<Option<String>, AllocError>
-    ensures { IfOk result (λ line. (line ≡ None) × (fault ≢ PlanFault.Memory)) }
-{
-    if fault == PlanFault::Memory {
-        return Err(AllocError);
-    }
-    Ok(None)
-}
-
-/// What `explain_keys` says of this plan.
-fn line_of_plan(alloc: Global, plan: &Plan) -> Result<Option<String>, AllocError>
-    requires { IsRunnablePlan (plan_view plan.now) }
-    ensures { IfOk result (λ line. option_map string_bytes line
-        ≡ line_of_keys (length (keys_named (plan_view plan.now))) plan.now.key_places) }
+/// Takes memory for the keys and the line; fails with `AllocError` only if that is refused.
+pub fn explain_keys(alloc: Global, plan: &Plan) -> Result<Option<String>, AllocError>
+    requires plan { IsReadPlan (plan_view plan.now) }
+    ensures explained { IfOk result (λ line. option_map string_bytes line ≡ keys_explained (plan_view plan.now)) }
 {
     match count_keys(alloc, plan)? {
         Some(keys) => line_of_keys(alloc, keys, plan.key_places),

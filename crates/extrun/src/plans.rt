@@ -112,7 +112,7 @@ where
     ensures refused { IfErr result (λ fault. IsUndoneRequest task input.now fault) }
 {
     let begun = Instant::now(rt).ok();
-    let done = outcome_of_task(rt, input, writer, task);
+    let done = outcome_of_task(rt, input, writer, task, explained);
     if let Task::CheckAll(size) = task
         && let Err(RunFault::Plan(fault)) = done
     {
@@ -124,7 +124,7 @@ where
     }
     let outcome = told(rt, done);
     if explained {
-        explain_outcome(rt, input, task, outcome);
+        explain_outcome(rt, input, task.size(), outcome);
     }
     outcome
 }
@@ -157,29 +157,17 @@ fn write_time<R: Clock + AllocGlobal, W: Write>(
     }
 }
 
-/// Prints why a task was not done, or why keys of a run that failed have no place.
+/// Prints why a task was not done.
 fn explain_outcome<R: AllocGlobal + Eprint>(
     rt: &R,
     input: &[u8],
-    task: Task,
+    size: Size,
     outcome: Result<Summary, RequestFault>,
 ) {
-    match (task, outcome) {
-        (_, Err(RequestFault::Run(RunFault::Plan(fault)))) => {
-            explain_fault(rt, input, task.size(), fault);
-        }
-        (_, Err(RequestFault::Run(fault))) => explain_undone(rt, fault),
-        (Task::Run { .. }, Ok(summary)) if summary.failed => {
-            explain_full_keys(rt, input, task.size());
-        }
+    match outcome {
+        Err(RequestFault::Run(RunFault::Plan(fault))) => explain_fault(rt, input, size, fault),
+        Err(RequestFault::Run(fault)) => explain_undone(rt, fault),
         _ => {}
-    }
-}
-
-/// Prints why keys of the plan in these bytes have no place, if there are any.
-fn explain_full_keys(rt: &(impl AllocGlobal + Eprint), input: &[u8], size: Size) {
-    if let Ok(Some(line)) = explain_keys(rt.alloc(), input, size) {
-        let _ = eprintln!(rt; "{}", line.as_str());
     }
 }
 
@@ -196,12 +184,14 @@ fn told<T: Drop>(rt: &impl Eprint, outcome: Result<T, RunFault>) -> Result<T, Re
     }
 }
 
-/// Does the task with the plan in these bytes.
+/// Does the task with the plan in these bytes. Prints why keys of a run that failed have no place,
+/// if that is to be explained.
 fn outcome_of_task<R: Threads + Wait + Sync + Clock + AllocGlobal + Eprint, W: Write>(
     rt: &R,
     input: &[u8],
     writer: &mut W,
     task: Task,
+    explained: bool,
 ) -> Result<Summary, RunFault>
     ensures done { IfOk result (λ summary. IsDone task input.now summary (Appends (W.contents writer.old) (W.contents writer.new))) }
     ensures one_report { IfOk result (λ summary. IsOneDone task input.now summary (Appends (W.contents writer.old) (W.contents writer.new))) }
@@ -213,7 +203,7 @@ fn outcome_of_task<R: Threads + Wait + Sync + Clock + AllocGlobal + Eprint, W: W
             options,
             asides,
             ..
-        } => run_input(rt, input, writer, in_range(options), asides),
+        } => run_input(rt, input, writer, in_range(options), asides, explained),
         Task::Check(size) | Task::CheckAll(size) => {
             check(rt.alloc(), &mut reader, writer, size)?;
             Ok(Summary::done())
@@ -244,13 +234,15 @@ fn in_range(options: Options) -> Options
     }
 }
 
-/// Runs the plan in these bytes, and says beside it what is asked for.
+/// Runs the plan in these bytes, and says beside it what is asked for. If the run failed and that is
+/// to be explained, prints why keys have no place.
 fn run_input<R: Threads + Wait + Sync + Clock + AllocGlobal + Eprint, W: Write>(
     rt: &R,
     input: &[u8],
     writer: &mut W,
     options: Options,
     asides: Asides,
+    explained: bool,
 ) -> Result<Summary, RunFault>
     requires lanes { options.plain ≡ false → (1 ≤ options.lanes) × (options.lanes ≤ 16) }
     ensures { IsRunOutcome options (plan_of_input options.size input.now) result (Appends (W.contents writer.old) (W.contents writer.new)) }
@@ -259,7 +251,23 @@ fn run_input<R: Threads + Wait + Sync + Clock + AllocGlobal + Eprint, W: Write>(
         Ok(plan) => plan,
         Err(fault) => return Err(fault),
     };
-    run_told(rt, &plan, writer, options, asides)
+    let outcome = run_told(rt, &plan, writer, options, asides);
+    if explained
+        && let Ok(summary) = outcome
+        && summary.failed
+    {
+        explain_full_keys(rt, &plan);
+    }
+    outcome
+}
+
+/// Prints why keys of this plan have no place, if steps name more than there are places.
+fn explain_full_keys(rt: &(impl AllocGlobal + Eprint), plan: &Plan)
+    requires plan { IsReadPlan (plan_view plan.now) }
+{
+    if let Ok(Some(line)) = explain_keys(rt.alloc(), plan) {
+        let _ = eprintln!(rt; "{}", line.as_str());
+    }
 }
 
 /// The plan in these bytes, which may be as large as this. Takes memory.
