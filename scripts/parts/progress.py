@@ -37,19 +37,21 @@ OTHERS = ["[engine:x]", *(f"[engine:x]/[test:{number}]" for number in range(6)),
 
 
 def told(program, words):
-    """The lines on standard error while the report waits, what comes behind them, the report, and the exit status."""
+    """The lines on standard error while the report waits, after how many seconds the first came, what comes behind them, the report, and the exit status."""
+    begun = time.monotonic()
     with subprocess.Popen([program, *words], stdin=subprocess.PIPE, stdout=subprocess.PIPE, stderr=subprocess.PIPE) as run:
         run.stdin.write(PLAN.encode())
         run.stdin.close()
         clock = threading.Timer(PATIENCE, run.kill)
         clock.start()
         lines = [run.stderr.readline()]
+        waited = time.monotonic() - begun
         while LINE.fullmatch(lines[-1]) and lines[-1] != LAST:
             lines.append(run.stderr.readline())
         report = run.stdout.read()
         others = run.stderr.read()
         clock.cancel()
-        return lines, others, report, run.wait()
+        return lines, waited, others, report, run.wait()
 
 
 def slow_plan(names, steps):
@@ -112,9 +114,9 @@ def stopped(program, words, names, steps):
 def cases(program):
     """What is looked at, whether it is right, and what came."""
     for words in ["--lanes", "2"], ["--store", "plain"], ["--lanes", "2", "--failures"]:
-        lines, others, report, status = told(program, ["run", "--progress", *words])
-        right = (lines[-1], others, report, status) == (LAST, b"", REPORT.encode(), 0)
-        yield f"run {' '.join(words)}", right, f"status {status}, {lines + [others]}"
+        lines, waited, others, report, status = told(program, ["run", "--progress", *words])
+        right = waited >= 1 and (lines[-1], others, report, status) == (LAST, b"", REPORT.encode(), 0)
+        yield f"run {' '.join(words)}", right, f"status {status}, {lines + [others]}, the first after {waited} s"
     for words, names, steps in (["--store", "plain"], ["m"], 150), (["--lanes", "2"], ["m", "n"], 2_000):
         line, times, said = stopped(program, words, names, steps)
         yield f"run {' '.join(words)} that is stopped, its line", line, said

@@ -59,7 +59,7 @@ pub record IsSkippedExactly (ids : List Id) (top : ℕ) (ran : List Ran) (node :
   pub skipped : (¬ HasRun ran node) ↔ ((above : ℕ) × IsBetween ids top above node × RanAs ran above false)
 
 -- One result for each node, in order: that of its run if the run came to it, and `skipped` otherwise. A node to which
--- the run came is skipped exactly if the suite left it out, and the suite answered for each other one that it is run.
+-- the run came is skipped exactly if the suite left it out, and of each other one the suite may answer that it is run.
 pub record IsOneEach (suite : SuiteView) (enabled_gives : ℕ → Bool → Type 0) (count : ℕ) (ran : List Ran)
     (results : List (ResultOf Fault)) : Type 0 where
   pub nodes : map (λ r. r.node) results ≡ range_with_len 0 count

@@ -59,7 +59,7 @@ pub trait Suite<V: StoreValue + Drop>: Callbacks {
     fn lock<'a>(&'a self, node: ContextNo, i: usize) -> Option<LockRequest<'a>>
         ensures { option_map asks result ≡ slice_get ((suite_view self.now).locks node) i };
 
-    /// What the suite may answer to whether a node is to be run: yes, unless it says otherwise.
+    /// What `is_enabled` may answer of a node: always yes, in a suite that does not say what else.
     ghost enabled_gives: { Self → ℕ → Bool → Type 0 } = { λ suite node answer. answer ≡ true };
 
     /// Whether the node is to be run. Asked once where a run comes to the node, by the thread that

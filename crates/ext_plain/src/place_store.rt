@@ -20,7 +20,7 @@ pub struct PlaceStore {
     pub places: usize,
     /// What was put, claimed or sealed at the places that were used.
     pub store: PlainStore,
-    /// The places where something was put or claimed, or that was tried.
+    /// The places where something was put or claimed, or where that was tried.
     pub used: BTreeSet<(ContextNo, KeyNo)>,
     /// The contexts that have ended.
     pub ended: BTreeSet<ContextNo>,

@@ -18,7 +18,7 @@ use Rattle.ext_run.specs.declared.fault.RunFault.{RunFault}
 use Rattle.ext_run.specs.declared.fault.RunFault.TheVariants as faults
 use Rattle.ext_run.specs.declared.options.Options.{Options}
 use Rattle.ext_run.specs.declared.options.Summary.{Summary}
-use Rattle.ext_run.specs.Reports.{RunReport, input_limit, plan_of_bytes, plan_of_input, plan_or_fault, RefusedAs, RefusedPlan}
+use Rattle.ext_run.specs.Reports.{RunReport, input_limit, plan_of_bytes, plan_of_input, plan_or_fault, IsRunFault, RefusedAs, RefusedPlan}
 use Rattle.ext_run.specs.InnerOutputs.{IsPlanFault}
 
 pub plan_of_utf8 : (size : Size) (input : List ℕ) → IsUtf8 input → plan_of_bytes size input ≡ plan_or_fault (plan_of_text size input)
@@ -69,6 +69,14 @@ RefusedAs-read options text faults.TooLong why = absurd why
 RefusedAs-read options text (faults.Plan fault) why = absurd why
 RefusedAs-read options text (faults.Engine fault) why = why
 RefusedAs-read options text faults.Memory why = tt
+
+pub IsRunFault-read : (options : Options) (text : PlanText) (fault : RunFault) → IsPlanFault options text fault → IsRunFault fault
+IsRunFault-read options text faults.Read why = why
+IsRunFault-read options text faults.Write why = tt
+IsRunFault-read options text faults.TooLong why = why
+IsRunFault-read options text (faults.Plan fault) why = why
+IsRunFault-read options text (faults.Engine fault) why = tt
+IsRunFault-read options text faults.Memory why = tt
 
 pub run_report_is : (report report' : List ℕ) (failed failed' lacked : Bool) → report ≡ report' → failed ≡ failed'
     → (let old : RunReport = record { report = report; failed = failed; lacked = lacked } in let new : RunReport = record { report = report'; failed = failed'; lacked = lacked } in old ≡ new)

@@ -120,3 +120,12 @@ RefusedBy plain lanes faults.Memory read = Unit {0}
 
 abbrev pub RefusedAs : Options → RunFault → Result PlanText RunFault → Type 0
 RefusedAs options fault read = RefusedBy options.plain options.lanes fault read
+
+-- The fault is of a run: of a plan that was read it is never said that it is too long or refused.
+abbrev pub IsRunFault : RunFault → Type 0
+IsRunFault faults.Read = ⊥
+IsRunFault faults.Write = Unit {0}
+IsRunFault faults.TooLong = ⊥
+IsRunFault (faults.Plan fault) = ⊥
+IsRunFault (faults.Engine fault) = Unit {0}
+IsRunFault faults.Memory = Unit {0}

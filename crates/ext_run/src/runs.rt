@@ -6,8 +6,8 @@ ghost use Rattle.ext_plan_reading.specs.ReadPlans.{IsReadPlan};
 ghost use Rattle.ext_lifecycle.specs.FaultTexts.{results_view};
 ghost use Rattle.ext_report.specs.Report.{report_of};
 ghost use Rattle.ext_run.specs.OneReports.{ReportsOne};
-ghost use Rattle.ext_run.specs.Reports.{input_limit, plan_of_input, RefusedAs, Reports};
-ghost use Rattle.ext_run.specs.InnerOutputs.{output_view};
+ghost use Rattle.ext_run.specs.Reports.{input_limit, plan_of_input, IsRunFault, RefusedAs, Reports};
+ghost use Rattle.ext_run.specs.InnerOutputs.{IsPlanFault, output_view};
 
 use crate::fault::RunFault;
 use crate::input::read_input;
@@ -100,7 +100,7 @@ pub fn run<R: Threads + Wait + Sync, I: Read, W: Write>(
 ///
 /// The listener is called on the threads that run the nodes, and has no effect on what is written.
 ///
-/// Refused as `Engine` or `Memory`, with nothing written, or as `Write`. Takes memory for the
+/// Refused as `Engine` or `Memory`, with nothing written, or as `Write`, as by `run`. Takes memory for the
 /// values, the results and the report, and gives all of it back. It waits for the writer, and on
 /// several lanes for its threads and for their steps.
 pub fn run_plan<R: Threads + Wait + Sync, W: Write, L: RunListener + Sync>(
@@ -120,6 +120,7 @@ pub fn run_plan<R: Threads + Wait + Sync, W: Write, L: RunListener + Sync>(
         × ReportsOne options (Ok (plan_view plan.now)) (record { report = report; failed = summary.failed; lacked = summary.lacked })
         × Appends (W.contents writer.old) (W.contents writer.new) report) }
     ensures refused { IfErr result (λ fault. RefusedAs options fault (Ok (plan_view plan.now))) }
+    ensures of_run { IfErr result IsRunFault }
     ensures unwritten { IfErr result (λ fault. fault ≢ RunFault.Write → writer.new ≡ writer.old) }
 {
     let output = output_of(rt, alloc, plan, options, listener)?;
@@ -165,7 +166,7 @@ fn output_of<R: Threads + Wait + Sync, L: RunListener + Sync>(
     requires plan { IsReadPlan (plan_view plan.now) }
     ensures run { IfOk result (λ o. Reports options (Ok (plan_view plan.now)) (output_view o)) }
     ensures one { IfOk result (λ o. ReportsOne options (Ok (plan_view plan.now)) (output_view o)) }
-    ensures fault { IfErr result (λ fault. RefusedAs options fault (Ok (plan_view plan.now))) }
+    ensures fault { IfErr result (IsPlanFault options (plan_view plan.now)) }
 {
     let told = match results_of(rt, alloc, plan, options, listener) {
         Ok(told) => told,

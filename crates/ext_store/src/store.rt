@@ -181,7 +181,8 @@ impl<V: StoreValue + Drop> Store<V> {
     /// event.
     ///
     /// Call it where the second lane goes on with what the first has done, as after a fork or a
-    /// join of threads, if a proof is to know that it sees all of it. No answer depends on it.
+    /// join of threads, if a proof is to know that it sees all of it, or where the second lane is to
+    /// name keys by numbers that the first has drawn. Only `knows_key` answers otherwise behind it.
     #[tactic(auto, unfolding(crate::specs::LaneCalls::Frame))]
     pub fn meet(&self, first: &mut Lane<V>, second: &mut Lane<V>)
         requires first { IsLaneOf self.now.id first.old }

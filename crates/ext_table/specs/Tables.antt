@@ -67,7 +67,8 @@ table_view rows names ids = record {
 abbrev pub registered_in : {T : Type 0} → List (Row T) → Kind → ℕ → ℕ
 registered_in rows kind node = min (length (callbacks_in kind (slice_get rows node))) 1048576
 
--- Whether a node is run: one that is not is in reserve, or the run ends after so many failures.
+-- What the suite may answer to whether a node is run: no only of one in reserve, or where the run ends after so many
+-- failures.
 abbrev pub GivesEnabled : {T : Type 0} → List (Row T) → ℕ → ℕ → Bool → Type 0
 GivesEnabled rows stop_after node answer =
     answer ≡ false → (1 ≤ stop_after) ⊎ (reserved_in (slice_get rows node) ≡ true)

@@ -1,7 +1,7 @@
 //! A plain run of a plan of three tests, which tells whether a step lacked memory.
 use crate::outcome::Outcome;
-use crate::runs::{is_want, outcome_of};
-use ext_run::{Options, ReportForm, Size, run};
+use crate::runs::outcome_of;
+use ext_run::{Options, PlanFault, ReportForm, RunFault, Size, run};
 use std::alloc::Global;
 use std::sync::Wait;
 use std::thread::Threads;
@@ -54,7 +54,8 @@ pub(crate) fn runs_plainly<R: Threads + Wait + Sync>(rt: &R, alloc: Global) -> O
     let mut writer = &mut written[..];
     match run(rt, alloc, &mut reader, &mut writer, options) {
         Ok(summary) => told(outcome_of(&written, REPORT), summary.lacked),
-        Err(fault) if is_want(fault) && written == [0u8; 1024] => Outcome::NoMemory,
+        Err(RunFault::Plan(PlanFault::Memory) | RunFault::Memory) if written == [0u8; 1024] =>
+            Outcome::NoMemory,
         Err(_) => Outcome::Wrong("a plain run is refused, and not for want of memory"),
     }
 }

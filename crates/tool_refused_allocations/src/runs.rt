@@ -3,7 +3,7 @@ ghost use Rattle.std.specs.Prelude.{◌≤◌};
 
 use crate::outcome::Outcome;
 use ext_engine::EngineFault;
-use ext_run::{Options, PlanFault, ReportForm, RunFault, Size, run};
+use ext_run::{NoListener, Options, PlanFault, ReportForm, RunFault, Size, plan_of, run_plan};
 use std::alloc::Global;
 use std::sync::Wait;
 use std::thread::Threads;
@@ -79,24 +79,22 @@ fn runs_on<R: Threads + Wait + Sync>(
         form: ReportForm::Text,
         size: Size::Usual,
     };
+    let plan = match plan_of(alloc, plan.as_bytes(), options.size) {
+        Ok(plan) => plan,
+        Err(PlanFault::Memory) => return Outcome::NoMemory,
+        Err(_) => return Outcome::Wrong("a plan is refused, and not for want of memory"),
+    };
     let mut written = [0u8; 1024];
-    let mut reader = plan.as_bytes();
     let mut writer = &mut written[..];
-    match run(rt, alloc, &mut reader, &mut writer, options) {
+    match run_plan(rt, alloc, &mut writer, &plan, options, &NoListener) {
         Ok(_) => outcome_of(&written, report),
-        Err(fault) if is_want(fault) && written == [0u8; 1024] => Outcome::NoMemory,
+        Err(RunFault::Engine(EngineFault::Memory) | RunFault::Memory) if written == [0u8; 1024] => {
+            Outcome::NoMemory
+        }
         Err(_) => Outcome::Wrong(
             "a run is refused, and not for want of memory with nothing written",
         ),
     }
-}
-
-/// Whether memory was wanted: for the plan, in the engine, or else.
-pub(crate) fn is_want(fault: RunFault) -> bool {
-    matches!(
-        fault,
-        RunFault::Plan(PlanFault::Memory) | RunFault::Engine(EngineFault::Memory) | RunFault::Memory
-    )
 }
 
 /// What became of a run that wrote this, with zeros behind it, of a plan of this report.

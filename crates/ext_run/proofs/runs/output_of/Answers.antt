@@ -8,14 +8,14 @@ use Rattle.ext_run.specs.InnerOutputs.{output_view}
 use Rattle.ext_run.specs.Reports.{IsReportOf}
 use Rattle.ext_run.specs.declared.runs.Output.{Output}
 use Rattle.ext_run.proofs.OneReports.{reports_one}
-use Rattle.ext_run.proofs.RunReports.{RefusedAs-read, run_report_is}
+use Rattle.ext_run.proofs.RunReports.{run_report_is}
 use Rattle.ext_run.proofs.runs.output_of.Goals as goal
 
 pub results_of-requires-clause-runnable : goal.results_of-requires-clause-runnable
 results_of-requires-clause-runnable g c κs within = c.requires.plan.runnable
 
 pub returns-in-Err-clause-fault : goal.returns-in-Err-clause-fault
-returns-in-Err-clause-fault g c = RefusedAs-read c.args.options (plan_view c.args.plan.now) c.in-Err.fault c.in-Err.ensures.fault
+returns-in-Err-clause-fault g c = c.in-Err.ensures.fault
 
 pub report_in-requires : goal.report_in-requires
 report_in-requires g c =

@@ -1,13 +1,29 @@
-use Rattle.std.proofs.Common.{Ok}
+use Rattle.std.proofs.Common.{Ok, subst, sym}
 use Rattle.ext_plan_reading.specs.Plans.{plan_view}
 use Rattle.ext_run.specs.OneReports.{ReportsOne}
-use Rattle.ext_run.specs.Reports.{Reports}
-use Rattle.ext_run.proofs.RunReports.{reported, unwritten}
+use Rattle.ext_run.specs.Reports.{IsRunFault, RefusedAs, Reports}
+use Rattle.ext_run.proofs.ReadBytes.{fault_is}
+use Rattle.ext_run.proofs.RunReports.{IsRunFault-read, RefusedAs-read, reported, unwritten}
 use Rattle.ext_run.proofs.runs.run_plan.Goals as goal
+
+pub returns-in_err-output_of-clause-refused : goal.returns-in_err-output_of-clause-refused
+returns-in_err-output_of-clause-refused g c =
+    let plan = plan_view c.args.plan.now in
+    fault_is (λ fault. RefusedAs c.args.options fault (Ok plan)) c.from_residual.result _ c.from_residual.ensures.1
+    (RefusedAs-read c.args.options plan _ c.in_err-output_of.ensures.fault)
+
+pub returns-in_err-output_of-clause-of_run : goal.returns-in_err-output_of-clause-of_run
+returns-in_err-output_of-clause-of_run g c =
+    fault_is IsRunFault c.from_residual.result _ c.from_residual.ensures.1
+    (IsRunFault-read c.args.options (plan_view c.args.plan.now) _ c.in_err-output_of.ensures.fault)
 
 pub returns-in_err-write_whole-clause-refused : goal.returns-in_err-write_whole-clause-refused
 returns-in_err-write_whole-clause-refused g c =
     unwritten c.args.options (plan_view c.args.plan.now) c.from_residual-in_err-write_whole.result _ c.from_residual-in_err-write_whole.ensures.1 c.in_err-write_whole.ensures.fault
+
+pub returns-in_err-write_whole-clause-of_run : goal.returns-in_err-write_whole-clause-of_run
+returns-in_err-write_whole-clause-of_run g c =
+    fault_is IsRunFault c.from_residual-in_err-write_whole.result _ c.from_residual-in_err-write_whole.ensures.1 (subst IsRunFault (sym c.in_err-write_whole.ensures.fault) tt)
 
 pub returns-clause-written : goal.returns-clause-written
 returns-clause-written g c = reported (Reports c.args.options (Ok (plan_view c.args.plan.now))) _ _ _ _ _ c.in_ok-output.ensures.run c.as_slice.ensures.value c.in_ok-write_whole.ensures.written
