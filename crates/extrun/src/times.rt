@@ -1,5 +1,5 @@
 //! When the nodes of a run started, and how long they took.
-ghost use Rattle.std.specs.Prelude.{◌≡◌, option_map, string_bytes, IfOk};
+ghost use Rattle.std.specs.Prelude.{◌≡◌, option_map, string_bytes, vec_len, IfOk};
 ghost use Rattle.std.specs.Duration.{as_nanos};
 ghost use Rattle.extrun.specs.Times.{is_longer, longer_of, longest_of, node_time, seconds_text, time_text, took_by};
 
@@ -21,7 +21,9 @@ pub(crate) struct Times {
 
 impl Times {
     /// The times of so many nodes, none of which has started. Takes memory.
-    pub(crate) fn new(alloc: Global, nodes: usize) -> Result<Times, AllocError> {
+    pub(crate) fn new(alloc: Global, nodes: usize) -> Result<Times, AllocError>
+        ensures count { IfOk result (λ times. vec_len times.nodes ≡ nodes) }
+    {
         let mut times = Vec::new(alloc);
         for _ in 0..nodes {
             times.push(Time {
