@@ -26,7 +26,7 @@ use Rattle.ext_engine.proofs.Finer.{tree_finer}
 use Rattle.ext_engine.proofs.Going.{goes_met, goes_same, goes_sealed, goes_then, tree_goes}
 use Rattle.ext_engine.proofs.RunLaws.{one_result_each}
 use Rattle.ext_engine.proofs.Grown.{Grows, ran_once}
-use Rattle.ext_engine.proofs.Told.{grown}
+use Rattle.ext_engine.proofs.GrownRuns.{grown}
 use Rattle.ext_one_report.specs.Changing.{NodesChangeOnly}
 use Rattle.ext_parallel.specs.declared.steps.stored_value.StoredValue.{StoredValue}
 use Rattle.ext_parallel.specs.ParallelRun.{ParallelRun}
