@@ -37,7 +37,7 @@ impl RunListener for NoListener {
     fn ended(&self, _ran: &NodeResult, _nodes: usize) {}
 }
 
-/// Reports a fault of the node at this origin to the listener, if there is one, by
+/// Reports a fault of the node with this origin to the listener, if there is one, by
 /// `RunListener::faulted`.
 pub fn tell_fault<L: RunListener>(
     listener: &L,

@@ -25,7 +25,7 @@ const PLAN: &str =
 const THREE_FAULTS: &str =
     "[[key]]\nlabel = \"a\"\n\n[[node]]\nid = \"[engine:x]\"\nafter_each = [[], [\"fail u\"]]\n\n[[node]]\nid = \"[engine:x]/[method:m()]\"\ntest = [\"put! a bad\", \"fail t\"]\n";
 
-/// The faults of that test, in the order in which they come, with their places,
+/// The faults of that test, in the order in which they come, with their origins,
 const FAULTS: [(&str, FaultOrigin); 3] = [
     (
         "t",
@@ -175,7 +175,7 @@ fn faults_in(ran: &NodeResult) -> u64 {
     }
 }
 
-/// Whether it is the fault that comes after so many, at its origin.
+/// Whether it is the fault that comes after so many, with its origin.
 fn is_next(before: Option<u64>, origin: FaultOrigin, fault: &Fault) -> bool {
     let Fault::Text(text) = fault else {
         return false;
