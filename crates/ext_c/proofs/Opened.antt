@@ -72,16 +72,16 @@ seat_next R xs ys more x y so_far is one = subst (λ (l : List _). AllZip R (xs 
 
 -- ---- how many they are
 
-fresh_count : (places fault_places keys : List ℕ) (cells : CellsId) (first n : ℕ) → length (map (fresh_store_lane {V = Handle} places fault_places keys) (fresh_lanes cells first n)) ≡ n
-fresh_count places fault_places keys cells first zero = refl
-fresh_count places fault_places keys cells first (suc n) = ap suc (fresh_count places fault_places keys cells (first + 1) n)
+fresh_count : (slots fault_slots keys : List ℕ) (cells : CellsId) (first n : ℕ) → length (map (fresh_store_lane {V = Handle} slots fault_slots keys) (fresh_lanes cells first n)) ≡ n
+fresh_count slots fault_slots keys cells first zero = refl
+fresh_count slots fault_slots keys cells first (suc n) = ap suc (fresh_count slots fault_slots keys cells (first + 1) n)
 
 pub seat_count : (store : StoreView) (n : ℕ) (closers : List CloserView) (seats : List (Box Seat)) → AreSeats store (lanes_below store n) closers seats → length seats ≡ n
 seat_count store n closers seats are =
     let same : length are.other_seats ≡ length are.other_lanes = AllZip-long (λ lane seat. IsSeatOf store [] lane seat.value) are.other_lanes are.other_seats are.others in
     ap (λ (l : List (Box Seat)). length l) are.all_seats ∙ (length_push are.other_seats are.last_seat ∙ (ap (λ (k : ℕ). k + 1) same
     ∙ (sym (length_push are.other_lanes are.last_lane) ∙ (ap (λ (l : List (StoreLane Handle)). length l) (sym are.all_lanes)
-    ∙ fresh_count store.id.places store.id.fault_places store.id.keys store.id.cells 0 n))))
+    ∙ fresh_count store.id.slots store.id.fault_slots store.id.keys store.id.cells 0 n))))
 
 -- ---- one seat more in a slot
 

@@ -35,13 +35,13 @@ pub record IsStoreOf (ids : List Id) (given : Limits) (store : StoreView) : Type
       }
   pub tries : store.tries ≡ given.tries
   pub keys : length store.id.keys ≡ places_for given.keys
-  pub places : length store.id.places ≡ given.numbers
-  pub fault_places : length store.id.fault_places ≡ fault_count given.keep_faults given.numbers
+  pub slots : length store.id.slots ≡ given.numbers
+  pub fault_slots : length store.id.fault_slots ≡ fault_count given.keep_faults given.numbers
 
 -- The store's first lanes, in order, which have made no step and know nothing.
 abbrev pub lanes_below : StoreView → ℕ → List (StoreLane Handle)
 lanes_below store lanes =
-    map (fresh_store_lane store.id.places store.id.fault_places store.id.keys) (fresh_lanes store.id.cells 0 lanes)
+    map (fresh_store_lane store.id.slots store.id.fault_slots store.id.keys) (fresh_lanes store.id.cells 0 lanes)
 
 -- A closer for each context, in order.
 abbrev pub all_closers : StoreView → List (Option CloserView)

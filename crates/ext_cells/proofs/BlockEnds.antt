@@ -20,7 +20,7 @@ use Rattle.ext_cells.specs.declared.view.View.{View}
 use Rattle.ext_cells.specs.Standings.{Open, Ended, MayEnd, seals}
 use Rattle.ext_cells.specs.InnerViews.{limits_of}
 use Rattle.ext_cells.specs.InnerTableSteps.{EndOf}
-use Rattle.ext_cells.specs.InnerMarks.{block_place, is_ended, mark_of, has_mark, standing_by, standing_in, marks}
+use Rattle.ext_cells.specs.InnerMarks.{block_index, is_ended, mark_of, has_mark, standing_by, standing_in, marks}
 use Rattle.ext_cells.proofs.SealsAtOnce.{end_legal, end_own}
 use Rattle.ext_cells.proofs.Marked.{tells_of, tells_so}
 use Rattle.ext_cells.proofs.MarkedBlocks.{when_open}
@@ -52,11 +52,11 @@ low_bits found k few =
     let one : bit_at 4294967295 k ≡ 1 = bit_at_ones 32 k few in
     let most = bit_at-lt (found / 2) k in omega (arith, all, one, most)
 
-block_of : (cells block place cell : ℕ) → place ≡ cells + 1 + block → block_place cells cell ≡ place → cell / 32 ≡ block
-block_of cells block place cell at here = omega (arith, at, here)
+block_of : (cells block index cell : ℕ) → index ≡ cells + 1 + block → block_index cells cell ≡ index → cell / 32 ≡ block
+block_of cells block index cell at here = omega (arith, at, here)
 
-in_block : (cells block place cell : ℕ) → place ≡ cells + 1 + block → cell / 32 ≡ block → block_place cells cell ≡ place
-in_block cells block place cell at here = omega (arith, at, here)
+in_block : (cells block index cell : ℕ) → index ≡ cells + 1 + block → cell / 32 ≡ block → block_index cells cell ≡ index
+in_block cells block index cell at here = omega (arith, at, here)
 
 -- a cell without a mark is open, or has ended
 left : (ended : Bool) (cell : ℕ) → (standing_by false ended cell ≡ Open) ⊎ (standing_by false ended cell ≡ Ended)
@@ -76,8 +76,8 @@ ended_calls limits lane h cells on below may =
     let n = lane.number in let events = seals n cells in
     calls_moved lane_of lane ((h ++ events) ∷ []) events (prefix_trans (seen_by lane) h (h ++ events) on.begins (events, refl), tt) (end_own h n cells ∙ ap (λ z. z ++ events) on.own_same)
 
-module _ (table table' : TableId) (me after : Me (Act ℕ) View) (number block place found marks_are : ℕ) (lane : Lane) (is : lane_with table me.0 number ≡ lane) (inv : IsLaneView me.0 number) (same : table' ≡ table)
-    (at : place ≡ me.0.limits.cells + 1 + block) (bits : (k : ℕ) → k < 32 → bit_at marks_are k ≡ bit_at (found / 2) k) (did : EndOf (marks me.0.limits.cells) me after number place found) where
+module _ (table table' : TableId) (me after : Me (Act ℕ) View) (number block index found marks_are : ℕ) (lane : Lane) (is : lane_with table me.0 number ≡ lane) (inv : IsLaneView me.0 number) (same : table' ≡ table)
+    (at : index ≡ me.0.limits.cells + 1 + block) (bits : (k : ℕ) → k < 32 → bit_at marks_are k ≡ bit_at (found / 2) k) (did : EndOf (marks me.0.limits.cells) me after number index found) where
   abbrev limits : Limits
   limits = limits_of me.0.limits
 
@@ -98,14 +98,14 @@ module _ (table table' : TableId) (me after : Me (Act ℕ) View) (number block p
     seals = moved_seen old (new_history ∷ []);
     may = did.may;
     within = λ cell there.
-        let t = tells_of limits place found cell Open (did.opened cell there) in
-        record { block_is = block_of me.0.limits.cells block place cell at t.0; mark = bits (cell % 32) (omega arith) ∙ no_mark found cell (when_open (has_mark found cell) (is_ended found) cell t.1).0 };
+        let t = tells_of limits index found cell Open (did.opened cell there) in
+        record { block_is = block_of me.0.limits.cells block index cell at t.0; mark = bits (cell % 32) (omega arith) ∙ no_mark found cell (when_open (has_mark found cell) (is_ended found) cell t.1).0 };
     sealed = λ cell less none.
         let isnt = unmarked found cell (sym (bits (cell % 32) (omega arith)) ∙ none.mark) in
-        let here = in_block me.0.limits.cells block place cell at none.block_is in
+        let here = in_block me.0.limits.cells block index cell at none.block_is in
         let ended : IsSealedUnused new_history cell = did.ended cell less (elim (stands_left found cell isnt) [
-          | inl p ↦ inl (tells_so limits place found cell Open here p)
-          | inr p ↦ inr (tells_so limits place found cell Ended here p)
+          | inl p ↦ inl (tells_so limits index found cell Open here p)
+          | inr p ↦ inr (tells_so limits index found cell Ended here p)
         ]) in
         subst (λ (h : History). IsSealedUnused h cell) (sym (moved_seen old (new_history ∷ []))) ended;
   }

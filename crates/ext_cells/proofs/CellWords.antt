@@ -95,11 +95,11 @@ cell_word h cell w few legal at within =
       room = room h cell ((state_after h).slots cell) refl legal;
     }
 
--- a place has one word
-pub one_word : (limits : Limits) (h : History) (place v w : ℕ) → place ≤ limits.cells → IsWordAt limits h place v → IsWordAt limits h place w → v ≡ w
-one_word limits h place v w within a b = dite (ℕ_discrete place limits.cells)
+-- an index has one word
+pub one_word : (limits : Limits) (h : History) (index v w : ℕ) → index ≤ limits.cells → IsWordAt limits h index v → IsWordAt limits h index w → v ≡ w
+one_word limits h index v w within a b = dite (ℕ_discrete index limits.cells)
     (λ last. a.count last ∙ sym (b.count last))
-    (λ (ne : place ≡ limits.cells → ⊥). let less : place < limits.cells = omega (arith, within, ne) in a.cell less ∙ sym (b.cell less))
+    (λ (ne : index ≡ limits.cells → ⊥). let less : index < limits.cells = omega (arith, within, ne) in a.cell less ∙ sym (b.cell less))
 
 -- ---- after one more event
 

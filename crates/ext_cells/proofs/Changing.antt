@@ -22,7 +22,7 @@ use Rattle.ext_cells.specs.Lanes.{Lane}
 use Rattle.ext_cells.specs.CellCalls.{result_of, change_reply}
 use Rattle.ext_cells.specs.InnerDeciding.{IsCellWord, IsChange, reply_on, Decides}
 use Rattle.ext_cells.specs.InnerSteps.{Finds, MayGoOn, IsChangeOf, answer_to, idle_reply, Changes}
-use Rattle.ext_cells.specs.InnerTableSteps.{place_in}
+use Rattle.ext_cells.specs.InnerTableSteps.{index_in}
 use Rattle.ext_cells.proofs.CellWords.{cell_word, word_after}
 use Rattle.ext_cells.proofs.Tries.{TriesOn, answered, made, goes_on, seen_on}
 
@@ -47,8 +47,8 @@ place_is cell (Fail at n) is = absurd is
 place_is cell (Abandon at) is = absurd is
 place_is cell (Seal at) is = ap Some is
 
-pub place_in_is : (limits : Limits) (cell : ℕ) (act : Act ℕ) → place_of act ≡ Some cell → cell ≡ place_in limits act
-place_in_is limits cell act is = sym (ap (λ o. unwrap_or o limits.cells) is)
+pub index_in_is : (limits : Limits) (cell : ℕ) (act : Act ℕ) → place_of act ≡ Some cell → cell ≡ index_in limits act
+index_in_is limits cell act is = sym (ap (λ o. unwrap_or o limits.cells) is)
 
 -- a change that one thread makes is allowed, where the lane may store the number
 allowed_by : (limits : Limits) (h : History) (lane cell : ℕ) (act : Act ℕ) (answer : Option ℕ) → IsChangeOf cell act → lane < limits.lanes → cell < limits.cells → IfSome (stored_number act) (λ number. MayStore lane number h)

@@ -11,7 +11,7 @@ use Rattle.ext_cells.proofs.Lanes.{lane_of, IsLaneView}
 
 -- the first lane, which has given out the numbers below k
 abbrev pub giver : CellLimits → ℕ → View
-giver limits k = record { limits = limits; lane = Some 0; given = Some k; fronts = []; told = []; placed = []; block = 0; least = 0 }
+giver limits k = record { limits = limits; lane = Some 0; given = Some k; fronts = []; told = []; indexed = []; block = 0; least = 0 }
 
 lanes_next : (id : CellsId) (k m : ℕ) → fresh_lanes id k (suc m) ≡ fresh_lanes id k m ++ fresh_lane id (k + m) ∷ []
 lanes_next id k zero = let e : k ≡ k + 0 = omega arith in ap (λ n. fresh_lane id n ∷ []) e

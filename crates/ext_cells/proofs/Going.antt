@@ -20,10 +20,10 @@ use Rattle.ext_cells.specs.InnerLayouts.{Layout}
 use Rattle.ext_cells.specs.InnerViews.{limits_of, shown, led, sought}
 use Rattle.ext_cells.specs.InnerRule.{StandsAt, Fits, Kept}
 
--- cells stay at their places, and blocks' words only grow
+-- cells stay at their indices, and blocks' words only grow
 pub record Follows (limits : CellLimits) (l : Layout) (words later : List ℕ) : Type 0 where
   pub stays : (cell at : ℕ) → cell < limits.cells → l.stands words cell ≡ At at → l.stands later cell ≡ At at
-  pub grows : (place : ℕ) → l.is_block place ≡ true → get_or words place 0 ≤ get_or later place 0
+  pub grows : (index : ℕ) → l.is_block index ≡ true → get_or words index 0 ≤ get_or later index 0
 
 -- what a change of words keeps
 pub record Keeps (limits : CellLimits) (l : Layout) (words : List ℕ) (h : History) (later : List ℕ) : Type 0 where
@@ -34,10 +34,10 @@ pub record Keeps (limits : CellLimits) (l : Layout) (words : List ℕ) (h : Hist
   pub count : get_or later l.count 0 ≡ (state_after h).drawn
 
 pub follows_same : (limits : CellLimits) (l : Layout) (words : List ℕ) → Follows limits l words words
-follows_same limits l words = record { stays = λ cell at less is. is; grows = λ place block. omega arith }
+follows_same limits l words = record { stays = λ cell at less is. is; grows = λ index block. omega arith }
 
-stood : (limits : CellLimits) (l : Layout) (words later : List ℕ) (cell place : ℕ) → Follows limits l words later → StandsAt limits l words cell place → StandsAt limits l later cell place
-stood limits l words later cell place on is = record { within = is.within; stands = on.stays cell place is.within is.stands }
+stood : (limits : CellLimits) (l : Layout) (words later : List ℕ) (cell index : ℕ) → Follows limits l words later → StandsAt limits l words cell index → StandsAt limits l later cell index
+stood limits l words later cell index on is = record { within = is.within; stands = on.stays cell index is.within is.stands }
 
 at_least : (a b c : ℕ) → a ≤ b → b ≤ c → a ≤ c
 at_least a b c p q = omega (arith, p, q)
@@ -52,7 +52,7 @@ module _ (limits : CellLimits) (l : Layout) (words later : List ℕ) (h : Histor
     limits_are = f.limits_are;
     lane_is = f.lane_is;
     own_is = λ n e. ap (own n) same;
-    placed_are = λ cell place there. stood limits l words later cell place on (f.placed_are cell place there);
+    indexed_are = λ cell index there. stood limits l words later cell index on (f.indexed_are cell index there);
     least_is = λ block. at_least _ _ _ (f.least_is block) (on.grows v.block block);
   }
 
@@ -64,29 +64,29 @@ module _ (limits : CellLimits) (l : Layout) (words later : List ℕ) (h : Histor
     limits_are = f.limits_are;
     lane_is = f.lane_is;
     own_is = f.own_is;
-    placed_are = λ cell place there. stood limits l words later cell place on (f.placed_are cell place there);
+    indexed_are = λ cell index there. stood limits l words later cell index on (f.indexed_are cell index there);
     least_is = λ block. at_least _ _ _ (f.least_is block) (on.grows v.block block);
   }
 
-pub fits_led : (limits : CellLimits) (l : Layout) (words : List ℕ) (h : History) (v : View) (cell place : ℕ) → Fits limits l words h v → StandsAt limits l words cell place → Fits limits l words h (led v cell place)
-fits_led limits l words h v cell place f here = record {
+pub fits_led : (limits : CellLimits) (l : Layout) (words : List ℕ) (h : History) (v : View) (cell index : ℕ) → Fits limits l words h v → StandsAt limits l words cell index → Fits limits l words h (led v cell index)
+fits_led limits l words h v cell index f here = record {
   seen_is = f.seen_is;
   told_is = f.told_is;
   limits_are = f.limits_are;
   lane_is = f.lane_is;
   own_is = f.own_is;
-  placed_are = λ other at there. ⊎_elim (λ same. subst (λ (t : ℕ × ℕ). StandsAt limits l words t.0 t.1) same here) (λ later. f.placed_are other at later) (contains_cons (cell, place) v.placed (other, at) there);
+  indexed_are = λ other at there. ⊎_elim (λ same. subst (λ (t : ℕ × ℕ). StandsAt limits l words t.0 t.1) same here) (λ later. f.indexed_are other at later) (contains_cons (cell, index) v.indexed (other, at) there);
   least_is = f.least_is;
 }
 
-pub fits_sought : (limits : CellLimits) (l : Layout) (words : List ℕ) (h : History) (v : View) (place : ℕ) → Fits limits l words h v → Fits limits l words h (sought v place (get_or words place 0))
-fits_sought limits l words h v place f = record {
+pub fits_sought : (limits : CellLimits) (l : Layout) (words : List ℕ) (h : History) (v : View) (index : ℕ) → Fits limits l words h v → Fits limits l words h (sought v index (get_or words index 0))
+fits_sought limits l words h v index f = record {
   seen_is = f.seen_is;
   told_is = f.told_is;
   limits_are = f.limits_are;
   lane_is = f.lane_is;
   own_is = f.own_is;
-  placed_are = f.placed_are;
+  indexed_are = f.indexed_are;
   least_is = λ block. omega arith;
 }
 
@@ -120,7 +120,7 @@ module _ (limits : CellLimits) (l : Layout) (s : State (Act ℕ) View) (k : Kept
           limits_are = f.limits_are;
           lane_is = f.lane_is;
           own_is = λ n e. others n (λ mine. t.0 (k.apart j id u v n t.1 at e mine)) ∙ f.own_is n e;
-          placed_are = g.placed_are;
+          indexed_are = g.indexed_are;
           least_is = g.least_is;
         })
         (at_set s.views id j w u there);
@@ -133,7 +133,7 @@ module _ (limits : CellLimits) (l : Layout) (s : State (Act ℕ) View) (k : Kept
   }
 
   -- the step changed nothing but the view
-  pub looks : (place : ℕ) → Fits limits l s.words k.history w → Kept limits l (record { words = set s.words place (get_or s.words place 0); homes = s.homes; views = set s.views id w })
-  looks place fits =
-      subst (λ (words : List ℕ). Kept limits l (record { words = words; homes = s.homes; views = set s.views id w })) (sym (set-get_or s.words place 0))
+  pub looks : (index : ℕ) → Fits limits l s.words k.history w → Kept limits l (record { words = set s.words index (get_or s.words index 0); homes = s.homes; views = set s.views id w })
+  looks index fits =
+      subst (λ (words : List ℕ). Kept limits l (record { words = words; homes = s.homes; views = set s.views id w })) (sym (set-get_or s.words index 0))
       (goes_on k.history (prefix_refl k.history) k.legal (λ n _. refl) s.words (follows_same limits l s.words) k.wide k.sound k.cells_are k.count_is fits)

@@ -14,39 +14,39 @@ use Rattle.ext_cells.specs.declared.view.View.{View}
 use Rattle.ext_cells.specs.Standings.{Standing, At, Open, Ended, ended_word}
 use Rattle.ext_cells.specs.InnerViews.{limits_of, knowing, led, sought, shown}
 use Rattle.ext_cells.specs.InnerRule.{Kept}
-use Rattle.ext_cells.specs.InnerTableSteps.{IsWordAt, FoundBy, IsKnown, by_count, by_place, by_use, MayExchange, Exchanged, Shows, LedTo, Led, SoughtBy, Sought, Placed, EndedBy}
-use Rattle.ext_cells.specs.InnerMarks.{block_place, is_ended, end_of, has_mark, with_mark, standing_by, standing_in, marks}
-use Rattle.ext_cells.proofs.BlockSteps.{leads, seeks, places, ends}
-use Rattle.ext_cells.proofs.Marked.{is_layout, only_place, block_tells}
+use Rattle.ext_cells.specs.InnerTableSteps.{IsWordAt, FoundBy, IsKnown, by_count, by_index, by_use, MayExchange, Exchanged, Shows, LedTo, Led, SoughtBy, Sought, Marked, EndedBy}
+use Rattle.ext_cells.specs.InnerMarks.{block_index, is_ended, end_of, has_mark, with_mark, standing_by, standing_in, marks}
+use Rattle.ext_cells.proofs.BlockSteps.{leads, seeks, sets_mark, ends}
+use Rattle.ext_cells.proofs.Marked.{is_layout, only_index, block_tells}
 use Rattle.ext_cells.specs.InnerSteps.{IsShown, Found, Made, IsMarked}
 
 -- ---- the steps may be made
 
-module _ (limits : CellLimits) (slots id : ℕ) (me : Me (Act ℕ) View) (place lane : ℕ) (mine : me.0.lane ≡ Some lane) (same : limits.cells ≡ me.0.limits.cells) where
-  pub may_lead : (aim cell : ℕ) → aim ≡ cell → cell < me.0.limits.cells → Allows (Kept limits (marks limits.cells)) slots id me place (λ n. n) (Led (marks me.0.limits.cells) aim (step slots place 0 0 none) me)
+module _ (limits : CellLimits) (slots id : ℕ) (me : Me (Act ℕ) View) (index lane : ℕ) (mine : me.0.lane ≡ Some lane) (same : limits.cells ≡ me.0.limits.cells) where
+  pub may_lead : (aim cell : ℕ) → aim ≡ cell → cell < me.0.limits.cells → Allows (Kept limits (marks limits.cells)) slots id me index (λ n. n) (Led (marks me.0.limits.cells) aim (step slots index 0 0 none) me)
   may_lead aim cell is less =
-      subst (λ (t : ℕ × ℕ). Allows (Kept limits (marks limits.cells)) slots id me place (λ n. n) (Led (marks t.0) t.1 (step slots place 0 0 none) me)) (λ i. (same i, sym is i))
-      (leads limits (marks limits.cells) slots id me cell place lane (is_layout (limits_of limits)) mine less)
+      subst (λ (t : ℕ × ℕ). Allows (Kept limits (marks limits.cells)) slots id me index (λ n. n) (Led (marks t.0) t.1 (step slots index 0 0 none) me)) (λ i. (same i, sym is i))
+      (leads limits (marks limits.cells) slots id me cell index lane (is_layout (limits_of limits)) mine less)
 
-  pub may_seek : (aim cell : ℕ) → aim ≡ cell → cell < me.0.limits.cells → Allows (Kept limits (marks limits.cells)) slots id me place (λ n. n) (Sought (marks me.0.limits.cells) aim (step slots place 0 0 none) me)
+  pub may_seek : (aim cell : ℕ) → aim ≡ cell → cell < me.0.limits.cells → Allows (Kept limits (marks limits.cells)) slots id me index (λ n. n) (Sought (marks me.0.limits.cells) aim (step slots index 0 0 none) me)
   may_seek aim cell is less =
-      subst (λ (t : ℕ × ℕ). Allows (Kept limits (marks limits.cells)) slots id me place (λ n. n) (Sought (marks t.0) t.1 (step slots place 0 0 none) me)) (λ i. (same i, sym is i))
-      (seeks limits (marks limits.cells) slots id me cell place lane (is_layout (limits_of limits)) mine less)
+      subst (λ (t : ℕ × ℕ). Allows (Kept limits (marks limits.cells)) slots id me index (λ n. n) (Sought (marks t.0) t.1 (step slots index 0 0 none) me)) (λ i. (same i, sym is i))
+      (seeks limits (marks limits.cells) slots id me cell index lane (is_layout (limits_of limits)) mine less)
 
-  pub may_place : (aim cell old new : ℕ) → aim ≡ cell → cell < me.0.limits.cells → place ≡ block_place me.0.limits.cells cell → standing_in old cell ≡ Open → new ≡ with_mark old cell
-      → Allows (Kept limits (marks limits.cells)) slots id me place (λ n. either (eqb n old) new n) (Placed (marks me.0.limits.cells) aim (step slots place old new none) me)
-  may_place aim cell old new is less here open_is now =
+  pub may_mark : (aim cell old new : ℕ) → aim ≡ cell → cell < me.0.limits.cells → index ≡ block_index me.0.limits.cells cell → standing_in old cell ≡ Open → new ≡ with_mark old cell
+      → Allows (Kept limits (marks limits.cells)) slots id me index (λ n. either (eqb n old) new n) (Marked (marks me.0.limits.cells) aim (step slots index old new none) me)
+  may_mark aim cell old new is less here open_is now =
       let l = marks limits.cells in
-      let at : place ≡ block_place limits.cells cell = here ∙ ap (λ n. block_place n cell) (sym same) in
-      let told : l.tells place old cell ≡ Some Open = ap (λ n. l.tells n old cell) at ∙ block_tells limits.cells old cell ∙ ap Some open_is in
+      let at : index ≡ block_index limits.cells cell = here ∙ ap (λ n. block_index n cell) (sym same) in
+      let told : l.tells index old cell ≡ Some Open = ap (λ n. l.tells n old cell) at ∙ block_tells limits.cells old cell ∙ ap Some open_is in
       let fewer : cell < limits.cells = subst (λ n. cell < n) (sym same) less in
-      subst (λ (t : ℕ × ℕ × ℕ). Allows (Kept limits l) slots id me place (λ n. either (eqb n old) t.2 n) (Placed (marks t.0) t.1 (step slots place old t.2 none) me)) (λ i. (same i, sym is i, sym now i))
-      (places limits l slots id me cell place old lane (is_layout (limits_of limits)) mine less ((Decides-ltb limits.cells place).1 (omega (arith, at))) (omega (arith, at, fewer)) told)
+      subst (λ (t : ℕ × ℕ × ℕ). Allows (Kept limits l) slots id me index (λ n. either (eqb n old) t.2 n) (Marked (marks t.0) t.1 (step slots index old t.2 none) me)) (λ i. (same i, sym is i, sym now i))
+      (sets_mark limits l slots id me cell index old lane (is_layout (limits_of limits)) mine less ((Decides-ltb limits.cells index).1 (omega (arith, at))) (omega (arith, at, fewer)) told)
 
-  pub may_end : (operand : ℕ) → limits.cells < place → place < (marks limits.cells).width → Allows (Kept limits (marks limits.cells)) slots id me place end_of (EndedBy (marks me.0.limits.cells) (step slots place operand 0 none) me)
+  pub may_end : (operand : ℕ) → limits.cells < index → index < (marks limits.cells).width → Allows (Kept limits (marks limits.cells)) slots id me index end_of (EndedBy (marks me.0.limits.cells) (step slots index operand 0 none) me)
   may_end operand past fits =
-      subst (λ n. Allows (Kept limits (marks limits.cells)) slots id me place end_of (EndedBy (marks n) (step slots place operand 0 none) me)) same
-      (ends limits (marks limits.cells) slots id me place operand lane (is_layout (limits_of limits)) mine ((Decides-ltb limits.cells place).1 past) fits)
+      subst (λ n. Allows (Kept limits (marks limits.cells)) slots id me index end_of (EndedBy (marks n) (step slots index operand 0 none) me)) same
+      (ends limits (marks limits.cells) slots id me index operand lane (is_layout (limits_of limits)) mine ((Decides-ltb limits.cells index).1 past) fits)
 
 -- ---- what they tell
 
@@ -66,30 +66,30 @@ ended_left block cell isnt closed = elim (eqb_tells (bit_at block 0) 1) [
   | inr t ↦ absurd (closed (stands_open block cell isnt t.0))
 ]
 
-block_says : (known cells place block aim cell : ℕ) → known ≡ cells → place ≡ block_place cells cell → aim ≡ cell → (marks known).tells place block aim ≡ Some (standing_in block cell)
-block_says known cells place block aim cell same here is = (λ i. (marks (same i)).tells (here i) block (is i)) ∙ block_tells cells block cell
+block_says : (known cells index block aim cell : ℕ) → known ≡ cells → index ≡ block_index cells cell → aim ≡ cell → (marks known).tells index block aim ≡ Some (standing_in block cell)
+block_says known cells index block aim cell same here is = (λ i. (marks (same i)).tells (here i) block (is i)) ∙ block_tells cells block cell
 
 -- a history that was found by a view that knows other things
-pub found_as : (v : View) (placed : List (ℕ × ℕ)) (block least aim word : ℕ) (h : History) → FoundBy (knowing v placed block least) aim word h → FoundBy v aim word h
-found_as v placed block least aim word h f = record { legal = f.legal; begins = f.begins; told = f.told; word_is = f.word_is; lane_is = f.lane_is; own_is = f.own_is }
+pub found_as : (v : View) (indexed : List (ℕ × ℕ)) (block least aim word : ℕ) (h : History) → FoundBy (knowing v indexed block least) aim word h → FoundBy v aim word h
+found_as v indexed block least aim word h f = record { legal = f.legal; begins = f.begins; told = f.told; word_is = f.word_is; lane_is = f.lane_is; own_is = f.own_is }
 
 pub is_shown : (v w : View) (h : History) → w ≡ shown v h → IsShown v w h
-is_shown v w h e = record { placed = v.placed; block = v.block; least = v.least; is = e }
+is_shown v w h e = record { indexed = v.indexed; block = v.block; least = v.least; is = e }
 
 -- a load by a view that knows more
-pub found_after : (v u w : View) (placed : List (ℕ × ℕ)) (block least aim word : ℕ) (h : History) → u ≡ knowing v placed block least → FoundBy u aim word h → w ≡ shown u h → Found v w aim word
-found_after v u w placed block least aim word h e f s = (
+pub found_after : (v u w : View) (indexed : List (ℕ × ℕ)) (block least aim word : ℕ) (h : History) → u ≡ knowing v indexed block least → FoundBy u aim word h → w ≡ shown u h → Found v w aim word
+found_after v u w indexed block least aim word h e f s = (
   h,
-  found_as v placed block least aim word h (subst (λ z. FoundBy z aim word h) e f),
-  record { placed = placed; block = block; least = least; is = s ∙ ap (λ z. shown z h) e },
+  found_as v indexed block least aim word h (subst (λ z. FoundBy z aim word h) e f),
+  record { indexed = indexed; block = block; least = least; is = s ∙ ap (λ z. shown z h) e },
 )
 
 shown_word : (me after : Me (Act ℕ) View) (cell word : ℕ) → Shows cell word me after → Found me.0 after.0 cell word
 shown_word me after cell word s = (s.0, s.1, is_shown me.0 after.0 s.0 (ap (λ z. z.0) s.2))
 
-module _ (slots known cells place aim cell found : ℕ) (me after : Me (Act ℕ) View) (same : known ≡ cells) (here : place ≡ block_place cells cell) (is : aim ≡ cell) (told : Led (marks known) aim (step slots place 0 0 none) me found after) where
+module _ (slots known cells index aim cell found : ℕ) (me after : Me (Act ℕ) View) (same : known ≡ cells) (here : index ≡ block_index cells cell) (is : aim ≡ cell) (told : Led (marks known) aim (step slots index 0 0 none) me found after) where
   led_to : (s : Standing) → standing_in found cell ≡ s → LedTo cell s me after
-  led_to s stands = subst (λ k. LedTo k s me after) is (told s (block_says known cells place found aim cell same here is ∙ ap Some stands))
+  led_to s stands = subst (λ k. LedTo k s me after) is (told s (block_says known cells index found aim cell same here is ∙ ap Some stands))
 
   pub led_marked : has_mark found cell ≡ true → after.0 ≡ led me.0 cell cell
   led_marked marked = ap (λ z. z.0) (led_to (At cell) (stands_marked found cell marked))
@@ -100,135 +100,135 @@ module _ (slots known cells place aim cell found : ℕ) (me after : Me (Act ℕ)
   pub led_open : has_mark found cell ≡ false → is_ended found ≡ false → Found me.0 after.0 cell 0
   led_open isnt not = shown_word me after cell 0 (led_to Open (stands_open found cell isnt not))
 
-pub knows_place : (v w : View) (cell : ℕ) → w ≡ led v cell cell → Contains w.placed (cell, cell)
-knows_place v w cell e = let P : View → Type 0 = λ z. Contains {X = ℕ × ℕ} z.placed (cell, cell) in subst P (sym e) (contains_here (cell, cell) v.placed)
+pub knows_index : (v w : View) (cell : ℕ) → w ≡ led v cell cell → Contains w.indexed (cell, cell)
+knows_index v w cell e = let P : View → Type 0 = λ z. Contains {X = ℕ × ℕ} z.indexed (cell, cell) in subst P (sym e) (contains_here (cell, cell) v.indexed)
 
 -- ---- a cell gets its mark
 
 -- what the lane has done once it found this word of the block: it led to the cell; or the cell is open, and the lane knows the word; or the block has ended
 abbrev pub Marking : View → View → ℕ → ℕ → ℕ → Standing → Type 0
-Marking v w place cell block (At at) = IsMarked v w cell
-Marking v w place cell block Open = (placed : List (ℕ × ℕ)) × (w ≡ knowing v placed place block)
-Marking v w place cell block Ended = Found v w cell ended_word
+Marking v w index cell block (At at) = IsMarked v w cell
+Marking v w index cell block Open = (indexed : List (ℕ × ℕ)) × (w ≡ knowing v indexed index block)
+Marking v w index cell block Ended = Found v w cell ended_word
 
 at_own : (marked ended : Bool) (cell at : ℕ) → standing_by marked ended cell ≡ At at → at ≡ cell
 at_own true ended cell at is = cc is
 at_own false true cell at is = absurd (cc is)
 at_own false false cell at is = absurd (cc is)
 
-is_marked : (v u w : View) (placed : List (ℕ × ℕ)) (block least cell at : ℕ) → u ≡ knowing v placed block least → at ≡ cell → w ≡ led u cell at → IsMarked v w cell
-is_marked v u w placed block least cell at e own s = record {
-  placed = (cell, at) ∷ placed;
+is_marked : (v u w : View) (indexed : List (ℕ × ℕ)) (block least cell at : ℕ) → u ≡ knowing v indexed block least → at ≡ cell → w ≡ led u cell at → IsMarked v w cell
+is_marked v u w indexed block least cell at e own s = record {
+  indexed = (cell, at) ∷ indexed;
   block = block;
   least = least;
   is = s ∙ ap (λ z. led z cell at) e;
-  there = subst (λ n. Contains {X = ℕ × ℕ} ((cell, at) ∷ placed) (cell, n)) own (contains_here (cell, at) placed);
+  there = subst (λ n. Contains {X = ℕ × ℕ} ((cell, at) ∷ indexed) (cell, n)) own (contains_here (cell, at) indexed);
 }
 
-sought_state : (v : View) (me after : Me (Act ℕ) View) (placed : List (ℕ × ℕ)) (block least place cell found : ℕ) (s : Standing) → me.0 ≡ knowing v placed block least → standing_in found cell ≡ s → SoughtBy cell s place found me after → Marking v after.0 place cell found s
-sought_state v me after placed block least place cell found (At at) e is told = is_marked v me.0 after.0 placed block least cell at e (at_own (has_mark found cell) (is_ended found) cell at is) (ap (λ z. z.0) told)
-sought_state v me after placed block least place cell found Open e is told = (placed, ap (λ z. z.0) told ∙ ap (λ z. sought z place found) e)
-sought_state v me after placed block least place cell found Ended e is told = found_after v me.0 after.0 placed block least cell ended_word told.0 e told.1 (ap (λ z. z.0) told.2)
+sought_state : (v : View) (me after : Me (Act ℕ) View) (indexed : List (ℕ × ℕ)) (block least index cell found : ℕ) (s : Standing) → me.0 ≡ knowing v indexed block least → standing_in found cell ≡ s → SoughtBy cell s index found me after → Marking v after.0 index cell found s
+sought_state v me after indexed block least index cell found (At at) e is told = is_marked v me.0 after.0 indexed block least cell at e (at_own (has_mark found cell) (is_ended found) cell at is) (ap (λ z. z.0) told)
+sought_state v me after indexed block least index cell found Open e is told = (indexed, ap (λ z. z.0) told ∙ ap (λ z. sought z index found) e)
+sought_state v me after indexed block least index cell found Ended e is told = found_after v me.0 after.0 indexed block least cell ended_word told.0 e told.1 (ap (λ z. z.0) told.2)
 
-module _ (v : View) (slots known cells place aim cell : ℕ) (me after : Me (Act ℕ) View) (same : known ≡ cells) (here : place ≡ block_place cells cell) (is : aim ≡ cell) where
-  seeks_to : (found : ℕ) (s : Standing) → Sought (marks known) aim (step slots place 0 0 none) me found after → standing_in found cell ≡ s → SoughtBy cell s place found me after
-  seeks_to found s told stands = subst (λ k. SoughtBy k s place found me after) is (told s (block_says known cells place found aim cell same here is ∙ ap Some stands))
+module _ (v : View) (slots known cells index aim cell : ℕ) (me after : Me (Act ℕ) View) (same : known ≡ cells) (here : index ≡ block_index cells cell) (is : aim ≡ cell) where
+  seeks_to : (found : ℕ) (s : Standing) → Sought (marks known) aim (step slots index 0 0 none) me found after → standing_in found cell ≡ s → SoughtBy cell s index found me after
+  seeks_to found s told stands = subst (λ k. SoughtBy k s index found me after) is (told s (block_says known cells index found aim cell same here is ∙ ap Some stands))
 
   -- the first load
-  pub first_sought : (found : ℕ) → me.0 ≡ v → Sought (marks known) aim (step slots place 0 0 none) me found after → Marking v after.0 place cell found (standing_in found cell)
-  first_sought found own told = sought_state v me after v.placed v.block v.least place cell found (standing_in found cell) own refl (seeks_to found (standing_in found cell) told refl)
+  pub first_sought : (found : ℕ) → me.0 ≡ v → Sought (marks known) aim (step slots index 0 0 none) me found after → Marking v after.0 index cell found (standing_in found cell)
+  first_sought found own told = sought_state v me after v.indexed v.block v.least index cell found (standing_in found cell) own refl (seeks_to found (standing_in found cell) told refl)
 
   -- an exchange that met another word
-  pub next_sought : (placed : List (ℕ × ℕ)) (block new found : ℕ) → me.0 ≡ knowing v placed place block → found ≢ block → Placed (marks known) aim (step slots place block new none) me found after
-      → Marking v after.0 place cell found (standing_in found cell) × (block < found)
-  next_sought placed block new found e ne did =
+  pub next_sought : (indexed : List (ℕ × ℕ)) (block new found : ℕ) → me.0 ≡ knowing v indexed index block → found ≢ block → Marked (marks known) aim (step slots index block new none) me found after
+      → Marking v after.0 index cell found (standing_in found cell) × (block < found)
+  next_sought indexed block new found e ne did =
       let miss = did.0 ne in
       let least = miss.1 (ap (λ (z : View). z.block) e) in
       let knew : me.0.least ≡ block = ap (λ (z : View). z.least) e in (
-        sought_state v me after placed place block place cell found (standing_in found cell) e refl (subst (λ k. SoughtBy k (standing_in found cell) place found me after) is (miss.0 (standing_in found cell) (block_says known cells place found aim cell same here is))),
+        sought_state v me after indexed index block index cell found (standing_in found cell) e refl (subst (λ k. SoughtBy k (standing_in found cell) index found me after) is (miss.0 (standing_in found cell) (block_says known cells index found aim cell same here is))),
         omega (arith, least, knew, ne),
       )
 
   -- one that met the word
-  pub now_marked : (placed : List (ℕ × ℕ)) (block new found : ℕ) → me.0 ≡ knowing v placed place block → found ≡ block → Placed (marks known) aim (step slots place block new none) me found after → IsMarked v after.0 cell
-  now_marked placed block new found e hit did =
+  pub now_marked : (indexed : List (ℕ × ℕ)) (block new found : ℕ) → me.0 ≡ knowing v indexed index block → found ≡ block → Marked (marks known) aim (step slots index block new none) me found after → IsMarked v after.0 cell
+  now_marked indexed block new found e hit did =
       let m = did.1 hit in
-      let told : Some (standing_in new cell) ≡ Some (At m.0) = sym (block_says known cells place new aim cell same here is) ∙ m.1 in
-      is_marked v me.0 after.0 placed place block cell m.0 e (at_own (has_mark new cell) (is_ended new) cell m.0 (one_standing told)) (ap (λ z. z.0) m.2 ∙ ap (λ n. led me.0 n m.0) is)
+      let told : Some (standing_in new cell) ≡ Some (At m.0) = sym (block_says known cells index new aim cell same here is) ∙ m.1 in
+      is_marked v me.0 after.0 indexed index block cell m.0 e (at_own (has_mark new cell) (is_ended new) cell m.0 (one_standing told)) (ap (λ z. z.0) m.2 ∙ ap (λ n. led me.0 n m.0) is)
     where
       one_standing : {a b : Standing} → Some a ≡ Some b → a ≡ b
       one_standing e = cc e
 
 -- ---- what the loop has come to
 
-pub marking_open : (v w : View) (place cell block : ℕ) → has_mark block cell ≡ false → is_ended block ≡ false → Marking v w place cell block (standing_in block cell) → (placed : List (ℕ × ℕ)) × (w ≡ knowing v placed place block)
-marking_open v w place cell block isnt not state = subst (Marking v w place cell block) (stands_open block cell isnt not) state
+pub marking_open : (v w : View) (index cell block : ℕ) → has_mark block cell ≡ false → is_ended block ≡ false → Marking v w index cell block (standing_in block cell) → (indexed : List (ℕ × ℕ)) × (w ≡ knowing v indexed index block)
+marking_open v w index cell block isnt not state = subst (Marking v w index cell block) (stands_open block cell isnt not) state
 
-pub marking_ended : (v w : View) (place cell block : ℕ) → has_mark block cell ≡ false → is_ended block ≡ true → Marking v w place cell block (standing_in block cell) → Found v w cell ended_word
-marking_ended v w place cell block isnt is state = subst (Marking v w place cell block) (stands_ended block cell isnt is) state
+pub marking_ended : (v w : View) (index cell block : ℕ) → has_mark block cell ≡ false → is_ended block ≡ true → Marking v w index cell block (standing_in block cell) → Found v w cell ended_word
+marking_ended v w index cell block isnt is state = subst (Marking v w index cell block) (stands_ended block cell isnt is) state
 
-pub marking_marked : (v w : View) (place cell block : ℕ) → has_mark block cell ≡ true → Marking v w place cell block (standing_in block cell) → IsMarked v w cell
-marking_marked v w place cell block is state = subst (Marking v w place cell block) (stands_marked block cell is) state
+pub marking_marked : (v w : View) (index cell block : ℕ) → has_mark block cell ≡ true → Marking v w index cell block (standing_in block cell) → IsMarked v w cell
+marking_marked v w index cell block is state = subst (Marking v w index cell block) (stands_marked block cell is) state
 
 -- ---- an exchange
 
 -- the lane knows where the word is, and has seen nothing more
-pub record Ready (v w : View) (cells place : ℕ) : Type 0 where
-  pub placed : List (ℕ × ℕ)
+pub record Ready (v w : View) (cells index : ℕ) : Type 0 where
+  pub indexed : List (ℕ × ℕ)
   pub block : ℕ
   pub least : ℕ
-  pub is : w ≡ knowing v placed block least
-  pub known : IsKnown (marks cells) w place place
+  pub is : w ≡ knowing v indexed block least
+  pub known : IsKnown (marks cells) w index index
 
-pub ready_marked : (v w : View) (cells place : ℕ) → IsMarked v w place → Ready v w cells place
-ready_marked v w cells place m = record {
-  placed = m.placed;
+pub ready_marked : (v w : View) (cells index : ℕ) → IsMarked v w index → Ready v w cells index
+ready_marked v w cells index m = record {
+  indexed = m.indexed;
   block = m.block;
   least = m.least;
   is = m.is;
-  known = by_place (let P : View → Type 0 = λ z. Contains {X = ℕ × ℕ} z.placed (place, place) in subst P (sym m.is) m.there);
+  known = by_index (let P : View → Type 0 = λ z. Contains {X = ℕ × ℕ} z.indexed (index, index) in subst P (sym m.is) m.there);
 }
 
-pub ready_used : (v w : View) (known cells place old : ℕ) → w ≡ v → v.limits.cells ≡ cells → place < cells → IsWordAt (limits_of v.limits) (seen v.fronts) place old → old ≢ 0 → old ≢ ended_word → Ready v w known place
-ready_used v w known cells place old e same less at began more =
-    let within : place < v.limits.cells = omega (arith, same, less) in
+pub ready_used : (v w : View) (known cells index old : ℕ) → w ≡ v → v.limits.cells ≡ cells → index < cells → IsWordAt (limits_of v.limits) (seen v.fronts) index old → old ≢ 0 → old ≢ ended_word → Ready v w known index
+ready_used v w known cells index old e same less at began more =
+    let within : index < v.limits.cells = omega (arith, same, less) in
     let word = at.cell within in record {
-      placed = v.placed;
+      indexed = v.indexed;
       block = v.block;
       least = v.least;
       is = e;
-      known = subst (λ z. IsKnown (marks known) z place place) (sym e) (by_use (only_place known place) within (λ is. began (word ∙ is)) (λ is. more (word ∙ is)));
+      known = subst (λ z. IsKnown (marks known) z index index) (sym e) (by_use (only_index known index) within (λ is. began (word ∙ is)) (λ is. more (word ∙ is)));
     }
 
-pub ready_count : (v w : View) (known cells place : ℕ) → w ≡ v → known ≡ cells → v.limits.cells ≡ cells → place ≤ v.limits.cells → cells ≤ place → Ready v w known place
-ready_count v w known cells place e table same within past = record {
-  placed = v.placed;
+pub ready_count : (v w : View) (known cells index : ℕ) → w ≡ v → known ≡ cells → v.limits.cells ≡ cells → index ≤ v.limits.cells → cells ≤ index → Ready v w known index
+ready_count v w known cells index e table same within past = record {
+  indexed = v.indexed;
   block = v.block;
   least = v.least;
   is = e;
-  known = subst (λ z. IsKnown (marks known) z place place) (sym e) (by_count (omega (arith, same, within, past)) (omega (arith, table, same, within, past)));
+  known = subst (λ z. IsKnown (marks known) z index index) (sym e) (by_count (omega (arith, same, within, past)) (omega (arith, table, same, within, past)));
 }
 
-module _ (v w : View) (cells place : ℕ) (r : Ready v w cells place) where
-  pub may_still : (lane : ℕ) (act : Act ℕ) (old new : ℕ) → MayExchange v lane act place old new → MayExchange w lane act place old new
-  may_still lane act old new may = subst (λ z. MayExchange z lane act place old new) (sym r.is) (record {
+module _ (v w : View) (cells index : ℕ) (r : Ready v w cells index) where
+  pub may_still : (lane : ℕ) (act : Act ℕ) (old new : ℕ) → MayExchange v lane act index old new → MayExchange w lane act index old new
+  may_still lane act old new may = subst (λ z. MayExchange z lane act index old new) (sym r.is) (record {
     lane_is = may.lane_is;
     here = may.here;
     within = may.within;
-    allowed = λ h f. may.allowed h (found_as v r.placed r.block r.least place old h f);
-    leaves = λ h f. may.leaves h (found_as v r.placed r.block r.least place old h f);
+    allowed = λ h f. may.allowed h (found_as v r.indexed r.block r.least index old h f);
+    leaves = λ h f. may.leaves h (found_as v r.indexed r.block r.least index old h f);
   })
 
-  pub missed_so : (slots old new found : ℕ) (act : Act ℕ) (me after : Me (Act ℕ) View) → me.0 ≡ w → found ≢ old → Exchanged place (step slots place old new (some act)) me found after → Found v after.0 place found
-  missed_so slots old new found act me after e ne did = let m = did.0 ne in found_after v me.0 after.0 r.placed r.block r.least place found m.0 (e ∙ r.is) m.1 (ap (λ z. z.0) m.2)
+  pub missed_so : (slots old new found : ℕ) (act : Act ℕ) (me after : Me (Act ℕ) View) → me.0 ≡ w → found ≢ old → Exchanged index (step slots index old new (some act)) me found after → Found v after.0 index found
+  missed_so slots old new found act me after e ne did = let m = did.0 ne in found_after v me.0 after.0 r.indexed r.block r.least index found m.0 (e ∙ r.is) m.1 (ap (λ z. z.0) m.2)
 
-  pub made_so : (slots old new found : ℕ) (act : Act ℕ) (me after : Me (Act ℕ) View) → me.0 ≡ w → found ≡ old → Exchanged place (step slots place old new (some act)) me found after → Made v after.0 place old act
+  pub made_so : (slots old new found : ℕ) (act : Act ℕ) (me after : Me (Act ℕ) View) → me.0 ≡ w → found ≡ old → Exchanged index (step slots index old new (some act)) me found after → Made v after.0 index old act
   made_so slots old new found act me after e hit did lane mine =
       let own : me.0.lane ≡ Some lane = ap (λ (z : View). z.lane) (e ∙ r.is) ∙ mine in
       let m = did.1 hit lane act own refl in
-      let f : FoundBy me.0 place old m.0 = subst (λ n. FoundBy me.0 place n m.0) hit m.1 in (
+      let f : FoundBy me.0 index old m.0 = subst (λ n. FoundBy me.0 index n m.0) hit m.1 in (
         m.0,
-        found_as v r.placed r.block r.least place old m.0 (subst (λ z. FoundBy z place old m.0) (e ∙ r.is) f),
+        found_as v r.indexed r.block r.least index old m.0 (subst (λ z. FoundBy z index old m.0) (e ∙ r.is) f),
         subst (λ (z : View). IsAllowed (limits_of z.limits) m.0 (by lane act)) (e ∙ r.is) m.2,
-        record { placed = r.placed; block = r.block; least = r.least; is = ap (λ z. z.0) m.3 ∙ ap (λ z. shown z (m.0 ++ by lane act ∷ [])) (e ∙ r.is) },
+        record { indexed = r.indexed; block = r.block; least = r.least; is = ap (λ z. z.0) m.3 ∙ ap (λ z. shown z (m.0 ++ by lane act ∷ [])) (e ∙ r.is) },
       )

@@ -9,7 +9,7 @@ use Rattle.std.proofs.lemmas.Nat.Bits.{and_pow, bit_at_and, bit_at_lowest, bit_a
 use Rattle.std.proofs.lemmas.Bool.{eqb-true, le-ltb, lt-ltb, ne_eqb}
 use Rattle.std.proofs.lemmas.Bool.Decides.{eqb_tells}
 use Rattle.ext_cells.specs.Standings.{Standing, At, Open, Ended}
-use Rattle.ext_cells.specs.InnerMarks.{block_place, is_ended, end_of, mark_of, bits_of, has_mark, with_mark, standing_by, standing_in, stands}
+use Rattle.ext_cells.specs.InnerMarks.{block_index, is_ended, end_of, mark_of, bits_of, has_mark, with_mark, standing_by, standing_in, stands}
 use Rattle.ext_cells.proofs.Passing.{not_both}
 
 -- ---- bits
@@ -67,11 +67,11 @@ mark_told block cell = elim (bits_cases block cell) [
 
 -- ---- one cell and its block's word
 
-one_place : {a b : ℕ} → At a ≡ At b → a ≡ b
-one_place e = cc e
+one_index : {a b : ℕ} → At a ≡ At b → a ≡ b
+one_index e = cc e
 
 at_own : (marked ended : Bool) (cell at : ℕ) → standing_by marked ended cell ≡ At at → (at ≡ cell) × (marked ≡ true)
-at_own true ended cell at is = (sym (one_place is), refl)
+at_own true ended cell at is = (sym (one_index is), refl)
 at_own false true cell at is = absurd (cc is)
 at_own false false cell at is = absurd (cc is)
 
@@ -107,9 +107,9 @@ open_told block cell = (
 )
 
 -- a cell stands where its own number is, alone
-pub own_place : (cells : ℕ) (words : List ℕ) (cell at : ℕ) → stands cells words cell ≡ At at → (at ≡ cell) × (has_mark (get_or words (block_place cells cell) 0) cell ≡ true)
-own_place cells words cell at is =
-    at_own (has_mark (get_or words (block_place cells cell) 0) cell) (is_ended (get_or words (block_place cells cell) 0)) cell at is
+pub own_index : (cells : ℕ) (words : List ℕ) (cell at : ℕ) → stands cells words cell ≡ At at → (at ≡ cell) × (has_mark (get_or words (block_index cells cell) 0) cell ≡ true)
+own_index cells words cell at is =
+    at_own (has_mark (get_or words (block_index cells cell) 0) cell) (is_ended (get_or words (block_index cells cell) 0)) cell at is
 
 pub mark_is_set : (block cell : ℕ) → has_mark (with_mark block cell) cell ≡ true
 mark_is_set block cell = ap (λ n. nat_eq n 1) (set_here block (mark_of cell))
@@ -133,12 +133,12 @@ pub end_leaves : (block cell : ℕ) → has_mark (end_of block) cell ≡ has_mar
 end_leaves block cell = ap (λ n. nat_eq n 1) (set_elsewhere block 0 (mark_of cell) (λ e. absurd (omega (arith, e))))
 
 abbrev pub is_open : Standing → Bool
-is_open (At place) = false
+is_open (At index) = false
 is_open Open = true
 is_open Ended = false
 
 pub open_is : (standing : Standing) → is_open standing ≡ true → standing ≡ Open
-open_is (At place) is = absurd (cc is)
+open_is (At index) is = absurd (cc is)
 open_is Open is = refl
 open_is Ended is = absurd (cc is)
 
@@ -153,7 +153,7 @@ pub ended_in : (block cell : ℕ) → standing_in (end_of block) cell ≡ standi
 ended_in block cell = (λ i. standing_by (end_leaves block cell i) (end_is_set block i) cell)
 
 -- two cells of one block have different marks
-pub marks_differ : (cells cell other : ℕ) → block_place cells other ≡ block_place cells cell → other ≢ cell → mark_of other ≢ mark_of cell
+pub marks_differ : (cells cell other : ℕ) → block_index cells other ≡ block_index cells cell → other ≢ cell → mark_of other ≢ mark_of cell
 marks_differ cells cell other same ne e = absurd (omega (arith, same, ne, e))
 
 -- ---- what is bare

@@ -14,9 +14,9 @@ use Rattle.ext_cells.specs.InnerTableSteps.{FoundBy}
 use Rattle.ext_cells.proofs.Lanes.{IsLaneView, lane_of, stays_lane}
 
 -- v is the lane's view, n the note, u the view with the note, and w the view after the step
-module _ (v n u w : View) (place word : ℕ) (h : History) (number : ℕ) (inv : IsLaneView v number) (with_note : u ≡ noted v n) (found : FoundBy u place word h) (after : w ≡ shown u h) where
-  found' : FoundBy (noted v n) place word h
-  found' = subst (λ z. FoundBy z place word h) with_note found
+module _ (v n u w : View) (index word : ℕ) (h : History) (number : ℕ) (inv : IsLaneView v number) (with_note : u ≡ noted v n) (found : FoundBy u index word h) (after : w ≡ shown u h) where
+  found' : FoundBy (noted v n) index word h
+  found' = subst (λ z. FoundBy z index word h) with_note found
 
   after' : w ≡ shown v h
   after' = after ∙ ap (λ z. shown z h) with_note

@@ -10,17 +10,17 @@ use Rattle.ext_cells.specs.InnerMarks.{all_below}
 pub not_both : {b : Bool} → b ≡ false → b ≡ true → ⊥
 not_both p q = cc
 
-pub not_behind : (cells place : ℕ) → place ≤ cells → nat_lt cells place ≡ false
-not_behind cells place within = elim (bools (nat_lt cells place)) [
-  | inl is ↦ let less : cells < place = (Decides-ltb cells place).0 is in absurd (omega (arith, less, within))
+pub not_behind : (cells index : ℕ) → index ≤ cells → nat_lt cells index ≡ false
+not_behind cells index within = elim (bools (nat_lt cells index)) [
+  | inl is ↦ let less : cells < index = (Decides-ltb cells index).0 is in absurd (omega (arith, less, within))
   | inr is ↦ is
 ]
 
-pub behind : (cells place : ℕ) → nat_lt cells place ≡ true → cells < place
-behind cells place is = (Decides-ltb cells place).0 is
+pub behind : (cells index : ℕ) → nat_lt cells index ≡ true → cells < index
+behind cells index is = (Decides-ltb cells index).0 is
 
-pub in_front : (cells place : ℕ) → nat_lt cells place ≡ false → place ≤ cells
-in_front cells place is = not_less (λ less. not_both is ((Decides-ltb cells place).1 less))
+pub in_front : (cells index : ℕ) → nat_lt cells index ≡ false → index ≤ cells
+in_front cells index is = not_less (λ less. not_both is ((Decides-ltb cells index).1 less))
   where
     not_less : {a b : ℕ} → (a < b → ⊥) → b ≤ a
     not_less never = omega (arith, never)

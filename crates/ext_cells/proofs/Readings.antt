@@ -259,13 +259,13 @@ still_said words word nearest said =
     let long = length-append words (word ∷ []) in
     record {
       within = omega (arith, inside, long);
-      before = subst (All IsEmptyWord) (sym (take-append-le nearest.place words (word ∷ []) (omega (arith, inside)))) said.before;
-      says = subst (λ w. Says w (Some nearest.standing)) (sym (get_or_append_left words (word ∷ []) 0 nearest.place inside)) said.says;
+      before = subst (All IsEmptyWord) (sym (take-append-le nearest.index words (word ∷ []) (omega (arith, inside)))) said.before;
+      says = subst (λ w. Says w (Some nearest.standing)) (sym (get_or_append_left words (word ∷ []) 0 nearest.index inside)) said.says;
     }
 
 -- and where none said so before, the next one may
 pub now_said : (words : List ℕ) (word : ℕ) (nearest : Option Nearest) → All IsEmptyWord words → IfNone nearest (IsEmptyWord word)
-    → IfSome nearest (λ n. (n.place ≡ length words) × Says word (Some n.standing)) → IsFirstSaid (words ++ word ∷ []) nearest
+    → IfSome nearest (λ n. (n.index ≡ length words) × Says word (Some n.standing)) → IsFirstSaid (words ++ word ∷ []) nearest
 now_said words word None none empty said = All-push IsEmptyWord words word none empty
 now_said words word (Some n) none empty said =
     let at = said.0 in
@@ -329,12 +329,12 @@ first_said p cells words None fits is said = nothing_in p cells words is said
 first_said p cells words (Some n) fits is said =
     let long : length words ≡ length cells = ap length is ∙ length-map cells (word_of p) in
     let inside = said.within in
-    let within : n.place < length cells = omega (arith, long, inside) in
-    let here : ℕ = slice_index cells n.place in
-    let word_is : slice_index words n.place ≡ word_of p (slice_index cells n.place) = ap (λ z. get_or z n.place 0) is ∙ get_or-map (word_of p) cells n.place 0 0 within in
+    let within : n.index < length cells = omega (arith, long, inside) in
+    let here : ℕ = slice_index cells n.index in
+    let word_is : slice_index words n.index ≡ word_of p (slice_index cells n.index) = ap (λ z. get_or z n.index 0) is ∙ get_or-map (word_of p) cells n.index 0 0 within in
     record {
       within = within;
-      nothing_before = nothing_in p (take n.place cells) (take n.place words) (ap (take n.place) is ∙ take-map (word_of p) n.place cells) said.before;
+      nothing_before = nothing_in p (take n.index cells) (take n.index words) (ap (take n.index) is ∙ take-map (word_of p) n.index cells) said.before;
       stands = said.says ((state_after p).slots here) (version_of p here) (fits here) word_is;
     }
 
@@ -396,7 +396,7 @@ module _ (x y : Lane) (mid : LaneView) (cells : List ℕ) (empty : EmptyCells) (
   -- or this was the nearest where anything did
   still_some : (s : Standing) → again ≡ empty.versions → empty.count < length cells → Says empty.behind (Some s)
       → (h : History) → Finds x.cells.limits t.between (slice_index cells empty.count) empty.behind h → mid ≡ moved t.between (h ∷ [])
-      → StoodNearest x y cells (Some (record { place = empty.count; standing = s })) × (length (call_fronts x.view y.view) ≤ length cells + length cells)
+      → StoodNearest x y cells (Some (record { index = empty.count; standing = s })) × (length (call_fronts x.view y.view) ≤ length cells + length cells)
   still_some s e less said h finds is =
       let limits = x.cells.limits in let cs : List ℕ = take empty.count cells in
       let w : ℕ = empty.behind in
@@ -429,12 +429,12 @@ module _ (x y : Lane) (mid : LaneView) (cells : List ℕ) (empty : EmptyCells) (
       )
 
   -- as the word behind the empty cells says
-  pub still_nearest : again ≡ empty.versions → (nearest : Option Nearest) → IfNone nearest (IsEmptyWord empty.behind) → IfSome nearest (λ n. (n.place ≡ empty.count) × Says empty.behind (Some n.standing))
+  pub still_nearest : again ≡ empty.versions → (nearest : Option Nearest) → IfNone nearest (IsEmptyWord empty.behind) → IfSome nearest (λ n. (n.index ≡ empty.count) × Says empty.behind (Some n.standing))
       → StoodNearest x y cells nearest × (length (call_fronts x.view y.view) ≤ length cells + length cells)
   still_nearest e None none some = ⊎_elim (λ all. still_none e all.0 all.1) (λ one. absurd (one.1 none)) t.ends
   still_nearest e (Some n) none some = ⊎_elim
       (λ all. absurd (nothing_said n.standing (subst (λ w. Says w (Some n.standing)) all.2 some.1)))
-      (λ one. subst (λ (place : ℕ). StoodNearest x y cells (Some (record { place = place; standing = n.standing })) × (length (call_fronts x.view y.view) ≤ length cells + length cells)) (sym some.0)
+      (λ one. subst (λ (index : ℕ). StoodNearest x y cells (Some (record { index = index; standing = n.standing })) × (length (call_fronts x.view y.view) ≤ length cells + length cells)) (sym some.0)
       (still_some n.standing e one.0 some.1 one.2.0 one.2.1 one.2.2)) t.ends
 
   -- else a pass over all cells has begun, and goes on behind them

@@ -10,13 +10,13 @@ use Rattle.ext_model.proofs.Versions.{after-append, same_word, version-append}
 use Rattle.ext_cells.specs.CellCalls.{changes_at}
 use Rattle.ext_cells.specs.InnerTableSteps.{IsWordAt}
 
--- from one history to another at least so many events changed the word at a place
-pub record Rises (limits : Limits) (f g : History) (place count : ℕ) : Type 0 where
-  pub cell : place < limits.cells → version_of f place + count ≤ version_of g place
-  pub drawn : place ≡ limits.cells → (state_after f).drawn + count ≤ (state_after g).drawn
+-- from one history to another at least so many events changed the word at an index
+pub record Rises (limits : Limits) (f g : History) (index count : ℕ) : Type 0 where
+  pub cell : index < limits.cells → version_of f index + count ≤ version_of g index
+  pub drawn : index ≡ limits.cells → (state_after f).drawn + count ≤ (state_after g).drawn
 
-pub no_rise : (limits : Limits) (f g : History) (place : ℕ) → g ≡ f → Rises limits f g place 0
-no_rise limits f g place is = subst (λ z. Rises limits f z place 0) (sym is) (record { cell = λ less. omega arith; drawn = λ last. omega arith })
+pub no_rise : (limits : Limits) (f g : History) (index : ℕ) → g ≡ f → Rises limits f g index 0
+no_rise limits f g index is = subst (λ z. Rises limits f z index 0) (sym is) (record { cell = λ less. omega arith; drawn = λ last. omega arith })
 
 act_draws : (act : Act ℕ) (drawn : ℕ) → drawn ≤ drawn_after act drawn
 act_draws (Keep number) drawn = omega arith
@@ -36,15 +36,15 @@ never_falls (e ∷ rest) s =
     let more = never_falls rest (apply nat_eq s e) in
     omega (arith, one, more)
 
-module _ (limits : Limits) (f g m : History) (place word found count : ℕ) (was : IsWordAt limits g place word) (is : IsWordAt limits (g ++ m) place found) (ne : found ≢ word) (r : Rises limits f g place count) where
-  at_cell : place < limits.cells → version_of f place + (count + 1) ≤ version_of (g ++ m) place
+module _ (limits : Limits) (f g m : History) (index word found count : ℕ) (was : IsWordAt limits g index word) (is : IsWordAt limits (g ++ m) index found) (ne : found ≢ word) (r : Rises limits f g index count) where
+  at_cell : index < limits.cells → version_of f index + (count + 1) ≤ version_of (g ++ m) index
   at_cell less =
       let had = r.cell less in
-      let some : version_of m place ≡ 0 → ⊥ = λ none. ne (is.cell less ∙ same_word g m place none ∙ sym (was.cell less)) in
-      let both = version-append g m place in
+      let some : version_of m index ≡ 0 → ⊥ = λ none. ne (is.cell less ∙ same_word g m index none ∙ sym (was.cell less)) in
+      let both = version-append g m index in
       omega (arith, had, some, both)
 
-  at_count : place ≡ limits.cells → (state_after f).drawn + (count + 1) ≤ (state_after (g ++ m)).drawn
+  at_count : index ≡ limits.cells → (state_after f).drawn + (count + 1) ≤ (state_after (g ++ m)).drawn
   at_count last =
       let had = r.drawn last in
       let grows = never_falls m (state_after g) in
@@ -53,7 +53,7 @@ module _ (limits : Limits) (f g m : History) (place word found count : ℕ) (was
       let now = is.count last in
       omega (arith, had, grows, same, old, now, ne)
 
-  pub one_rise : Rises limits f (g ++ m) place (count + 1)
+  pub one_rise : Rises limits f (g ++ m) index (count + 1)
   one_rise = record { cell = at_cell; drawn = at_count }
 
 -- so many at the word of an act on a cell

@@ -97,7 +97,7 @@ module _ (id : CellsId) (x mid y : Lane) (rows : List ℕ) (width column : ℕ) 
   on = subst (λ z. ReadPass z.limits mid.view y.view (take empty.count (cells_in rows width column)) more.0) first_own (subst (λ cells. ReadPass mid.cells.limits mid.view y.view cells more.0) (take_in rows width column empty.count) more.1)
 
   -- these cells had no event: what stands behind them is the nearest, if anything does,
-  pub rows_nearest : again ≡ empty.versions → (nearest : Option Nearest) → IfNone nearest (IsEmptyWord empty.behind) → IfSome nearest (λ n. (n.place ≡ empty.count) × Says empty.behind (Some n.standing))
+  pub rows_nearest : again ≡ empty.versions → (nearest : Option Nearest) → IfNone nearest (IsEmptyWord empty.behind) → IfSome nearest (λ n. (n.index ≡ empty.count) × Says empty.behind (Some n.standing))
       → StoodNearest x y (cells_in rows width column) nearest × ((tries : ℕ) → 1 ≤ tries → length (call_fronts x.view y.view) ≤ length rows * (tries + 1))
   rows_nearest e nearest none some =
       let still = still_nearest x y mid.view (cells_in rows width column) empty again few_own known_own first more.0 on more.2 e nearest none some in

@@ -30,9 +30,9 @@ no_number e = cc
 
 -- ---- making the table
 
--- a view that knows of no places fits any words
-knows_nothing : (limits : CellLimits) (l : Layout) (words : List ℕ) (cell place : ℕ) → Contains {X = ℕ × ℕ} [] (cell, place) → StandsAt limits l words cell place
-knows_nothing limits l words cell place there = absurd (contains_none (cell, place) there)
+-- a view that knows of no indices fits any words
+knows_nothing : (limits : CellLimits) (l : Layout) (words : List ℕ) (cell index : ℕ) → Contains {X = ℕ × ℕ} [] (cell, index) → StandsAt limits l words cell index
+knows_nothing limits l words cell index there = absurd (contains_none (cell, index) there)
 
 at_zero : (l : Layout) (words : List ℕ) (block : ℕ) → l.is_block block ≡ true → 0 ≤ get_or words block 0
 at_zero l words block is = omega arith
@@ -45,7 +45,7 @@ opens limits l words lay one are = record {
   sound = ap l.sound are ∙ lay.opening;
   cells_are = record {
     each = λ cell less. subst (IsCellAt [] words cell) (sym (all_open cell less)) refl;
-    apart = λ cell other place less fewer p q. absurd (no_place (sym (all_open cell less) ∙ p));
+    apart = λ cell other index less fewer p q. absurd (no_index (sym (all_open cell less) ∙ p));
   };
   count_is = ap (λ (z : List ℕ). get_or z l.count 0) are ∙ at_zeros l.width l.count;
   fits = λ i v at. subst (Fits limits l words []) (only_one (first_lane limits) v i at).1 (record {
@@ -54,7 +54,7 @@ opens limits l words lay one are = record {
     limits_are = λ n is. refl;
     lane_is = λ n is. let zero_is : 0 ≡ n = cc is in omega arith;
     own_is = λ n is. refl;
-    placed_are = knows_nothing limits l words;
+    indexed_are = knows_nothing limits l words;
     least_is = at_zero l words 0;
   });
   apart = λ i j v w n iv jw vn wn. (only_one (first_lane limits) v i iv).0 ∙ sym (only_one (first_lane limits) w j jw).0;
@@ -70,8 +70,8 @@ opens limits l words lay one are = record {
     all_open : (cell : ℕ) → cell < limits.cells → l.stands words cell ≡ Open
     all_open cell less = ap (λ (z : List ℕ). l.stands z cell) are ∙ lay.all_open cell less
 
-    no_place : {at : ℕ} → Open ≡ At at → ⊥
-    no_place e = cc e
+    no_index : {at : ℕ} → Open ≡ At at → ⊥
+    no_index e = cc e
 
 -- ---- where a view of a split table stood
 
@@ -103,7 +103,7 @@ module _ (limits : CellLimits) (l : Layout) (s : State (Act ℕ) View) (k : Kept
   counted j u c (behind last is) e = absurd (no_number (ap (λ (x : View). x.given) is ∙ e))
 
   split_fits : (j : ℕ) (u : View) → Stood s.views id (giving v) (born v) j u → Fits limits l s.words k.history u
-  split_fits j u (cut here is) = let f = k.fits id v at in subst (Fits limits l s.words k.history) is (record { seen_is = f.seen_is; told_is = f.told_is; limits_are = f.limits_are; lane_is = f.lane_is; own_is = f.own_is; placed_are = f.placed_are; least_is = f.least_is })
+  split_fits j u (cut here is) = let f = k.fits id v at in subst (Fits limits l s.words k.history) is (record { seen_is = f.seen_is; told_is = f.told_is; limits_are = f.limits_are; lane_is = f.lane_is; own_is = f.own_is; indexed_are = f.indexed_are; least_is = f.least_is })
   split_fits j u (beside other old) = k.fits j u old
   split_fits j u (behind last is) = let f = k.fits id v at in subst (Fits limits l s.words k.history) is (record {
     seen_is = (k.history, refl);
@@ -111,7 +111,7 @@ module _ (limits : CellLimits) (l : Layout) (s : State (Act ℕ) View) (k : Kept
     limits_are = λ n e. f.limits_are first mine;
     lane_is = λ n e. let same : n ≡ d = some_is e gives in omega arith;
     own_is = λ n e. let same : n ≡ d = some_is e gives in k.unborn id v d n at gives (omega arith);
-    placed_are = knows_nothing limits l s.words;
+    indexed_are = knows_nothing limits l s.words;
     least_is = at_zero l s.words 0;
   })
 
@@ -186,7 +186,7 @@ note_fits limits l words h v f = record {
   limits_are = λ n e. absurd (no_number e);
   lane_is = λ n e. absurd (no_number e);
   own_is = λ n e. absurd (no_number e);
-  placed_are = knows_nothing limits l words;
+  indexed_are = knows_nothing limits l words;
   least_is = at_zero l words 0;
 }
 
@@ -207,7 +207,7 @@ splits_note limits l id v s k at = relabel limits l s k (set s.views id v ++ not
     (λ j u e. note_from s id v at j u (stood s.views id v (note v) j u e))
 
 noted_fits : (limits : CellLimits) (l : Layout) (words : List ℕ) (h : History) (v w : View) → Fits limits l words h v → Fits limits l words h w → Fits limits l words h (noted v w)
-noted_fits limits l words h v w f g = record { seen_is = f.seen_is; told_is = g.told_is; limits_are = f.limits_are; lane_is = f.lane_is; own_is = f.own_is; placed_are = f.placed_are; least_is = f.least_is }
+noted_fits limits l words h v w f g = record { seen_is = f.seen_is; told_is = g.told_is; limits_are = f.limits_are; lane_is = f.lane_is; own_is = f.own_is; indexed_are = f.indexed_are; least_is = f.least_is }
 
 spent_fits : (limits : CellLimits) (l : Layout) (words : List ℕ) (h : History) → Fits limits l words h spent
 spent_fits limits l words h = record {
@@ -216,7 +216,7 @@ spent_fits limits l words h = record {
   limits_are = λ n e. absurd (no_number e);
   lane_is = λ n e. absurd (no_number e);
   own_is = λ n e. absurd (no_number e);
-  placed_are = knows_nothing limits l words;
+  indexed_are = knows_nothing limits l words;
   least_is = at_zero l words 0;
 }
 

@@ -26,7 +26,7 @@ pub word_then : (h : History) (cell : ℕ) → IsSealedUnused h cell → word_of
 word_then h cell is = ap (λ s. slot_word s (version_of h cell)) is.slot ∙ ap (λ v. word 3 0 v) is.version
 
 told_at : (h : History) (words : List ℕ) (cell : ℕ) (s : Standing) → IsCellAt h words cell s → told_word words s ≡ word_of h cell
-told_at h words cell (At place) is = is
+told_at h words cell (At index) is = is
 told_at h words cell Open is = sym (zero_word h cell is)
 told_at h words cell Ended is = sym (word_then h cell is)
 
@@ -40,14 +40,14 @@ none_later h later cell one some = let all = version-append h later cell in omeg
 none_before : (h later : History) (cell : ℕ) → version_of (h ++ later) cell ≡ 0 → version_of h cell ≡ 0
 none_before h later cell none = let all = version-append h later cell in omega (arith, none, all)
 
-used_at : (h later : History) (words : List ℕ) (cell : ℕ) (s : Standing) → IsCellAt (h ++ later) words cell s → (word_of h cell ≡ 0 → ⊥) → (word_of h cell ≡ ended_word → ⊥) → (place : ℕ) × (s ≡ At place)
-used_at h later words cell (At place) is some more = (place, refl)
+used_at : (h later : History) (words : List ℕ) (cell : ℕ) (s : Standing) → IsCellAt (h ++ later) words cell s → (word_of h cell ≡ 0 → ⊥) → (word_of h cell ≡ ended_word → ⊥) → (index : ℕ) × (s ≡ At index)
+used_at h later words cell (At index) is some more = (index, refl)
 used_at h later words cell Open is some more = absurd (some (zero_word h cell (none_before h later cell is)))
 used_at h later words cell Ended is some more =
     absurd (more (sym (same_word h later cell (none_later h later cell is.version (λ none. some (zero_word h cell none)))) ∙ word_then (h ++ later) cell is))
 
 pub used : (limits : Limits) (stands : ℕ → Standing) (h later : History) (words : List ℕ) (cell : ℕ) → AreCellsOf limits stands (h ++ later) words → cell < limits.cells
-    → (word_of h cell ≡ 0 → ⊥) → (word_of h cell ≡ ended_word → ⊥) → (place : ℕ) × (stands cell ≡ At place)
+    → (word_of h cell ≡ 0 → ⊥) → (word_of h cell ≡ ended_word → ⊥) → (index : ℕ) × (stands cell ≡ At index)
 used limits stands h later words cell are within some more = used_at h later words cell (stands cell) (are.each cell within) some more
 
 -- ---- an event
@@ -58,7 +58,7 @@ off_it cell other ne = ne_eqb cell other (λ e. ne (sym e))
 -- a cell's fact depends on its own slot and version, and on the word where it stands
 moved_at : (h g : History) (words later : List ℕ) (cell : ℕ) (s : Standing) → (state_after g).slots cell ≡ (state_after h).slots cell → version_of g cell ≡ version_of h cell
     → ((at : ℕ) → s ≡ At at → get_or later at 0 ≡ get_or words at 0) → IsCellAt h words cell s → IsCellAt g later cell s
-moved_at h g words later cell (At place) slot v same is = same place refl ∙ is ∙ (λ i. slot_word (sym slot i) (sym v i))
+moved_at h g words later cell (At index) slot v same is = same index refl ∙ is ∙ (λ i. slot_word (sym slot i) (sym v i))
 moved_at h g words later cell Open slot v same is = v ∙ is
 moved_at h g words later cell Ended slot v same is = record { version = v ∙ is.version; slot = slot ∙ is.slot }
 
@@ -76,39 +76,39 @@ off_event : (stands : ℕ → Standing) (h : History) (words later : List ℕ) (
 off_event stands h words later lane act other is same was =
     moved_at h (h ++ by lane act ∷ []) words later other (stands other) (slot_off h lane act other is) (version_off h lane act other is) same was
 
-pub changed : (limits : Limits) (stands : ℕ → Standing) (h : History) (words : List ℕ) (lane : ℕ) (act : Act ℕ) (cell place next : ℕ)
-    → AreCellsOf limits stands h words → cell < limits.cells → stands cell ≡ At place → place < length words → place_of act ≡ Some cell
+pub changed : (limits : Limits) (stands : ℕ → Standing) (h : History) (words : List ℕ) (lane : ℕ) (act : Act ℕ) (cell index next : ℕ)
+    → AreCellsOf limits stands h words → cell < limits.cells → stands cell ≡ At index → index < length words → place_of act ≡ Some cell
     → next ≡ word_of (h ++ by lane act ∷ []) cell
-    → AreCellsOf limits stands (h ++ by lane act ∷ []) (set words place next)
-changed limits stands h words lane act cell place next are within here fits on is = record {
+    → AreCellsOf limits stands (h ++ by lane act ∷ []) (set words index next)
+changed limits stands h words lane act cell index next are within here fits on is = record {
   each = λ other less. dite (ℕ_discrete other cell)
-      (λ same. subst (λ x. IsCellAt (h ++ by lane act ∷ []) (set words place next) x (stands x)) (sym same)
-      (subst (IsCellAt (h ++ by lane act ∷ []) (set words place next) cell) (sym here) (get_or-set_same words place next 0 fits ∙ is)))
-      (λ (ne : other ≡ cell → ⊥). off_event stands h words (set words place next) lane act other (ap (is_at nat_eq other) on ∙ off_it cell other ne)
-      (λ at there. get_or-set_other words place at next 0 (λ e. ne (are.apart other cell place less within (there ∙ ap At e) here)))
+      (λ same. subst (λ x. IsCellAt (h ++ by lane act ∷ []) (set words index next) x (stands x)) (sym same)
+      (subst (IsCellAt (h ++ by lane act ∷ []) (set words index next) cell) (sym here) (get_or-set_same words index next 0 fits ∙ is)))
+      (λ (ne : other ≡ cell → ⊥). off_event stands h words (set words index next) lane act other (ap (is_at nat_eq other) on ∙ off_it cell other ne)
+      (λ at there. get_or-set_other words index at next 0 (λ e. ne (are.apart other cell index less within (there ∙ ap At e) here)))
       (are.each other less));
   apart = are.apart;
 }
 
-pub drawn : (limits : Limits) (stands : ℕ → Standing) (h : History) (words : List ℕ) (lane : ℕ) (act : Act ℕ) (place next : ℕ)
-    → AreCellsOf limits stands h words → place_of act ≡ None → ((cell : ℕ) → cell < limits.cells → stands cell ≡ At place → ⊥)
-    → AreCellsOf limits stands (h ++ by lane act ∷ []) (set words place next)
-drawn limits stands h words lane act place next are on free = record {
-  each = λ other less. off_event stands h words (set words place next) lane act other (ap (is_at nat_eq other) on)
-      (λ at there. get_or-set_other words place at next 0 (λ e. free other less (there ∙ ap At e)))
+pub drawn : (limits : Limits) (stands : ℕ → Standing) (h : History) (words : List ℕ) (lane : ℕ) (act : Act ℕ) (index next : ℕ)
+    → AreCellsOf limits stands h words → place_of act ≡ None → ((cell : ℕ) → cell < limits.cells → stands cell ≡ At index → ⊥)
+    → AreCellsOf limits stands (h ++ by lane act ∷ []) (set words index next)
+drawn limits stands h words lane act index next are on free = record {
+  each = λ other less. off_event stands h words (set words index next) lane act other (ap (is_at nat_eq other) on)
+      (λ at there. get_or-set_other words index at next 0 (λ e. free other less (there ∙ ap At e)))
       (are.each other less);
   apart = are.apart;
 }
 
--- ---- a cell gets a place
+-- ---- a cell gets its mark
 
-pub placed : (limits : Limits) (stands after : ℕ → Standing) (h : History) (words later : List ℕ) (cell place : ℕ)
-    → AreCellsOf limits stands h words → cell < limits.cells → stands cell ≡ Open → after cell ≡ At place → get_or later place 0 ≡ 0
-    → ((other : ℕ) → other < limits.cells → stands other ≡ At place → ⊥)
+pub marked : (limits : Limits) (stands after : ℕ → Standing) (h : History) (words later : List ℕ) (cell index : ℕ)
+    → AreCellsOf limits stands h words → cell < limits.cells → stands cell ≡ Open → after cell ≡ At index → get_or later index 0 ≡ 0
+    → ((other : ℕ) → other < limits.cells → stands other ≡ At index → ⊥)
     → ((other : ℕ) → other < limits.cells → (other ≡ cell) ⊎ (after other ≡ stands other))
     → ((other at : ℕ) → other < limits.cells → stands other ≡ At at → get_or later at 0 ≡ get_or words at 0)
     → AreCellsOf limits after h later
-placed limits stands after h words later cell place are within was is zero_there free others same = record {
+marked limits stands after h words later cell index are within was is zero_there free others same = record {
   each = λ other less. elim (others other less) [
     | inl it ↦ subst (λ x. IsCellAt h later x (after x)) (sym it) (subst (IsCellAt h later cell) (sym is) (zero_there ∙ sym (zero_word h cell (subst (IsCellAt h words cell) was (are.each cell within)))))
     | inr old ↦ subst (IsCellAt h later other) (sym old) (moved_at h h words later other (stands other) refl refl (λ at. same other at less) (are.each other less))
@@ -116,17 +116,17 @@ placed limits stands after h words later cell place are within was is zero_there
   apart = λ one two at less fewer p q. elim (others one less) [
     | inl it ↦ elim (others two fewer) [
       | inl too ↦ it ∙ sym too
-      | inr old ↦ absurd (free two fewer (sym old ∙ q ∙ one_place (sym (ap after it) ∙ p)))
+      | inr old ↦ absurd (free two fewer (sym old ∙ q ∙ one_index (sym (ap after it) ∙ p)))
     ]
     | inr was_one ↦ elim (others two fewer) [
-      | inl too ↦ absurd (free one less (sym was_one ∙ p ∙ one_place (sym (ap after too) ∙ q)))
+      | inl too ↦ absurd (free one less (sym was_one ∙ p ∙ one_index (sym (ap after too) ∙ q)))
       | inr was_two ↦ are.apart one two at less fewer (sym was_one ∙ p) (sym was_two ∙ q)
     ]
   ];
 }
   where
-    one_place : {at : ℕ} → after cell ≡ At at → At at ≡ At place
-    one_place e = sym e ∙ is
+    one_index : {at : ℕ} → after cell ≡ At at → At at ≡ At index
+    one_index e = sym e ∙ is
 
 -- ---- a block ends
 
@@ -144,11 +144,11 @@ ended limits stands after h words later lane cells are may cases same = record {
   apart = λ one two at less fewer p q. are.apart one two at less fewer (was one at less p) (was two at fewer q);
 }
   where
-    no_place : {at : ℕ} → Ended ≡ At at → ⊥
-    no_place e = cc e
+    no_index : {at : ℕ} → Ended ≡ At at → ⊥
+    no_index e = cc e
 
     was : (cell at : ℕ) → cell < limits.cells → after cell ≡ At at → stands cell ≡ At at
     was cell at less p = elim (cases cell less) [
-      | inl t ↦ absurd (no_place (sym t.1 ∙ p))
+      | inl t ↦ absurd (no_index (sym t.1 ∙ p))
       | inr t ↦ sym t.1 ∙ p
     ]

@@ -22,45 +22,45 @@ not_empty [] ne = absurd (ne refl)
 not_empty (x ∷ m) ne = omega arith
 
 -- the call has made its first step and this many exchanges that met other words, and no event
-pub record Tries (limits : Limits) (before now : LaneView) (place word count : ℕ) : Type 0 where
+pub record Tries (limits : Limits) (before now : LaneView) (index word count : ℕ) : Type 0 where
   pub calls : Calls limits before now []
   pub legal : IsLegal limits (seen_by now)
   pub stepped : IsStepped before now
-  pub within : place ≤ limits.cells
-  pub word_is : IsWordAt limits (seen_by now) place word
+  pub within : index ≤ limits.cells
+  pub word_is : IsWordAt limits (seen_by now) index word
   pub passed : (more : History) × (seen_by now ≡ first_front before now ++ more) × (own before.number more ≡ []) × (count ≤ length more)
-  pub rises : Rises limits (first_front before now) (seen_by now) place count
+  pub rises : Rises limits (first_front before now) (seen_by now) index count
   pub steps : length (call_fronts before now) ≡ count + 1
 
 -- the same of a lane, which stays one of its cells
-pub record TriesOn (before now : Lane) (place word count : ℕ) : Type 0 where
+pub record TriesOn (before now : Lane) (index word count : ℕ) : Type 0 where
   pub cells : now.cells ≡ before.cells
-  pub tries : Tries before.cells.limits before.view now.view place word count
+  pub tries : Tries before.cells.limits before.view now.view index word count
 
-pub first_try : (limits : Limits) (before now : LaneView) (place word : ℕ) (h : History) → place ≤ limits.cells → Finds limits before place word h → now ≡ moved before (h ∷ []) → Tries limits before now place word 0
-first_try limits before now place word h within f e =
+pub first_try : (limits : Limits) (before now : LaneView) (index word : ℕ) (h : History) → index ≤ limits.cells → Finds limits before index word h → now ≡ moved before (h ∷ []) → Tries limits before now index word 0
+first_try limits before now index word h within f e =
     let after : LaneView = moved before (h ∷ []) in
     let steps = moved_once before h in
     let first : first_front before after ≡ h = ap (first_or (seen_by before)) (moved_fronts before (h ∷ [])) in
-    subst (λ l. Tries limits before l place word 0) (sym e) (record {
+    subst (λ l. Tries limits before l index word 0) (sym e) (record {
       calls = (step_calls f.on).0;
       legal = subst (IsLegal limits) (sym (moved_seen before (h ∷ []))) f.on.legal;
       stepped = omega (arith, steps);
       within = within;
-      word_is = subst (λ z. IsWordAt limits z place word) (sym (moved_seen before (h ∷ []))) f.word_is;
+      word_is = subst (λ z. IsWordAt limits z index word) (sym (moved_seen before (h ∷ []))) f.word_is;
       passed = ([], moved_seen before (h ∷ []) ∙ sym first ∙ sym (append-nil (first_front before after)), refl, omega arith);
-      rises = no_rise limits (first_front before after) (seen_by after) place (moved_seen before (h ∷ []) ∙ sym first);
+      rises = no_rise limits (first_front before after) (seen_by after) index (moved_seen before (h ∷ []) ∙ sym first);
       steps = omega (arith, steps);
     })
 
-pub next_try : (limits : Limits) (before now next : LaneView) (place word found count : ℕ) (h : History) → Tries limits before now place word count → found ≢ word → Finds limits now place found h → next ≡ moved now (h ∷ [])
-    → Tries limits before next place found (count + 1)
-next_try limits before now next place word found count h t ne f e = subst (λ l. Tries limits before l place found (count + 1)) (sym e) go
+pub next_try : (limits : Limits) (before now next : LaneView) (index word found count : ℕ) (h : History) → Tries limits before now index word count → found ≢ word → Finds limits now index found h → next ≡ moved now (h ∷ [])
+    → Tries limits before next index found (count + 1)
+next_try limits before now next index word found count h t ne f e = subst (λ l. Tries limits before l index found (count + 1)) (sym e) go
   where
     after : LaneView
     after = moved now (h ∷ [])
 
-    go : Tries limits before (moved now (h ∷ [])) place found (count + 1)
+    go : Tries limits before (moved now (h ∷ [])) index found (count + 1)
     go =
         let two = (step_calls f.on).0 in
         let next : LaneView = moved now (h ∷ []) in
@@ -68,7 +68,7 @@ next_try limits before now next place word found count h t ne f e = subst (λ l.
         let longer : seen_by now ++ m ≡ h = f.on.begins.1 in
         let number = same_number t.calls in
         let none : own before.number m ≡ [] = own_past lane_of before.number (seen_by now) m (ap (own before.number) longer ∙ subst (λ k. own k h ≡ own k (seen_by now)) number f.on.own_same) in
-        let some : 1 ≤ length m = not_empty m (λ is. ne (one_word limits h place found word t.within f.word_is (subst (λ z. IsWordAt limits z place word) (sym (append-nil (seen_by now)) ∙ (ap (λ z. seen_by now ++ z) (sym is) ∙ longer)) t.word_is))) in
+        let some : 1 ≤ length m = not_empty m (λ is. ne (one_word limits h index found word t.within f.word_is (subst (λ z. IsWordAt limits z index word) (sym (append-nil (seen_by now)) ∙ (ap (λ z. seen_by now ++ z) (sym is) ∙ longer)) t.word_is))) in
         let more : History = t.passed.0 in
         let many = t.passed.3 in
         let both = length-append more m in
@@ -80,7 +80,7 @@ next_try limits before now next place word found count h t ne f e = subst (λ l.
           legal = subst (IsLegal limits) (sym (moved_seen now (h ∷ []))) f.on.legal;
           stepped = steps_stay t.calls two (inl t.stepped);
           within = t.within;
-          word_is = subst (λ z. IsWordAt limits z place found) (sym (moved_seen now (h ∷ []))) f.word_is;
+          word_is = subst (λ z. IsWordAt limits z index found) (sym (moved_seen now (h ∷ []))) f.word_is;
           passed = (
             more ++ m,
             moved_seen now (h ∷ []) ∙ sym longer ∙ ap (λ z. z ++ m) t.passed.1 ∙ append_assoc (first_front before now) more m ∙ ap (λ z. z ++ (more ++ m)) (sym (first_decides t.calls two t.stepped)),
@@ -88,13 +88,13 @@ next_try limits before now next place word found count h t ne f e = subst (λ l.
             omega (arith, many, both, some),
           );
           rises =
-              let P : History → History → Type 0 = λ f g. Rises limits f g place (count + 1) in
-              let risen = one_rise limits (first_front before now) (seen_by now) m place word found count t.word_is (subst (λ z. IsWordAt limits z place found) (sym longer) f.word_is) ne t.rises in
+              let P : History → History → Type 0 = λ f g. Rises limits f g index (count + 1) in
+              let risen = one_rise limits (first_front before now) (seen_by now) m index word found count t.word_is (subst (λ z. IsWordAt limits z index found) (sym longer) f.word_is) ne t.rises in
               subst (λ z. P z (seen_by next)) (sym (first_decides t.calls two t.stepped)) (subst (P (first_front before now)) (longer ∙ sym (moved_seen now (h ∷ []))) risen);
           steps = omega (arith, steps, had, one);
         }
 
-module _ (limits : Limits) (before now : LaneView) (place word count : ℕ) (t : Tries limits before now place word count) where
+module _ (limits : Limits) (before now : LaneView) (index word count : ℕ) (t : Tries limits before now index word count) where
   -- the call may be answered by what it has seen
   pub answered : (Fact : History → Type 0) → Fact (seen_by now) → HoldsAtPoint limits before now [] Fact
   answered Fact fact = record {
@@ -132,25 +132,25 @@ module _ (limits : Limits) (before now : LaneView) (place word count : ℕ) (t :
     own_same = t.calls.own_events ∙ append-nil (own before.number (seen_by before));
   }
 
-pub first_on : (before now : Lane) (place word : ℕ) (h : History) → place ≤ before.cells.limits.cells → Finds before.cells.limits before.view place word h → now ≡ stepped before h → TriesOn before now place word 0
-first_on before now place word h within f e = record { cells = ap (λ z. z.cells) e; tries = first_try before.cells.limits before.view now.view place word h within f (ap (λ z. z.view) e) }
+pub first_on : (before now : Lane) (index word : ℕ) (h : History) → index ≤ before.cells.limits.cells → Finds before.cells.limits before.view index word h → now ≡ stepped before h → TriesOn before now index word 0
+first_on before now index word h within f e = record { cells = ap (λ z. z.cells) e; tries = first_try before.cells.limits before.view now.view index word h within f (ap (λ z. z.view) e) }
 
-pub next_on : (before now next : Lane) (place word found count : ℕ) (h : History) → TriesOn before now place word count → found ≢ word → Finds now.cells.limits now.view place found h → next ≡ stepped now h → TriesOn before next place found (count + 1)
-next_on before now next place word found count h t ne f e = record {
+pub next_on : (before now next : Lane) (index word found count : ℕ) (h : History) → TriesOn before now index word count → found ≢ word → Finds now.cells.limits now.view index found h → next ≡ stepped now h → TriesOn before next index found (count + 1)
+next_on before now next index word found count h t ne f e = record {
   cells = ap (λ z. z.cells) e ∙ t.cells;
-  tries = next_try before.cells.limits before.view now.view next.view place word found count h t.tries ne (subst (λ l. Finds l now.view place found h) (ap (λ z. z.limits) t.cells) f) (ap (λ z. z.view) e);
+  tries = next_try before.cells.limits before.view now.view next.view index word found count h t.tries ne (subst (λ l. Finds l now.view index found h) (ap (λ z. z.limits) t.cells) f) (ap (λ z. z.view) e);
 }
 
 -- the call has made a front for each exchange and one before them
-pub steps_on : (before now : Lane) (place word count : ℕ) → TriesOn before now place word count → length (call_fronts before.view now.view) ≡ count + 1
-steps_on before now place word count t = t.tries.steps
+pub steps_on : (before now : Lane) (index word count : ℕ) → TriesOn before now index word count → length (call_fronts before.view now.view) ≡ count + 1
+steps_on before now index word count t = t.tries.steps
 
 -- and one more for the exchange that it ends with
-pub steps_next : (before now next : Lane) (place word count : ℕ) (h : History) (act : Act ℕ) → TriesOn before now place word count → Finds now.cells.limits now.view place word h
+pub steps_next : (before now next : Lane) (index word count : ℕ) (h : History) (act : Act ℕ) → TriesOn before now index word count → Finds now.cells.limits now.view index word h
     → next ≡ stepped now (h ++ by now.view.number act ∷ []) → length (call_fronts before.view next.view) ≡ count + 2
-steps_next before now next place word count h act t f e =
+steps_next before now next index word count h act t f e =
     let limits = before.cells.limits in
-    let f' : Finds limits now.view place word h = subst (λ l. Finds l now.view place word h) (ap (λ z. z.limits) t.cells) f in
+    let f' : Finds limits now.view index word h = subst (λ l. Finds l now.view index word h) (ap (λ z. z.limits) t.cells) f in
     let after : LaneView = moved now.view ((h ++ by now.view.number act ∷ []) ∷ []) in
     let two = (event_calls f'.on (by now.view.number act) refl).0 in
     let all : length (call_fronts before.view after) ≡ length (call_fronts before.view now.view) + length (call_fronts now.view after) = steps_compose t.tries.calls two in
@@ -159,9 +159,9 @@ steps_next before now next place word count h act t f e =
     subst (λ (l : LaneView). length (call_fronts before.view l) ≡ count + 2) (sym (ap (λ (z : Lane). z.view) e)) (omega (arith, all, had, one))
 
 -- what the lane has seen once it has made an act is legal
-pub made_legal : (before now next : Lane) (place word count : ℕ) (h : History) (act : Act ℕ) → TriesOn before now place word count → IsLegal now.cells.limits h → IsAllowed now.cells.limits h (by now.view.number act)
+pub made_legal : (before now next : Lane) (index word count : ℕ) (h : History) (act : Act ℕ) → TriesOn before now index word count → IsLegal now.cells.limits h → IsAllowed now.cells.limits h (by now.view.number act)
     → next.view ≡ moved now.view ((h ++ by now.view.number act ∷ []) ∷ []) → IsLegal before.cells.limits (seen_by next.view)
-made_legal before now next place word count h act t legal allowed e =
+made_legal before now next index word count h act t legal allowed e =
     let more : History = h ++ by now.view.number act ∷ [] in
     let pushed : IsLegal now.cells.limits more = legal_push h (by now.view.number act) legal allowed in
     subst (λ z. IsLegal before.cells.limits z) (sym (ap seen_by e ∙ moved_seen now.view (more ∷ []))) (subst (λ (z : CellsId). IsLegal z.limits more) t.cells pushed)

@@ -19,29 +19,29 @@ use Rattle.ext_cells.specs.Standings.{Standing, IsCellAt, AreCellsOf}
 use Rattle.ext_cells.specs.InnerLayouts.{Layout, IsLayout}
 use Rattle.ext_cells.specs.InnerViews.{limits_of, shown}
 use Rattle.ext_cells.specs.InnerRule.{StandsAt, Kept}
-use Rattle.ext_cells.specs.InnerTableSteps.{IsWordAt, place_in, FoundBy, IsKnown, Loaded, MayExchange, Exchanged}
+use Rattle.ext_cells.specs.InnerTableSteps.{IsWordAt, index_in, FoundBy, IsKnown, Loaded, MayExchange, Exchanged}
 use Rattle.ext_cells.proofs.Standings as standing
-use Rattle.ext_cells.proofs.Known.{Place, the_count, a_cell, known_place, word_there, found}
+use Rattle.ext_cells.proofs.Known.{IsIndexOf, the_count, a_cell, known_index, word_there, found}
 use Rattle.ext_cells.proofs.Passing.{not_both}
 use Rattle.ext_cells.proofs.Going.{Keeps, Follows, follows_same, fits_shown, goes_on, looks}
 
 -- ---- a word that is read
 
-pub shows : (limits : CellLimits) (l : Layout) (s : State (Act ℕ) View) (k : Kept limits l s) (id place : ℕ) (v : View) → get_elem? s.views id ≡ some v
-    → Kept limits l (record { words = set s.words place (get_or s.words place 0); homes = s.homes; views = set s.views id (shown v k.history) })
-shows limits l s k id place v at =
-    looks limits l s k id v (shown v k.history) at refl refl place (fits_shown limits l s.words s.words k.history v (follows_same limits l s.words) (k.fits id v at) k.history)
+pub shows : (limits : CellLimits) (l : Layout) (s : State (Act ℕ) View) (k : Kept limits l s) (id index : ℕ) (v : View) → get_elem? s.views id ≡ some v
+    → Kept limits l (record { words = set s.words index (get_or s.words index 0); homes = s.homes; views = set s.views id (shown v k.history) })
+shows limits l s k id index v at =
+    looks limits l s k id v (shown v k.history) at refl refl index (fits_shown limits l s.words s.words k.history v (follows_same limits l s.words) (k.fits id v at) k.history)
 
-pub loads : (limits : CellLimits) (l : Layout) (slots id : ℕ) (me : Me (Act ℕ) View) (aim place lane : ℕ) → IsLayout (limits_of limits) l → me.0.lane ≡ Some lane → IsKnown l me.0 aim place
-    → Allows (Kept limits l) slots id me place (λ n. n) (Loaded aim (step slots place 0 0 none) me)
-loads limits l slots id me aim place lane lay mine knows s k _ at _ = (
+pub loads : (limits : CellLimits) (l : Layout) (slots id : ℕ) (me : Me (Act ℕ) View) (aim index lane : ℕ) → IsLayout (limits_of limits) l → me.0.lane ≡ Some lane → IsKnown l me.0 aim index
+    → Allows (Kept limits l) slots id me index (λ n. n) (Loaded aim (step slots index 0 0 none) me)
+loads limits l slots id me aim index lane lay mine knows s k _ at _ = (
   shown me.0 k.history,
   keeps,
   tt,
-  shows limits l s k id place me.0 at,
+  shows limits l s k id index me.0 at,
   (
     k.history,
-    found limits l s k id aim (get_or s.words place 0) me.0 lane mine at (word_there limits l s k aim place (known_place limits l s.words k.history me.0 lane aim place k.sound k.cells_are (k.fits id me.0 at) mine knows)),
+    found limits l s k id aim (get_or s.words index 0) me.0 lane mine at (word_there limits l s k aim index (known_index limits l s.words k.history me.0 lane aim index k.sound k.cells_are (k.fits id me.0 at) mine knows)),
     refl,
   ),
 )
@@ -64,88 +64,88 @@ no_draw (Seal at) cell drawn on = refl
 -- a word that is no block's changes
 off_blocks : (limits : CellLimits) (l : Layout) (words : List ℕ) (at next : ℕ) → IsLayout (limits_of limits) l → l.is_block at ≡ false → Follows limits l words (set words at next)
 off_blocks limits l words at next lay off = record {
-  stays = λ cell place less is. lay.steady words at next cell off ∙ is;
-  grows = λ place block. let same = get_or-set_other words at place next 0 (λ e. not_both off (ap l.is_block (sym e) ∙ block)) in omega (arith, same);
+  stays = λ cell index less is. lay.steady words at next cell off ∙ is;
+  grows = λ index block. let same = get_or-set_other words at index next 0 (λ e. not_both off (ap l.is_block (sym e) ∙ block)) in omega (arith, same);
 }
 
 restand : (limits : Limits) (stands after : ℕ → Standing) (h : History) (words : List ℕ) → ((cell : ℕ) → after cell ≡ stands cell) → AreCellsOf limits stands h words → AreCellsOf limits after h words
 restand limits stands after h words same are = record {
   each = λ cell less. subst (IsCellAt h words cell) (sym (same cell)) (are.each cell less);
-  apart = λ cell other place less fewer p q. are.apart cell other place less fewer (sym (same cell) ∙ p) (sym (same other) ∙ q);
+  apart = λ cell other index less fewer p q. are.apart cell other index less fewer (sym (same cell) ∙ p) (sym (same other) ∙ q);
 }
 
-module _ (limits : CellLimits) (l : Layout) (lay : IsLayout (limits_of limits) l) (s : State (Act ℕ) View) (k : Kept limits l s) (lane : ℕ) (act : Act ℕ) (aim place new : ℕ)
+module _ (limits : CellLimits) (l : Layout) (lay : IsLayout (limits_of limits) l) (s : State (Act ℕ) View) (k : Kept limits l s) (lane : ℕ) (act : Act ℕ) (aim index new : ℕ)
     (allowed : IsAllowed (limits_of limits) k.history (by lane act)) (leaves : IsWordAt (limits_of limits) (k.history ++ by lane act ∷ []) aim new) where
   abbrev after : History
   after = k.history ++ by lane act ∷ []
 
   abbrev later : List ℕ
-  later = set s.words place new
+  later = set s.words index new
 
-  still : (cell : ℕ) → l.is_block place ≡ false → l.stands later cell ≡ l.stands s.words cell
-  still cell off = lay.steady s.words place new cell off
+  still : (cell : ℕ) → l.is_block index ≡ false → l.stands later cell ≡ l.stands s.words cell
+  still cell off = lay.steady s.words index new cell off
 
   -- the count, by an act on no cell
-  draws : aim ≡ limits.cells → place ≡ l.count → place_of act ≡ None → Keeps limits l s.words after later
+  draws : aim ≡ limits.cells → index ≡ l.count → place_of act ≡ None → Keeps limits l s.words after later
   draws last here on =
-      let off : l.is_block place ≡ false = ap l.is_block here ∙ lay.count_is.1 in
-      let fits : place < length s.words = let w = k.wide in let less = lay.count_is.0 in omega (arith, w, less, here) in record {
-        follows = off_blocks limits l s.words place new lay off;
-        wide = length-set s.words place new ∙ k.wide;
+      let off : l.is_block index ≡ false = ap l.is_block here ∙ lay.count_is.1 in
+      let fits : index < length s.words = let w = k.wide in let less = lay.count_is.0 in omega (arith, w, less, here) in record {
+        follows = off_blocks limits l s.words index new lay off;
+        wide = length-set s.words index new ∙ k.wide;
         sound = subst (λ n. l.sound (set s.words n new) ≡ true) (sym here) (lay.draws s.words new k.sound);
         are = restand (limits_of limits) (l.stands s.words) (l.stands later) after later (λ cell. still cell off)
-            (standing.drawn (limits_of limits) (l.stands s.words) k.history s.words lane act place new k.cells_are on (λ cell less there. (lay.places s.words cell place k.sound less there).2 here));
-        count = subst (λ n. get_or later n 0 ≡ new) here (get_or-set_same s.words place new 0 fits) ∙ leaves.count last;
+            (standing.drawn (limits_of limits) (l.stands s.words) k.history s.words lane act index new k.cells_are on (λ cell less there. (lay.indices s.words cell index k.sound less there).2 here));
+        count = subst (λ n. get_or later n 0 ≡ new) here (get_or-set_same s.words index new 0 fits) ∙ leaves.count last;
       }
 
   -- or a cell's word, by an act on it
-  changes : StandsAt limits l s.words aim place → place_of act ≡ Some aim → Keeps limits l s.words after later
+  changes : StandsAt limits l s.words aim index → place_of act ≡ Some aim → Keeps limits l s.words after later
   changes at on =
-      let where_is = lay.places s.words aim place k.sound at.within at.stands in
-      let fits : place < length s.words = let w = k.wide in let less = where_is.0 in omega (arith, w, less) in record {
-        follows = off_blocks limits l s.words place new lay where_is.1;
-        wide = length-set s.words place new ∙ k.wide;
-        sound = lay.changes s.words aim place new k.sound at.within at.stands;
+      let where_is = lay.indices s.words aim index k.sound at.within at.stands in
+      let fits : index < length s.words = let w = k.wide in let less = where_is.0 in omega (arith, w, less) in record {
+        follows = off_blocks limits l s.words index new lay where_is.1;
+        wide = length-set s.words index new ∙ k.wide;
+        sound = lay.changes s.words aim index new k.sound at.within at.stands;
         are = restand (limits_of limits) (l.stands s.words) (l.stands later) after later (λ cell. still cell where_is.1)
-            (standing.changed (limits_of limits) (l.stands s.words) k.history s.words lane act aim place new k.cells_are at.within at.stands fits on (leaves.cell at.within));
-        count = get_or-set_other s.words place l.count new 0 (λ e. where_is.2 (sym e)) ∙ k.count_is ∙ sym (drawn-push k.history (by lane act) ∙ no_draw act aim (state_after k.history).drawn on);
+            (standing.changed (limits_of limits) (l.stands s.words) k.history s.words lane act aim index new k.cells_are at.within at.stands fits on (leaves.cell at.within));
+        count = get_or-set_other s.words index l.count new 0 (λ e. where_is.2 (sym e)) ∙ k.count_is ∙ sym (drawn-push k.history (by lane act) ∙ no_draw act aim (state_after k.history).drawn on);
       }
 
   abbrev Here : Option ℕ → Type 0
   Here o = aim ≡ unwrap_or o limits.cells
 
-  event_on : (o : Option ℕ) → place_of act ≡ o → Here o → Place limits l s.words aim place → Keeps limits l s.words after later
+  event_on : (o : Option ℕ) → place_of act ≡ o → Here o → IsIndexOf limits l s.words aim index → Keeps limits l s.words after later
   event_on None on here (the_count e p) = draws e p on
   event_on None on here (a_cell t) = let less = t.within in absurd (omega (arith, less, here))
   event_on (Some at) on here (the_count e p) =
       let within : at < limits.cells = subst (λ o. IfSome o (λ cell. cell < limits.cells)) on allowed.within in absurd (omega (arith, within, here, e))
   event_on (Some at) on here (a_cell t) = changes t (on ∙ ap Some (sym here))
 
-  event_keeps : aim ≡ place_in (limits_of limits) act → Place limits l s.words aim place → Keeps limits l s.words after later
+  event_keeps : aim ≡ index_in (limits_of limits) act → IsIndexOf limits l s.words aim index → Keeps limits l s.words after later
   event_keeps here at = event_on (place_of act) refl here at
 
 -- an exchange
-pub exchanges : (limits : CellLimits) (l : Layout) (slots id : ℕ) (me : Me (Act ℕ) View) (aim place old new lane : ℕ) (act : Act ℕ) → IsLayout (limits_of limits) l → MayExchange me.0 lane act aim old new → IsKnown l me.0 aim place
-    → Allows (Kept limits l) slots id me place (λ n. either (eqb n old) new n) (Exchanged aim (step slots place old new (some act)) me)
-exchanges limits l slots id me aim place old new lane act lay may knows s k _ at _ =
-    let v = me.0 in let n = get_or s.words place 0 in let e = by lane act in let f = k.fits id v at in
-    let is_at = known_place limits l s.words k.history v lane aim place k.sound k.cells_are f may.lane_is knows in
-    let finds : FoundBy v aim n k.history = found limits l s k id aim n v lane may.lane_is at (word_there limits l s k aim place is_at) in
-    exchanged n old new (λ m. (w : View) × (a : TableAct (Act ℕ)) × Valid s.homes me.1 a × Kept limits l (stepped s place m id me.1 w a) × Exchanged aim (step slots place old new (some act)) me n (w, carried_after me.1 a))
+pub exchanges : (limits : CellLimits) (l : Layout) (slots id : ℕ) (me : Me (Act ℕ) View) (aim index old new lane : ℕ) (act : Act ℕ) → IsLayout (limits_of limits) l → MayExchange me.0 lane act aim old new → IsKnown l me.0 aim index
+    → Allows (Kept limits l) slots id me index (λ n. either (eqb n old) new n) (Exchanged aim (step slots index old new (some act)) me)
+exchanges limits l slots id me aim index old new lane act lay may knows s k _ at _ =
+    let v = me.0 in let n = get_or s.words index 0 in let e = by lane act in let f = k.fits id v at in
+    let is_at = known_index limits l s.words k.history v lane aim index k.sound k.cells_are f may.lane_is knows in
+    let finds : FoundBy v aim n k.history = found limits l s k id aim n v lane may.lane_is at (word_there limits l s k aim index is_at) in
+    exchanged n old new (λ m. (w : View) × (a : TableAct (Act ℕ)) × Valid s.homes me.1 a × Kept limits l (stepped s index m id me.1 w a) × Exchanged aim (step slots index old new (some act)) me n (w, carried_after me.1 a))
     (λ hit.
     let at_old : FoundBy v aim old k.history = subst (λ m. FoundBy v aim m k.history) hit finds in
     let same : v.limits ≡ limits = f.limits_are lane may.lane_is in
     let can = may.allowed k.history at_old in
     let allowed : IsAllowed (limits_of limits) k.history e = subst (λ x. IsAllowed (limits_of x) k.history e) same can in
     let leaves : IsWordAt (limits_of limits) (k.history ++ e ∷ []) aim new = subst (λ x. IsWordAt (limits_of x) (k.history ++ e ∷ []) aim new) same (may.leaves k.history at_old) in
-    let keeps_it = event_keeps limits l lay s k lane act aim place new allowed leaves (subst (λ x. aim ≡ place_in (limits_of x) act) same may.here) is_at in (
+    let keeps_it = event_keeps limits l lay s k lane act aim index new allowed leaves (subst (λ x. aim ≡ index_in (limits_of x) act) same may.here) is_at in (
       shown v (k.history ++ e ∷ []),
       keeps,
       tt,
       goes_on limits l s k id v (shown v (k.history ++ e ∷ [])) at refl refl (k.history ++ e ∷ []) (e ∷ [], refl) (legal_push k.history e k.legal allowed)
           (λ j other. own_push_other lane_of j k.history e (λ is. other (may.lane_is ∙ ap Some is)))
-          (set s.words place new) keeps_it.follows keeps_it.wide keeps_it.sound keeps_it.are keeps_it.count
-          (fits_shown limits l s.words (set s.words place new) k.history v keeps_it.follows f (k.history ++ e ∷ [])),
+          (set s.words index new) keeps_it.follows keeps_it.wide keeps_it.sound keeps_it.are keeps_it.count
+          (fits_shown limits l s.words (set s.words index new) k.history v keeps_it.follows f (k.history ++ e ∷ [])),
       (
         (λ miss. absurd (miss hit)),
         λ _ mine said is announced. (
@@ -160,6 +160,6 @@ exchanges limits l slots id me aim place old new lane act lay may knows s k _ at
       shown v k.history,
       keeps,
       tt,
-      shows limits l s k id place v at,
+      shows limits l s k id index v at,
       ((λ _. (k.history, finds, refl)), λ hit. absurd (miss hit)),
     ))

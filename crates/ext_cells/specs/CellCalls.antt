@@ -184,11 +184,11 @@ standing_of (Some (slot.Fault number)) = Some (standing.Fault number)
 standing_of (Some (slot.Claim lane)) = Some standing.Claim
 standing_of (Some (slot.Sealed kept)) = Some standing.Seal
 
--- The first of the cells where anything stands after a history: its place in the list, and what stands there.
+-- The first of the cells where anything stands after a history: its index in the list, and what stands there.
 pub record StandsFirst (h : History) (cells : List ℕ) (nearest : Nearest) : Type 0 where
-  pub within : nearest.place < length cells
-  pub nothing_before : All (λ cell. (state_after h).slots cell ≡ None) (take nearest.place cells)
-  pub stands : standing_of ((state_after h).slots (slice_index cells nearest.place)) ≡ Some nearest.standing
+  pub within : nearest.index < length cells
+  pub nothing_before : All (λ cell. (state_after h).slots cell ≡ None) (take nearest.index cells)
+  pub stands : standing_of ((state_after h).slots (slice_index cells nearest.index)) ≡ Some nearest.standing
 
 -- That cell, or none if nothing stands in any of them.
 abbrev pub IsNearest : History → List ℕ → Option Nearest → Type 0

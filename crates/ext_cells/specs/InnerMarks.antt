@@ -11,9 +11,9 @@ use Rattle.ext_cells.specs.InnerLayouts.{Layout}
 abbrev pub block_count : ℕ → ℕ
 block_count cells = (cells + 31) / 32
 
--- the place of a cell's block, of so many cells
-abbrev pub block_place : ℕ → ℕ → ℕ
-block_place cells cell = cells + 1 + cell / 32
+-- the index of a cell's block, of so many cells
+abbrev pub block_index : ℕ → ℕ → ℕ
+block_index cells cell = cells + 1 + cell / 32
 
 -- ---- the word of a block
 
@@ -50,7 +50,7 @@ abbrev pub standing_in : ℕ → ℕ → Standing
 standing_in block cell = standing_by (has_mark block cell) (is_ended block) cell
 
 abbrev pub stands : ℕ → List ℕ → ℕ → Standing
-stands cells words cell = standing_in (slice_index words (block_place cells cell)) cell
+stands cells words cell = standing_in (slice_index words (block_index cells cell)) cell
 
 -- the test holds of each number below
 abbrev pub all_below : (ℕ → Bool) → ℕ → Bool
@@ -59,7 +59,7 @@ all_below test (suc n) = if test n then all_below test n else false
 
 -- a cell without a mark has word 0
 abbrev pub is_bare : ℕ → List ℕ → ℕ → Bool
-is_bare cells words cell = if has_mark (slice_index words (block_place cells cell)) cell then true
+is_bare cells words cell = if has_mark (slice_index words (block_index cells cell)) cell then true
     else nat_eq (slice_index words cell) 0
 
 -- Marks of so many cells
@@ -67,10 +67,10 @@ abbrev pub marks : ℕ → Layout
 marks cells = record {
   width = cells + 1 + block_count cells;
   count = cells;
-  is_block = λ place. nat_lt cells place;
+  is_block = λ index. nat_lt cells index;
   sound = λ words. all_below (is_bare cells words) cells;
   stands = stands cells;
-  tells = λ place block cell. if nat_eq (block_place cells cell) place then Some (standing_in block cell) else None;
-  placing = λ place block cell. with_mark block cell;
+  tells = λ index block cell. if nat_eq (block_index cells cell) index then Some (standing_in block cell) else None;
+  marking = λ index block cell. with_mark block cell;
   end_of = end_of;
 }

@@ -37,8 +37,8 @@ pub record ReadPass (limits : Limits) (before after : LaneView) (cells words : L
 
 -- So stand the marks of a column, behind so many cells and their count.
 pub record IsColumn (cells : ℕ) (column : Column) : Type 0 where
-  pub marks : column.marks ≡ cells + 1 + column.place / 32
-  pub bits : column.bits ≡ bits_of column.place
+  pub marks : column.marks ≡ cells + 1 + column.index / 32
+  pub bits : column.bits ≡ bits_of column.index
 
 -- ---- what is kept of the words
 
@@ -49,9 +49,9 @@ Says word standing = (stands : Option Slot) (version : ℕ) → number_code stan
 
 -- The first of the words that says that anything stands.
 pub record SaysFirst (words : List ℕ) (nearest : Nearest) : Type 0 where
-  pub within : nearest.place < length words
-  pub before : All IsEmptyWord (take nearest.place words)
-  pub says : Says (slice_index words nearest.place) (Some nearest.standing)
+  pub within : nearest.index < length words
+  pub before : All IsEmptyWord (take nearest.index words)
+  pub says : Says (slice_index words nearest.index) (Some nearest.standing)
 
 abbrev pub IsFirstSaid : List ℕ → Option Nearest → Type 0
 IsFirstSaid words None = All IsEmptyWord words

@@ -14,13 +14,13 @@ use Rattle.ext_cells.specs.Standings.{At, AreCellsOf}
 use Rattle.ext_cells.specs.InnerLayouts.{Layout}
 use Rattle.ext_cells.specs.InnerViews.{limits_of}
 
--- a cell of the table stands at a place
-pub record StandsAt (limits : CellLimits) (l : Layout) (words : List ℕ) (cell place : ℕ) : Type 0 where
+-- a cell of the table stands at an index
+pub record StandsAt (limits : CellLimits) (l : Layout) (words : List ℕ) (cell index : ℕ) : Type 0 where
   pub within : cell < limits.cells
-  pub stands : l.stands words cell ≡ At place
+  pub stands : l.stands words cell ≡ At index
 
 -- the view has seen a part of the history, which has no event of its lane that it has not seen; and what it knows of
--- places and of a block's word is so
+-- indices and of a block's word is so
 pub record Fits (limits : CellLimits) (l : Layout) (words : List ℕ) (h : History) (v : View) : Type 0 where
   pub seen_is : IsPrefix (seen v.fronts) h
   pub told_is : IsPrefix v.told h
@@ -28,7 +28,7 @@ pub record Fits (limits : CellLimits) (l : Layout) (words : List ℕ) (h : Histo
   pub limits_are : (n : ℕ) → v.lane ≡ Some n → v.limits ≡ limits
   pub lane_is : (n : ℕ) → v.lane ≡ Some n → n < limits.lanes
   pub own_is : (n : ℕ) → v.lane ≡ Some n → own n h ≡ own n (seen v.fronts)
-  pub placed_are : (cell place : ℕ) → Contains v.placed (cell, place) → StandsAt limits l words cell place
+  pub indexed_are : (cell index : ℕ) → Contains v.indexed (cell, index) → StandsAt limits l words cell index
   pub least_is : l.is_block v.block ≡ true → v.least ≤ slice_index words v.block
 
 -- the rule over all words and views of a table that was made for these limits

@@ -31,28 +31,28 @@ pub record IsTable (words of_table : ℕ) (v : View) (cells : ℕ) : Type 0 wher
 
 -- the view after steps of which the last left this history, and the others showed none
 pub record IsShown (v after : View) (h : History) : Type 0 where
-  pub placed : List (ℕ × ℕ)
+  pub indexed : List (ℕ × ℕ)
   pub block : ℕ
   pub least : ℕ
-  pub is : after ≡ shown (knowing v placed block least) h
+  pub is : after ≡ shown (knowing v indexed block least) h
 
 -- these steps found the word
 abbrev pub Found : View → View → ℕ → ℕ → Type 0
-Found v after place word = (h : History) × FoundBy v place word h × IsShown v after h
+Found v after index word = (h : History) × FoundBy v index word h × IsShown v after h
 
 -- or made the act where they found it
 abbrev pub Made : View → View → ℕ → ℕ → Act ℕ → Type 0
-Made v after place word act =
-    (lane : ℕ) → v.lane ≡ Some lane → (h : History) × FoundBy v place word h
+Made v after index word act =
+    (lane : ℕ) → v.lane ≡ Some lane → (h : History) × FoundBy v index word h
     × IsAllowed (limits_of v.limits) h (by lane act) × IsShown v after (h ++ by lane act ∷ [])
 
 -- these steps showed no history, and led to the cell
 pub record IsMarked (v after : View) (cell : ℕ) : Type 0 where
-  pub placed : List (ℕ × ℕ)
+  pub indexed : List (ℕ × ℕ)
   pub block : ℕ
   pub least : ℕ
-  pub is : after ≡ knowing v placed block least
-  pub there : Contains placed (cell, cell)
+  pub is : after ≡ knowing v indexed block least
+  pub there : Contains indexed (cell, cell)
 
 -- ---- steps of a lane
 
@@ -60,17 +60,17 @@ pub record IsMarked (v after : View) (cell : ℕ) : Type 0 where
 abbrev pub stepped : Lane → History → Lane
 stepped lane h = record { cells = lane.cells; view = moved lane.view (h ∷ []) }
 
--- A step of the lane at a place found this history, with this word there.
-pub record Finds (limits : Limits) (lane : LaneView) (place word : ℕ) (h : History) : Type 0 where
+-- A step of the lane at an index found this history, with this word there.
+pub record Finds (limits : Limits) (lane : LaneView) (index word : ℕ) (h : History) : Type 0 where
   pub on : model.GoesOn limits lane h
-  pub word_is : IsWordAt limits h place word
+  pub word_is : IsWordAt limits h index word
   -- The lane is one of those that were opened.
   pub below : lane.number < limits.lanes
 
--- The lane may make this act next, and then this word stands at the place.
-pub record MayGoOn (limits : Limits) (lane : LaneView) (h : History) (place word : ℕ) (act : Act ℕ) : Type 0 where
+-- The lane may make this act next, and then this word stands at the index.
+pub record MayGoOn (limits : Limits) (lane : LaneView) (h : History) (index word : ℕ) (act : Act ℕ) : Type 0 where
   pub allowed : IsAllowed limits h (by lane.number act)
-  pub word_is : IsWordAt limits (h ++ by lane.number act ∷ []) place word
+  pub word_is : IsWordAt limits (h ++ by lane.number act ∷ []) index word
 
 -- A put, a remove, a claim or a seal of the cell.
 abbrev pub IsChangeOf : ℕ → Act ℕ → Type 0

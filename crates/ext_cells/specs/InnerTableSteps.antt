@@ -23,8 +23,8 @@ pub record IsWordAt (limits : Limits) (h : History) (aim word : ℕ) : Type 0 wh
   pub count : aim ≡ limits.cells → word ≡ (state_after h).drawn
 
 -- the one word that an act changes: that of its cell, or for a keep the count
-abbrev pub place_in : Limits → Act ℕ → ℕ
-place_in limits act = unwrap_or (place_of act) limits.cells
+abbrev pub index_in : Limits → Act ℕ → ℕ
+index_in limits act = unwrap_or (place_of act) limits.cells
 
 -- a step found this history, and in it this word
 pub record FoundBy (v : View) (aim word : ℕ) (h : History) : Type 0 where
@@ -35,19 +35,19 @@ pub record FoundBy (v : View) (aim word : ℕ) (h : History) : Type 0 where
   pub lane_is : (n : ℕ) → v.lane ≡ Some n → n < v.limits.lanes
   pub own_is : (n : ℕ) → v.lane ≡ Some n → own n h ≡ own n (seen v.fronts)
 
--- ---- a word whose place is known
+-- ---- a word whose index is known
 
--- a cell that has a place has this one
+-- a cell that has an index has this one
 abbrev pub OnlyAt : Layout → ℕ → ℕ → Type 0
-OnlyAt l cell place = (words : List ℕ) (at : ℕ) → l.sound words ≡ true → l.stands words cell ≡ At at → at ≡ place
+OnlyAt l cell index = (words : List ℕ) (at : ℕ) → l.sound words ≡ true → l.stands words cell ≡ At at → at ≡ index
 
 -- How a seat knows where a word is: it is the count; a step led to the cell; or the cell has had an event, and not just
--- the seal of an end, and has no other place
-pub data IsKnown (l : Layout) (v : View) (aim place : ℕ) : Type 0 where
-  by_count : aim ≡ v.limits.cells → place ≡ l.count → IsKnown l v aim place
-  by_place : Contains v.placed (aim, place) → IsKnown l v aim place
-  by_use : OnlyAt l aim place → aim < v.limits.cells → word_of (seen v.fronts) aim ≢ 0
-      → word_of (seen v.fronts) aim ≢ ended_word → IsKnown l v aim place
+-- the seal of an end, and has no other index
+pub data IsKnown (l : Layout) (v : View) (aim index : ℕ) : Type 0 where
+  by_count : aim ≡ v.limits.cells → index ≡ l.count → IsKnown l v aim index
+  by_index : Contains v.indexed (aim, index) → IsKnown l v aim index
+  by_use : OnlyAt l aim index → aim < v.limits.cells → word_of (seen v.fronts) aim ≢ 0
+      → word_of (seen v.fronts) aim ≢ ended_word → IsKnown l v aim index
 
 -- the step found a history with this word, left it as it was, and showed it
 abbrev pub Shows : ℕ → ℕ → Me (Act ℕ) View → Me (Act ℕ) View → Type 0
@@ -60,7 +60,7 @@ Loaded aim s me found after = Shows aim found me after
 -- wherever the word is the old one, the lane may make the act, which leaves the new word
 pub record MayExchange (v : View) (lane : ℕ) (act : Act ℕ) (aim old new : ℕ) : Type 0 where
   pub lane_is : v.lane ≡ Some lane
-  pub here : aim ≡ place_in (limits_of v.limits) act
+  pub here : aim ≡ index_in (limits_of v.limits) act
   pub within : aim ≤ v.limits.cells
   pub allowed : (h : History) → FoundBy v aim old h → IsAllowed (limits_of v.limits) h (by lane act)
   pub leaves : (h : History) → FoundBy v aim old h → IsWordAt (limits_of v.limits) (h ++ by lane act ∷ []) aim new
@@ -76,10 +76,10 @@ Exchanged aim s me found after =
 
 -- ---- a block's word
 
--- What a load of a block's word tells who wants to read a cell: the cell's place, without a front; or its word, as a
+-- What a load of a block's word tells who wants to read a cell: the cell's index, without a front; or its word, as a
 -- load of it would
 abbrev pub LedTo : ℕ → Standing → Me (Act ℕ) View → Me (Act ℕ) View → Type 0
-LedTo cell (At place) me after = after ≡ (led me.0 cell place, me.1)
+LedTo cell (At index) me after = after ≡ (led me.0 cell index, me.1)
 LedTo cell Open me after = Shows cell 0 me after
 LedTo cell Ended me after = Shows cell ended_word me after
 
@@ -87,9 +87,9 @@ abbrev pub Led : Layout → ℕ → Step (Act ℕ) → Me (Act ℕ) View → ℕ
 Led l cell s me found after = (standing : Standing) → l.tells s.word found cell ≡ Some standing
     → LedTo cell standing me after
 
--- What it tells who wants to give the cell a place: of an open cell nothing but itself, and it shows no history then
+-- What it tells who wants to give the cell its mark: of an open cell nothing but itself, and it shows no history then
 abbrev pub SoughtBy : ℕ → Standing → ℕ → ℕ → Me (Act ℕ) View → Me (Act ℕ) View → Type 0
-SoughtBy cell (At place) block found me after = after ≡ (led me.0 cell place, me.1)
+SoughtBy cell (At index) block found me after = after ≡ (led me.0 cell index, me.1)
 SoughtBy cell Open block found me after = after ≡ (sought me.0 block found, me.1)
 SoughtBy cell Ended block found me after = Shows cell ended_word me after
 
@@ -97,20 +97,20 @@ abbrev pub Sought : Layout → ℕ → Step (Act ℕ) → Me (Act ℕ) View → 
 Sought l cell s me found after = (standing : Standing) → l.tells s.word found cell ≡ Some standing
     → SoughtBy cell standing s.word found me after
 
--- An exchange that gives an open cell a place, which the block's new word tells, and shows no history. If it finds
+-- An exchange that gives an open cell its mark, which the block's new word tells, and shows no history. If it finds
 -- another word it is such a load, and that word is not below the one that the seat knows
-abbrev pub Placed : Layout → ℕ → Step (Act ℕ) → Me (Act ℕ) View → ℕ → Me (Act ℕ) View → Type 0
-Placed l cell s me found after =
+abbrev pub Marked : Layout → ℕ → Step (Act ℕ) → Me (Act ℕ) View → ℕ → Me (Act ℕ) View → Type 0
+Marked l cell s me found after =
     (found ≢ s.first → Sought l cell s me found after × (me.0.block ≡ s.word → me.0.least ≤ found))
-    × (found ≡ s.first → (place : ℕ) × (l.tells s.word s.second cell ≡ Some (At place))
-    × (after ≡ (led me.0 cell place, me.1)))
+    × (found ≡ s.first → (index : ℕ) × (l.tells s.word s.second cell ≡ Some (At index))
+    × (after ≡ (led me.0 cell index, me.1)))
 
 -- ---- the end of a block
 
--- What a lane is told by the end of a block at a place, where it found this word: the history, and the cells that it
+-- What a lane is told by the end of a block at an index, where it found this word: the history, and the cells that it
 -- sealed at this one step, each of which never had an event. They are those that the word told to be open; and each
 -- cell that it told to be open or ended has ended then
-pub record EndOf (l : Layout) (me after : Me (Act ℕ) View) (lane place found : ℕ) : Type 0 where
+pub record EndOf (l : Layout) (me after : Me (Act ℕ) View) (lane index found : ℕ) : Type 0 where
   pub history : History
   pub cells : List ℕ
   pub legal : IsLegal (limits_of me.0.limits) history
@@ -119,10 +119,10 @@ pub record EndOf (l : Layout) (me after : Me (Act ℕ) View) (lane place found :
   pub lane_is : lane < me.0.limits.lanes
   pub own_is : own lane history ≡ own lane (seen me.0.fronts)
   pub may : MayEnd (limits_of me.0.limits) history cells
-  pub opened : (cell : ℕ) → Contains cells cell → l.tells place found cell ≡ Some Open
-  pub all : (cell : ℕ) → cell < me.0.limits.cells → l.tells place found cell ≡ Some Open → Contains cells cell
-  pub ended : (cell : ℕ) → cell < me.0.limits.cells → (l.tells place found cell ≡ Some Open)
-      ⊎ (l.tells place found cell ≡ Some Ended) → IsSealedUnused (history ++ seals lane cells) cell
+  pub opened : (cell : ℕ) → Contains cells cell → l.tells index found cell ≡ Some Open
+  pub all : (cell : ℕ) → cell < me.0.limits.cells → l.tells index found cell ≡ Some Open → Contains cells cell
+  pub ended : (cell : ℕ) → cell < me.0.limits.cells → (l.tells index found cell ≡ Some Open)
+      ⊎ (l.tells index found cell ≡ Some Ended) → IsSealedUnused (history ++ seals lane cells) cell
   pub after_is : after ≡ (shown me.0 (history ++ seals lane cells), me.1)
 
 abbrev pub EndedBy : Layout → Step (Act ℕ) → Me (Act ℕ) View → ℕ → Me (Act ℕ) View → Type 0

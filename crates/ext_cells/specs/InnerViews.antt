@@ -22,7 +22,7 @@ first_lane limits = record {
   given = Some 1;
   fronts = [];
   told = [];
-  placed = [];
+  indexed = [];
   block = 0;
   least = 0;
 }
@@ -39,7 +39,7 @@ giving v = record {
   given = one_more v.given;
   fronts = v.fronts;
   told = v.told;
-  placed = v.placed;
+  indexed = v.indexed;
   block = v.block;
   least = v.least;
 }
@@ -52,7 +52,7 @@ born v = record {
   given = None;
   fronts = [];
   told = [];
-  placed = [];
+  indexed = [];
   block = 0;
   least = 0;
 }
@@ -65,7 +65,7 @@ note v = record {
   given = None;
   fronts = [];
   told = seen v.fronts;
-  placed = [];
+  indexed = [];
   block = 0;
   least = 0;
 }
@@ -78,7 +78,7 @@ noted v w = record {
   given = v.given;
   fronts = v.fronts;
   told = w.told;
-  placed = v.placed;
+  indexed = v.indexed;
   block = v.block;
   least = v.least;
 }
@@ -91,7 +91,7 @@ spent = record {
   given = None;
   fronts = [];
   told = [];
-  placed = [];
+  indexed = [];
   block = 0;
   least = 0;
 }
@@ -106,29 +106,29 @@ shown v h = record {
   given = v.given;
   fronts = v.fronts ++ h ∷ [];
   told = [];
-  placed = v.placed;
+  indexed = v.indexed;
   block = v.block;
   least = v.least;
 }
 
--- a view that knows other things of places and of a block's word
+-- a view that knows other things of indices and of a block's word
 abbrev pub knowing : View → List (ℕ × ℕ) → ℕ → ℕ → View
-knowing v placed block least =
+knowing v indexed block least =
     record {
       limits = v.limits;
       lane = v.lane;
       given = v.given;
       fronts = v.fronts;
       told = v.told;
-      placed = placed;
+      indexed = indexed;
       block = block;
       least = least;
     }
 
--- after a step that led to a cell at a place: it shows no history
+-- after a step that led to a cell at an index: it shows no history
 abbrev pub led : View → ℕ → ℕ → View
-led v cell place = knowing v ((cell, place) ∷ v.placed) v.block v.least
+led v cell index = knowing v ((cell, index) ∷ v.indexed) v.block v.least
 
 -- and after one that found a block's word, which leads to no cell
 abbrev pub sought : View → ℕ → ℕ → View
-sought v place word = knowing v v.placed place word
+sought v index word = knowing v v.indexed index word

@@ -7,13 +7,13 @@ ghost use Rattle.ext_history.specs.Histories.{seen};
 ghost use Rattle.ext_cells.specs.Standings.{ended_word};
 ghost use Rattle.ext_cells.specs.InnerViews.{limits_of, shown, note, noted};
 ghost use Rattle.ext_cells.specs.InnerTableSteps.{IsWordAt, IsKnown, FoundBy, MayExchange, Exchanged, EndedBy};
-ghost use Rattle.ext_cells.specs.InnerMarks.{marks, block_place as block_place_of, bits_of as bits_of_cell};
+ghost use Rattle.ext_cells.specs.InnerMarks.{marks, block_index as block_index_of, bits_of as bits_of_cell};
 ghost use Rattle.ext_cells.specs.InnerSteps.{IsTable, IsMarked, Found, Made};
 
 use crate::marks::{
-    END, ENDED_WORD, bits_of, block_place, has_mark, is_ended, is_marked, is_open, with_mark,
+    END, ENDED_WORD, bits_of, block_index, has_mark, is_ended, is_marked, is_open, with_mark,
 };
-use crate::rule::{Aim, CellTable, End, Exchange, LaneSeat, Lead, Load, Note, Place, Seek};
+use crate::rule::{Aim, CellTable, End, Exchange, LaneSeat, Lead, Load, Mark, Note, Seek};
 use ext_model::{Act, CellNo};
 
 /// The words of open cells, of their blocks, and the count of numbers. Only this module reaches
@@ -32,16 +32,16 @@ impl CellSteps {
         CellSteps { table }
     }
 
-    /// Reads the word at a place that the lane knows, as that of the count.
-    pub(crate) fn load(&self, seat: &mut LaneSeat, place: usize) -> u64
+    /// Reads the word at an index that the lane knows, as that of the count.
+    pub(crate) fn load(&self, seat: &mut LaneSeat, index: usize) -> u64
         requires table { seat.old.table_id ≡ self.now.table.shared.table_id }
         requires lane { (number : ℕ) × (seat.old.me.0.lane ≡ Some number) }
-        requires known { IsKnown (marks self.now.table.shared.key.cells) seat.old.me.0 place place }
-        requires place { place < self.now.table.shared.table_id.words }
+        requires known { IsKnown (marks self.now.table.shared.key.cells) seat.old.me.0 index index }
+        requires index { index < self.now.table.shared.table_id.words }
         ensures table { seat.new.table_id ≡ seat.old.table_id }
-        ensures found { (h : History) × FoundBy seat.old.me.0 place result h × (seat.new.me.0 ≡ shown seat.old.me.0 h) }
+        ensures found { (h : History) × FoundBy seat.old.me.0 index result h × (seat.new.me.0 ≡ shown seat.old.me.0 h) }
     {
-        self.table.shared.load::<Load>(seat, place)
+        self.table.shared.load::<Load>(seat, index)
     }
 
     /// Reads the word of a cell. Only a cell with a mark is loaded: the word of its block tells
@@ -56,10 +56,10 @@ impl CellSteps {
         ensures table { seat.new.table_id ≡ seat.old.table_id }
         ensures found { Found seat.old.me.0 seat.new.me.0 cell result }
     {
-        self.read_at::<A>(seat, cell, block_place(cells, cell), bits_of(cell))
+        self.read_at::<A>(seat, cell, block_index(cells, cell), bits_of(cell))
     }
 
-    /// The same, where the place of its block's word is at hand, and the bits there that tell of
+    /// The same, where the index of its block's word is at hand, and the bits there that tell of
     /// it.
     #[inline(always)]
     pub(crate) fn read_at<A: Aim>(
@@ -74,7 +74,7 @@ impl CellSteps {
         requires cells { IsTable self.now.table.shared.table_id.words self.now.table.shared.key.cells seat.old.me.0 seat.old.me.0.limits.cells }
         requires aim { A.cell ≡ cell }
         requires cell { cell < seat.old.me.0.limits.cells }
-        requires block { block ≡ block_place_of seat.old.me.0.limits.cells cell }
+        requires block { block ≡ block_index_of seat.old.me.0.limits.cells cell }
         requires bits { bits ≡ bits_of_cell cell }
         ensures table { seat.new.table_id ≡ seat.old.table_id }
         ensures found { Found seat.old.me.0 seat.new.me.0 cell result }
@@ -102,8 +102,8 @@ impl CellSteps {
         ensures marked { result ≡ true → IsMarked seat.old.me.0 seat.new.me.0 cell }
         ensures ended { result ≡ false → Found seat.old.me.0 seat.new.me.0 cell ended_word }
     {
-        let place = block_place(cells, cell);
-        let mut block = self.table.shared.load::<Seek<A>>(seat, place);
+        let index = block_index(cells, cell);
+        let mut block = self.table.shared.load::<Seek<A>>(seat, index);
         while !has_mark(block, cell) {
             if is_ended(block) {
                 return false;
@@ -112,7 +112,7 @@ impl CellSteps {
             let found = self
                 .table
                 .shared
-                .compare_exchange::<Place<A>>(seat, place, block, marked);
+                .compare_exchange::<Mark<A>>(seat, index, block, marked);
             if found == block {
                 return true;
             }
@@ -121,19 +121,19 @@ impl CellSteps {
         true
     }
 
-    // Exchanges a word whose place the lane knows.
+    // Exchanges a word whose index the lane knows.
     #[inline(always)]
-    fn change(&self, seat: &mut LaneSeat, place: usize, old: u64, new: u64, act: Act<CellNo>) -> u64
+    fn change(&self, seat: &mut LaneSeat, index: usize, old: u64, new: u64, act: Act<CellNo>) -> u64
         requires table { seat.old.table_id ≡ self.now.table.shared.table_id }
-        requires known { IsKnown (marks self.now.table.shared.key.cells) seat.old.me.0 place place }
-        requires place { place < self.now.table.shared.table_id.words }
-        requires may { (lane : ℕ) × MayExchange seat.old.me.0 lane act place old new }
+        requires known { IsKnown (marks self.now.table.shared.key.cells) seat.old.me.0 index index }
+        requires index { index < self.now.table.shared.table_id.words }
+        requires may { (lane : ℕ) × MayExchange seat.old.me.0 lane act index old new }
         ensures table { seat.new.table_id ≡ seat.old.table_id }
-        ensures step { Exchanged place (step self.now.table.shared.table_id.slots place old new (some act)) seat.old.me result seat.new.me }
+        ensures step { Exchanged index (step self.now.table.shared.table_id.slots index old new (some act)) seat.old.me result seat.new.me }
     {
         self.table
             .shared
-            .compare_exchange_with::<Exchange>(seat, place, old, new, &act)
+            .compare_exchange_with::<Exchange>(seat, index, old, new, &act)
     }
 
     /// Makes an event of a cell, which changes the cell's word, if that is still the word that was
@@ -143,26 +143,26 @@ impl CellSteps {
         &self,
         seat: &mut LaneSeat,
         cells: usize,
-        place: usize,
+        index: usize,
         old: u64,
         new: u64,
         act: Act<CellNo>,
     ) -> u64
         requires table { seat.old.table_id ≡ self.now.table.shared.table_id }
         requires cells { IsTable self.now.table.shared.table_id.words self.now.table.shared.key.cells seat.old.me.0 cells }
-        requires aim { A.cell ≡ place }
-        requires may { (lane : ℕ) × MayExchange seat.old.me.0 lane act place old new }
-        requires seen { IsWordAt (limits_of seat.old.me.0.limits) (seen seat.old.me.0.fronts) place old }
-        requires cell { place < cells }
-        requires standing { place < cells → old ≢ ended_word }
+        requires aim { A.cell ≡ index }
+        requires may { (lane : ℕ) × MayExchange seat.old.me.0 lane act index old new }
+        requires seen { IsWordAt (limits_of seat.old.me.0.limits) (seen seat.old.me.0.fronts) index old }
+        requires cell { index < cells }
+        requires standing { index < cells → old ≢ ended_word }
         ensures table { seat.new.table_id ≡ seat.old.table_id }
-        ensures missed { result ≢ old → Found seat.old.me.0 seat.new.me.0 place result }
-        ensures made { result ≡ old → Made seat.old.me.0 seat.new.me.0 place old act }
+        ensures missed { result ≢ old → Found seat.old.me.0 seat.new.me.0 index result }
+        ensures made { result ≡ old → Made seat.old.me.0 seat.new.me.0 index old act }
     {
-        if old == 0 && !self.mark::<A>(seat, cells, place) {
+        if old == 0 && !self.mark::<A>(seat, cells, index) {
             return ENDED_WORD;
         }
-        self.change(seat, place, old, new, act)
+        self.change(seat, index, old, new, act)
     }
 
     /// Draws a number: changes the count, which stands behind the cells, if it is still the one
@@ -171,23 +171,23 @@ impl CellSteps {
     pub(crate) fn exchange_count(
         &self,
         seat: &mut LaneSeat,
-        place: usize,
+        index: usize,
         old: u64,
         new: u64,
         act: Act<CellNo>,
     ) -> u64
         requires table { seat.old.table_id ≡ self.now.table.shared.table_id }
         requires cells { IsTable self.now.table.shared.table_id.words self.now.table.shared.key.cells seat.old.me.0 seat.old.me.0.limits.cells }
-        requires count { place ≡ seat.old.me.0.limits.cells }
-        requires may { (lane : ℕ) × MayExchange seat.old.me.0 lane act place old new }
+        requires count { index ≡ seat.old.me.0.limits.cells }
+        requires may { (lane : ℕ) × MayExchange seat.old.me.0 lane act index old new }
         ensures table { seat.new.table_id ≡ seat.old.table_id }
-        ensures missed { result ≢ old → Found seat.old.me.0 seat.new.me.0 place result }
-        ensures made { result ≡ old → Made seat.old.me.0 seat.new.me.0 place old act }
+        ensures missed { result ≢ old → Found seat.old.me.0 seat.new.me.0 index result }
+        ensures made { result ≡ old → Made seat.old.me.0 seat.new.me.0 index old act }
     {
-        self.change(seat, place, old, new, act)
+        self.change(seat, index, old, new, act)
     }
 
-    /// Ends the block whose word stands at this place. Returns the word that it found.
+    /// Ends the block whose word stands at this index. Returns the word that it found.
     pub(crate) fn end(&self, seat: &mut LaneSeat, block: usize) -> u64
         requires table { seat.old.table_id ≡ self.now.table.shared.table_id }
         requires lane { (number : ℕ) × (seat.old.me.0.lane ≡ Some number) }

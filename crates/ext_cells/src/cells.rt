@@ -9,8 +9,8 @@ ghost use Rattle.ext_model.specs.CallActs.{Calls, IsHeld, MayStoreNow};
 ghost use Rattle.ext_model.specs.declared.event.Act.TheVariants as act_is;
 ghost use Rattle.ext_model.specs.declared.size.Size.TheVariants.{Usual, Large};
 ghost use Rattle.ext_cells.specs.Lanes.{AreLimits, fresh_lanes};
-ghost use Rattle.ext_cells.specs.InnerMarks.{block_place, bits_of};
-ghost use Rattle.ext_cells.specs.InnerTableSteps.{IsWordAt, place_in};
+ghost use Rattle.ext_cells.specs.InnerMarks.{block_index, bits_of};
+ghost use Rattle.ext_cells.specs.InnerTableSteps.{IsWordAt, index_in};
 ghost use Rattle.ext_cells.specs.CellCalls.{Answers, SealAnswers, ComesLast, EndsClaim, EndsBlock, Collects, IsOvertakenOn, before_last_pass, IfWon, change_reply, claim_reply, number_reply, number_acts, put_acts, remove_acts, claim_acts};
 ghost use Rattle.ext_cells.specs.InnerSteps.{stepped, Finds, MayGoOn, IsChangeOf, IsEndOf, Changes};
 ghost use Rattle.ext_cells.specs.InnerPasses.{ReadPass};
@@ -203,15 +203,15 @@ impl Cells {
         ensures storable { IfOk result (MayStoreNow lane.new.view) }
         ensures steps { length (call_fronts lane.old.view lane.new.view) ≤ self.now.tries + 1 }
     {
-        let place = self.limits.cells;
+        let index = self.limits.cells;
         let most = u64::from(self.limits.numbers);
-        let mut count = self.read(lane, place);
+        let mut count = self.read(lane, index);
         for _ in 0..self.tries {
             if count >= most {
                 return Err(CellRefusal::NumbersFull);
             }
             let number = count as u32 + 1;
-            match self.exchange_count(lane, place, count, count + 1, Act::Keep(number)) {
+            match self.exchange_count(lane, index, count, count + 1, Act::Keep(number)) {
                 Ok(()) => return Ok(number),
                 Err(found) => count = found,
             }
@@ -366,8 +366,8 @@ impl Cells {
         ensures ended { EndsBlock lane.old lane.new block result }
         ensures steps { length (call_fronts lane.old.view lane.new.view) ≡ 1 }
     {
-        let place = self.limits.cells + 1 + block;
-        let found = self.table.end(&mut lane.seat, place);
+        let index = self.limits.cells + 1 + block;
+        let found = self.table.end(&mut lane.seat, index);
         (found >> 1 & 0xffff_ffff) as u32
     }
 
@@ -463,25 +463,25 @@ impl Cells {
         words
     }
 
-    /// Reads the word at a place, for a lane. The words of the cells stand at their numbers, and
+    /// Reads the word at an index, for a lane. The words of the cells stand at their numbers, and
     /// the count of numbers after them. Which of them it is, each caller knows.
     #[inline(always)]
-    pub(crate) fn read(&self, lane: &mut CellLane, place: usize) -> u64
+    pub(crate) fn read(&self, lane: &mut CellLane, index: usize) -> u64
         requires lane { lane.old.cells ≡ self.now.id }
-        requires place { place ≤ self.now.id.limits.cells }
-        ensures found { (h : History) × Finds lane.old.cells.limits lane.old.view place result h × (lane.new ≡ stepped lane.old h) }
-        ensures state { place < self.now.id.limits.cells → HasState result }
+        requires index { index ≤ self.now.id.limits.cells }
+        ensures found { (h : History) × Finds lane.old.cells.limits lane.old.view index result h × (lane.new ≡ stepped lane.old h) }
+        ensures state { index < self.now.id.limits.cells → HasState result }
         ensures numbers { self.now.id.limits.numbers < 2 ^ 20 }
     {
-        if place < self.limits.cells {
+        if index < self.limits.cells {
             return self
                 .table
-                .read::<Brand>(&mut lane.seat, self.limits.cells, place);
+                .read::<Brand>(&mut lane.seat, self.limits.cells, index);
         }
-        self.table.load(&mut lane.seat, place)
+        self.table.load(&mut lane.seat, index)
     }
 
-    /// Reads the word of a cell, where the place of its block's word is at hand, and the bits there
+    /// Reads the word of a cell, where the index of its block's word is at hand, and the bits there
     /// that tell of it.
     #[inline(always)]
     pub(crate) fn read_marked(
@@ -493,7 +493,7 @@ impl Cells {
     ) -> u64
         requires lane { lane.old.cells ≡ self.now.id }
         requires cell { cell < self.now.id.limits.cells }
-        requires block { block ≡ block_place self.now.id.limits.cells cell }
+        requires block { block ≡ block_index self.now.id.limits.cells cell }
         requires bits { bits ≡ bits_of cell }
         ensures found { (h : History) × Finds lane.old.cells.limits lane.old.view cell result h × (lane.new ≡ stepped lane.old h) }
         ensures state { HasState result }
@@ -509,22 +509,22 @@ impl Cells {
     fn exchange(
         &self,
         lane: &mut CellLane,
-        place: usize,
+        index: usize,
         old: u64,
         new: u64,
         act: Act<CellNo>,
     ) -> Result<(), u64>
         requires lane { lane.old.cells ≡ self.now.id }
-        requires place { place ≡ place_in self.now.id.limits act }
-        requires within { place < self.now.id.limits.cells }
-        requires seen { IsWordAt lane.old.cells.limits (seen_by lane.old.view) place old }
-        requires may { (h : History) → Finds lane.old.cells.limits lane.old.view place old h → MayGoOn lane.old.cells.limits lane.old.view h place new act }
-        ensures made { IfOk result (λ _. (h : History) × Finds lane.old.cells.limits lane.old.view place old h × MayGoOn lane.old.cells.limits lane.old.view h place new act × (lane.new ≡ stepped lane.old (h ++ by lane.old.view.number act ∷ []))) }
-        ensures missed { IfErr result (λ found. (found ≢ old) × ((h : History) × Finds lane.old.cells.limits lane.old.view place found h × (lane.new ≡ stepped lane.old h))) }
+        requires index { index ≡ index_in self.now.id.limits act }
+        requires within { index < self.now.id.limits.cells }
+        requires seen { IsWordAt lane.old.cells.limits (seen_by lane.old.view) index old }
+        requires may { (h : History) → Finds lane.old.cells.limits lane.old.view index old h → MayGoOn lane.old.cells.limits lane.old.view h index new act }
+        ensures made { IfOk result (λ _. (h : History) × Finds lane.old.cells.limits lane.old.view index old h × MayGoOn lane.old.cells.limits lane.old.view h index new act × (lane.new ≡ stepped lane.old (h ++ by lane.old.view.number act ∷ []))) }
+        ensures missed { IfErr result (λ found. (found ≢ old) × ((h : History) × Finds lane.old.cells.limits lane.old.view index found h × (lane.new ≡ stepped lane.old h))) }
     {
         let found = self
             .table
-            .exchange::<Brand>(&mut lane.seat, self.limits.cells, place, old, new, act);
+            .exchange::<Brand>(&mut lane.seat, self.limits.cells, index, old, new, act);
         if found == old {
             return Ok(());
         }
@@ -536,21 +536,21 @@ impl Cells {
     fn exchange_count(
         &self,
         lane: &mut CellLane,
-        place: usize,
+        index: usize,
         old: u64,
         new: u64,
         act: Act<CellNo>,
     ) -> Result<(), u64>
         requires lane { lane.old.cells ≡ self.now.id }
-        requires place { place ≡ place_in self.now.id.limits act }
-        requires count { place ≡ self.now.id.limits.cells }
-        requires may { (h : History) → Finds lane.old.cells.limits lane.old.view place old h → MayGoOn lane.old.cells.limits lane.old.view h place new act }
-        ensures made { IfOk result (λ _. (h : History) × Finds lane.old.cells.limits lane.old.view place old h × MayGoOn lane.old.cells.limits lane.old.view h place new act × (lane.new ≡ stepped lane.old (h ++ by lane.old.view.number act ∷ []))) }
-        ensures missed { IfErr result (λ found. (found ≢ old) × ((h : History) × Finds lane.old.cells.limits lane.old.view place found h × (lane.new ≡ stepped lane.old h))) }
+        requires index { index ≡ index_in self.now.id.limits act }
+        requires count { index ≡ self.now.id.limits.cells }
+        requires may { (h : History) → Finds lane.old.cells.limits lane.old.view index old h → MayGoOn lane.old.cells.limits lane.old.view h index new act }
+        ensures made { IfOk result (λ _. (h : History) × Finds lane.old.cells.limits lane.old.view index old h × MayGoOn lane.old.cells.limits lane.old.view h index new act × (lane.new ≡ stepped lane.old (h ++ by lane.old.view.number act ∷ []))) }
+        ensures missed { IfErr result (λ found. (found ≢ old) × ((h : History) × Finds lane.old.cells.limits lane.old.view index found h × (lane.new ≡ stepped lane.old h))) }
     {
         let found = self
             .table
-            .exchange_count(&mut lane.seat, place, old, new, act);
+            .exchange_count(&mut lane.seat, index, old, new, act);
         if found == old {
             return Ok(());
         }

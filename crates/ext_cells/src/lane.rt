@@ -32,7 +32,7 @@ impl Model for CellLane {
 }
 
 impl CellLane {
-    /// The lane's number, below the count of lanes: its place in the list that `Cells::open` gave.
+    /// The lane's number, below the count of lanes: its index in the list that `Cells::open` gave.
     pub fn number(&self) -> LaneNo
         ensures number { result ≡ self.now.view.number }
         ensures below { result < self.now.cells.limits.lanes }

@@ -2,7 +2,7 @@
 //! takes one apart.
 ghost use Rattle.std.specs.Prelude.{ℕ, ◌≡◌, ◌<◌, ◌^◌, ◌↔◌, IsTrue};
 ghost use Rattle.ext_cells.specs.Standings.{Open};
-ghost use Rattle.ext_cells.specs.InnerMarks.{block_count as block_count_of, block_place as block_place_of, is_ended as is_ended_of, mark_of as mark_of_cell, bits_of as bits_of_cell, has_mark as has_mark_of, with_mark as with_mark_of, standing_in};
+ghost use Rattle.ext_cells.specs.InnerMarks.{block_count as block_count_of, block_index as block_index_of, is_ended as is_ended_of, mark_of as mark_of_cell, bits_of as bits_of_cell, has_mark as has_mark_of, with_mark as with_mark_of, standing_in};
 
 use ext_model::CellNo;
 
@@ -20,12 +20,12 @@ pub(crate) fn block_count(cells: usize) -> usize
     (cells + 31) / 32
 }
 
-/// The place of a cell's block, of so many cells.
+/// The index of a cell's block, of so many cells.
 #[inline(always)]
-pub(crate) fn block_place(cells: usize, cell: CellNo) -> usize
+pub(crate) fn block_index(cells: usize, cell: CellNo) -> usize
     requires cells { cells < 2 ^ 32 }
     requires cell { cell < cells }
-    ensures place { result ≡ block_place_of cells cell }
+    ensures index { result ≡ block_index_of cells cell }
 {
     cells + 1 + cell / 32
 }

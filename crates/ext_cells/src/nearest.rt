@@ -15,8 +15,8 @@ use crate::{CellLane, CellRefusal, Cells, Standing};
 /// A row, of some that were named in order, in whose cell anything stands.
 #[derive(Clone, Copy, Debug, Drop)]
 pub struct Nearest {
-    /// Its place in the order in which the rows were named, from 0.
-    pub place: usize,
+    /// Its index in the order in which the rows were named, from 0.
+    pub index: usize,
     /// What stands in its cell.
     pub standing: Standing,
 }
@@ -26,8 +26,8 @@ pub struct Nearest {
 pub(crate) struct Column {
     // How many blocks of 32 cells a row has.
     pub(crate) blocks: usize,
-    // Its place in a row.
-    pub(crate) place: usize,
+    // Its index in a row.
+    pub(crate) index: usize,
     // Where the marks of the first row's block stand.
     pub(crate) marks: usize,
     // The bits there that tell of its cell.
@@ -90,14 +90,14 @@ pub(crate) struct EmptyCells {
     pub(crate) behind: u64,
 }
 
-// The cell at this place, if its word says that anything stands there.
-fn nearest_at(place: usize, word: u64) -> Option<Nearest>
+// The cell at this index, if its word says that anything stands there.
+fn nearest_at(index: usize, word: u64) -> Option<Nearest>
     requires { HasState word }
     ensures none { IfNone result (IsEmptyWord word) }
-    ensures some { IfSome result (λ n. (n.place ≡ place) × Says word (Some n.standing)) }
+    ensures some { IfSome result (λ n. (n.index ≡ index) × Says word (Some n.standing)) }
 {
     match what_stands(word) {
-        Some(standing) => Some(Nearest { place, standing }),
+        Some(standing) => Some(Nearest { index, standing }),
         None => None,
     }
 }
@@ -133,7 +133,7 @@ impl Cells {
         self.tell_proof();
         let cells = Column {
             blocks,
-            place: column,
+            index: column,
             marks: self.limits.cells + 1 + column / 32,
             bits: bits_of(column),
         };
@@ -160,11 +160,11 @@ impl Cells {
         requires lane { lane.old.cells ≡ self.now.id }
         requires few { length rows.now ≤ 16 }
         requires column { IsColumn self.now.id.limits.cells column }
-        requires known { All (λ cell. cell < self.now.id.limits.cells) (cells_in rows.now (column.blocks * 32) column.place) }
+        requires known { All (λ cell. cell < self.now.id.limits.cells) (cells_in rows.now (column.blocks * 32) column.index) }
         ensures lane { lane.new.cells ≡ lane.old.cells }
         ensures within { result.count ≤ length rows.now }
         ensures state { HasState result.behind }
-        ensures read { FirstPass lane.old.cells.limits lane.old.view lane.new.view (cells_in rows.now (column.blocks * 32) column.place) result }
+        ensures read { FirstPass lane.old.cells.limits lane.old.view lane.new.view (cells_in rows.now (column.blocks * 32) column.index) result }
     {
         lane.tell_proof();
         let mut versions = 0;
@@ -196,10 +196,10 @@ impl Cells {
         requires lane { lane.old.cells ≡ self.now.id }
         requires few { length rows.now ≤ 16 }
         requires column { IsColumn self.now.id.limits.cells column }
-        requires known { All (λ cell. cell < self.now.id.limits.cells) (cells_in rows.now (column.blocks * 32) column.place) }
+        requires known { All (λ cell. cell < self.now.id.limits.cells) (cells_in rows.now (column.blocks * 32) column.index) }
         ensures lane { lane.new.cells ≡ lane.old.cells }
         ensures within { result ≤ length rows.now * 2 ^ 40 }
-        ensures read { (words : List ℕ) × ReadPass lane.old.cells.limits lane.old.view lane.new.view (cells_in rows.now (column.blocks * 32) column.place) words × (result ≡ sum_by version_in words) }
+        ensures read { (words : List ℕ) × ReadPass lane.old.cells.limits lane.old.view lane.new.view (cells_in rows.now (column.blocks * 32) column.index) words × (result ≡ sum_by version_in words) }
     {
         lane.tell_proof();
         let mut versions = 0;
@@ -219,10 +219,10 @@ impl Cells {
         requires lane { lane.old.cells ≡ self.now.id }
         requires few { length rows.now ≤ 16 }
         requires column { IsColumn self.now.id.limits.cells column }
-        requires known { All (λ cell. cell < self.now.id.limits.cells) (cells_in rows.now (column.blocks * 32) column.place) }
+        requires known { All (λ cell. cell < self.now.id.limits.cells) (cells_in rows.now (column.blocks * 32) column.index) }
         ensures lane { lane.new.cells ≡ lane.old.cells }
         ensures versions { result.versions ≤ length rows.now * 2 ^ 40 }
-        ensures read { (words : List ℕ) × ReadPass lane.old.cells.limits lane.old.view lane.new.view (cells_in rows.now (column.blocks * 32) column.place) words × IsReading words result }
+        ensures read { (words : List ℕ) × ReadPass lane.old.cells.limits lane.old.view lane.new.view (cells_in rows.now (column.blocks * 32) column.index) words × IsReading words result }
     {
         lane.tell_proof();
         let mut reading = Reading::new();
@@ -238,13 +238,13 @@ impl Cells {
     fn read_at(&self, lane: &mut CellLane, row: usize, column: Column) -> u64
         requires lane { lane.old.cells ≡ self.now.id }
         requires column { IsColumn self.now.id.limits.cells column }
-        requires cell { cell_at (column.blocks * 32) column.place row < self.now.id.limits.cells }
-        ensures found { (h : History) × Finds lane.old.cells.limits lane.old.view (cell_at (column.blocks * 32) column.place row) result h × (lane.new ≡ stepped lane.old h) }
+        requires cell { cell_at (column.blocks * 32) column.index row < self.now.id.limits.cells }
+        ensures found { (h : History) × Finds lane.old.cells.limits lane.old.view (cell_at (column.blocks * 32) column.index row) result h × (lane.new ≡ stepped lane.old h) }
         ensures state { HasState result }
     {
         self.tell_proof();
         let block = row * column.blocks;
-        let cell = block * 32 + column.place;
+        let cell = block * 32 + column.index;
         self.read_marked(lane, cell, column.marks + block, column.bits)
     }
 }

@@ -1,8 +1,8 @@
 //! The rule of the shared words: one legal history, of which each lane has seen a prefix.
 //!
-//! A cell stands at a place of the table, or it is open, or it has ended without one. The words of
+//! A cell stands at an index of the table, or it is open, or it has ended without one. The words of
 //! blocks say which, and how they say it is a layout, here that of marks. A block's end seals all
-//! its cells that have no place: one step, and an event for each.
+//! its cells that have no word: one step, and an event for each.
 //!
 //! A seat takes no bytes: its view exists in proofs only. An exchange announces the act that it
 //! makes, since a step cannot read it off the one word that it changes.
@@ -115,15 +115,15 @@ impl<A: Aim> Play<Act<CellNo>, View> for Seek<A> {
 }
 
 /// An exchange of a block's word, which gives a cell its mark.
-pub(crate) struct Place<A: Aim> {
+pub(crate) struct Mark<A: Aim> {
     aim: PhantomData<A>,
 }
 
-impl<A: Aim> Play<Act<CellNo>, View> for Place<A> {
-    ghost use Rattle.ext_cells.specs.InnerTableSteps.{Placed};
+impl<A: Aim> Play<Act<CellNo>, View> for Mark<A> {
+    ghost use Rattle.ext_cells.specs.InnerTableSteps.{Marked};
     ghost use Rattle.ext_cells.specs.InnerMarks.{marks};
 
-    ghost then = { λ s me. Placed (marks me.0.limits.cells) A.cell s me };
+    ghost then = { λ s me. Marked (marks me.0.limits.cells) A.cell s me };
 }
 
 /// The end of a block.

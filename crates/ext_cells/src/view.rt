@@ -14,9 +14,9 @@ pub(crate) struct View {
     pub(crate) fronts: LinkedList<LinkedList<Event<CellNo>>>,
     /// What a note has shown, until the next front.
     pub(crate) told: LinkedList<Event<CellNo>>,
-    /// Cells and the places where they stand, for good.
-    pub(crate) placed: LinkedList<(CellNo, usize)>,
-    /// The place of a block's word, which is not below `least`.
+    /// Cells and the indices of their words, for good.
+    pub(crate) indexed: LinkedList<(CellNo, usize)>,
+    /// The index of a block's word, which is not below `least`.
     pub(crate) block: usize,
     pub(crate) least: u64,
 }

@@ -22,7 +22,7 @@ impl Model for Words {
 }
 
 impl Words {
-    /// The word of the cell that was named at place `i`, from 0, below the number of cells. `parts`
+    /// The word of the cell that was named at index `i`, from 0, below the number of cells. `parts`
     /// takes it apart.
     pub fn get(&self, i: usize) -> u64
         requires { i < length self.now }

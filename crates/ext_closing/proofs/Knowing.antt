@@ -15,7 +15,7 @@ module _ {V : Type 0} (before after : List (Known V)) (number : ℕ) (value : V)
   knew = let it = is_there (known_at before number) knows in it.1 ∙ sym (keeps number it.0 it.1) ∙ learns.learnt
 
   pub nothing_learnt : after ≡ before
-  nothing_learnt = learning_tells before after before number value learns (record { places = refl; learnt = knew; others = λ m differs. refl })
+  nothing_learnt = learning_tells before after before number value learns (record { slots = refl; learnt = knew; others = λ m differs. refl })
 
 pub set_back : {A : Type 0} (xs : List A) (i : ℕ) (y d : A) → y ≡ get_or xs i d → i < length xs → set xs i y ≡ xs
 set_back [] i y d same within = absurd (omega (arith, within))

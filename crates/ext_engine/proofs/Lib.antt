@@ -32,7 +32,7 @@ pub mod Room
 pub mod Roots
 pub mod RunLaws
 pub mod Seen
-pub mod Told
+pub mod GrownRuns
 pub mod Trees
 pub mod Within
 -- Lemmas of crates below, for an engine's proofs.

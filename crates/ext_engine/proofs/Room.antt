@@ -12,7 +12,7 @@ use Rattle.ext_engine.specs.RunLaws.{nodes_of}
 use Rattle.ext_engine.specs.TreeRun.{Ran, TreeSetting, Lanes, IsRunnable, TreeRun}
 use Rattle.ext_engine.proofs.Above.{Under, at_or_below, within_tree}
 use Rattle.ext_engine.proofs.Grown.{node_under, ran_once}
-use Rattle.ext_engine.proofs.Told.{grown}
+use Rattle.ext_engine.proofs.GrownRuns.{grown}
 use Rattle.ext_engine.proofs.Within.{below-child, within-self}
 
 -- what stands before and behind one place of an element

@@ -136,7 +136,7 @@ pub fn open_run<V: StoreValue + Drop>(
     ensures limits { IfOk result (λ o. o.store.id.cells.limits ≡ record { cells = length ids.now * places_for limits.keys; lanes = limits.lanes; numbers = limits.numbers; keep_faults = limits.keep_faults }) }
     ensures keys { IfOk result (λ o. length o.store.id.keys ≡ places_for limits.keys) }
     ensures tries { IfOk result (λ o. (o.store.tries ≡ limits.tries) × (o.locks.tries ≡ limits.tries)) }
-    ensures lanes { IfOk result (λ o. o.lanes.items ≡ map (fresh_store_lane o.store.id.places o.store.id.fault_places o.store.id.keys) (fresh_lanes o.store.id.cells 0 limits.lanes)) }
+    ensures lanes { IfOk result (λ o. o.lanes.items ≡ map (fresh_store_lane o.store.id.slots o.store.id.fault_slots o.store.id.keys) (fresh_lanes o.store.id.cells 0 limits.lanes)) }
     ensures lock_lanes { IfOk result (λ o. o.lock_lanes.items ≡ locking.fresh_lanes o.locks.table limits.lanes limits.lanes) }
     ensures own_lanes { IfOk result (λ o. All (IsLaneOf o.store.id) o.lanes.items) }
     ensures own_closers { IfOk result (λ o. All (IsCloserOf o.store) o.closers.items) }
@@ -168,7 +168,7 @@ fn open_store<V: StoreValue + Drop>(
     ensures keys { IfOk result (λ r. length r.0.id.keys ≡ places_for limits.keys) }
     ensures within { IfOk result (λ r. AreStoreLimits limits.size limits.keys limits.lanes limits.tries limits.numbers) }
     ensures tries { IfOk result (λ r. r.0.tries ≡ limits.tries) }
-    ensures lanes { IfOk result (λ r. r.1.items ≡ map (fresh_store_lane r.0.id.places r.0.id.fault_places r.0.id.keys) (fresh_lanes r.0.id.cells 0 limits.lanes)) }
+    ensures lanes { IfOk result (λ r. r.1.items ≡ map (fresh_store_lane r.0.id.slots r.0.id.fault_slots r.0.id.keys) (fresh_lanes r.0.id.cells 0 limits.lanes)) }
     ensures own_lanes { IfOk result (λ r. All (IsLaneOf r.0.id) r.1.items) }
     ensures closers { IfOk result (λ r. r.2.items ≡ closers_below r.0.id.cells (length r.0.tree)) }
     ensures own_closers { IfOk result (λ r. All (IsCloserOf r.0) r.2.items) }

@@ -15,7 +15,7 @@ impl<'l, V: StoreValue + Drop> LentLane<'l, V> {
     /// waits for nobody, as `Store::keep_wait` does. Takes memory for the value.
     ///
     /// Refused, with the value handed back, as `Memory`; as `NumbersFull` where all numbers were
-    /// drawn; and as `Unplaced` where another value stands in the number's place: the number is
+    /// drawn; and as `Unplaced` where another value stands in the number's slot: the number is
     /// lost then. An own rule: JUnit numbers values as they are stored.
     pub fn keep_wait(&mut self, value: V) -> Result<Kept, (V, KeepFault)>
         ensures answer { MatchResult result (KeepsAs value self.old.lane.now self.new.lane.now) (λ e. KeepsNothing self.old.store.now value self.old.lane.now self.new.lane.now e.0 e.1) }

@@ -13,7 +13,7 @@
 
 mod call;
 mod callbacks;
-mod fault_place;
+mod fault_origin;
 mod lifecycle;
 mod listener;
 mod mode;
@@ -24,7 +24,7 @@ mod tally;
 
 pub use call::{Call, Kind};
 pub use callbacks::{Callbacks, afters_of, befores_of, calls_round};
-pub use fault_place::FaultPlace;
+pub use fault_origin::FaultOrigin;
 pub use lifecycle::{Caller, run_afters, run_befores, run_body, run_calls};
 pub use listener::{NoListener, RunListener, tell_fault};
 pub use mode::Mode;

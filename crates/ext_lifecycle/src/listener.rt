@@ -1,6 +1,6 @@
 //! A listener to a run while it lasts.
 
-use crate::{FaultPlace, NodeResult};
+use crate::{FaultOrigin, NodeResult};
 use ext_model::{ContextNo, Fault};
 
 /// A listener to the progress of a run of nodes.
@@ -17,10 +17,10 @@ pub trait RunListener {
     fn started(&self, _node: ContextNo, _lane: usize) {}
 
     /// A call of the node failed or was aborted with this fault, or a value of its context could
-    /// not be closed: `place` tells which. Called once for each, in the order in which they came:
+    /// not be closed: `origin` tells which. Called once for each, in the order in which they came:
     /// the first failure is the fault of the node's result, or the first abort if there is no
     /// failure.
-    fn faulted(&self, _node: ContextNo, _place: FaultPlace, _fault: &Fault) {}
+    fn faulted(&self, _node: ContextNo, _origin: FaultOrigin, _fault: &Fault) {}
 
     /// A node has ended with this result: its calls were made and its context was closed. Called
     /// once for each such node, and not for those that were skipped, nor if the run is refused
@@ -37,15 +37,15 @@ impl RunListener for NoListener {
     fn ended(&self, _ran: &NodeResult, _nodes: usize) {}
 }
 
-/// Reports a fault of the node at this place to the listener, if there is one, by
+/// Reports a fault of the node with this origin to the listener, if there is one, by
 /// `RunListener::faulted`.
 pub fn tell_fault<L: RunListener>(
     listener: &L,
     node: ContextNo,
-    place: FaultPlace,
+    origin: FaultOrigin,
     fault: Option<&Fault>,
 ) {
     if let Some(fault) = fault {
-        listener.faulted(node, place, fault);
+        listener.faulted(node, origin, fault);
     }
 }

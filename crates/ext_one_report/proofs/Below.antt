@@ -12,10 +12,10 @@ use Rattle.ext_engine.specs.TreeRun.{Ran}
 use Rattle.ext_engine.proofs.Above.{Under, same_child}
 use Rattle.ext_plain.specs.PlainRun.{RunState}
 use Rattle.ext_one_report.proofs.ChildLists.{only}
-use Rattle.ext_one_report.proofs.NodeTold.{ran_cases}
+use Rattle.ext_one_report.proofs.ResultLists.{ran_cases}
 
-module _ (ids : List Id) (tree : IsTree ids) (node : ℕ) (step : RunState → ℕ → RunState) (Told : List Ran → List NodeOutcome → List NodeOutcome → Type 0) (nothing : (results : List NodeOutcome) → Told [] results results)
-    (and_then : (xs ys : List Ran) (a b c : List NodeOutcome) → ((k : ℕ) → HasRun xs k → HasRun ys k → ⊥) → Told xs a b → Told ys b c → Told (xs ++ ys) a c) where
+module _ (ids : List Id) (tree : IsTree ids) (node : ℕ) (step : RunState → ℕ → RunState) (Reported : List Ran → List NodeOutcome → List NodeOutcome → Type 0) (nothing : (results : List NodeOutcome) → Reported [] results results)
+    (and_then : (xs ys : List Ran) (a b c : List NodeOutcome) → ((k : ℕ) → HasRun xs k → HasRun ys k → ⊥) → Reported xs a b → Reported ys b c → Reported (xs ++ ys) a c) where
   abbrev IsChild : ℕ → Type 0
   IsChild child = IsParentOf ids node child
 
@@ -24,7 +24,7 @@ module _ (ids : List Id) (tree : IsTree ids) (node : ℕ) (step : RunState → �
 
   -- of some nodes below these children
   pub record TellsBelow (children : List ℕ) (ran : List Ran) (a b : RunState) : Type 0 where
-    pub told : Told ran a.results b.results
+    pub told : Reported ran a.results b.results
     pub under : (k : ℕ) → HasRun ran k → (c : ℕ) × Contains children c × Under ids c k
 
   -- of children that follow one another, of which each is told
@@ -42,20 +42,20 @@ module _ (ids : List Id) (tree : IsTree ids) (node : ℕ) (step : RunState → �
     ];
   }
 
-  pub one_below : (c : ℕ) (ran : List Ran) (a b : RunState) → Told ran a.results b.results → ((k : ℕ) → HasRun ran k → Under ids c k) → TellsBelow (c ∷ []) ran a b
+  pub one_below : (c : ℕ) (ran : List Ran) (a b : RunState) → Reported ran a.results b.results → ((k : ℕ) → HasRun ran k → Under ids c k) → TellsBelow (c ∷ []) ran a b
   one_below c ran a b told under = record { told = told; under = λ k has. (c, contains_here c [], under k has) }
 
   pub none_below : (a : RunState) → TellsBelow [] [] a a
   none_below a = record { told = nothing a.results; under = λ k has. absurd (contains_none k has) }
 
   -- a child that is told, where these results stand at its place
-  pub record ToldAt (cs : List ℕ) (beside : List (List Ran)) (r : RunState) (i : ℕ) : Type 0 where
+  pub record ReportedAt (cs : List ℕ) (beside : List (List Ran)) (r : RunState) (i : ℕ) : Type 0 where
     pub ran : List Ran
     pub stands : slice_get beside i ≡ Some ran
-    pub told : Told ran (after_all r (take i cs)).results (step (after_all r (take i cs)) (slice_index_or cs i 0)).results
+    pub told : Reported ran (after_all r (take i cs)).results (step (after_all r (take i cs)) (slice_index_or cs i 0)).results
     pub under : (k : ℕ) → HasRun ran k → Under ids (slice_index_or cs i 0) k
 
-  pub all_below : (cs : List ℕ) (beside : List (List Ran)) (r : RunState) → length beside ≡ length cs → Once cs → ((x : ℕ) → Contains cs x → IsChild x) → ((i : ℕ) → i < length cs → ToldAt cs beside r i)
+  pub all_below : (cs : List ℕ) (beside : List (List Ran)) (r : RunState) → length beside ≡ length cs → Once cs → ((x : ℕ) → Contains cs x → IsChild x) → ((i : ℕ) → i < length cs → ReportedAt cs beside r i)
       → TellsBelow cs (flat_map (λ ran. ran) beside) r (after_all r cs)
   all_below [] [] r same once children each = none_below r
   all_below [] (b ∷ beside) r same once children each = absurd (omega (arith, same))

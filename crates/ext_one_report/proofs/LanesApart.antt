@@ -138,16 +138,16 @@ module _ {V : Type 0} (h : History) where
 -- ---- fresh ones
 
 -- they are numbered one after another
-fresh_past : (V : Type 0) (places fault_places keys : List ℕ) (cells : CellsId) (first n m : ℕ)
-    → Contains (map (λ lane. lane.cells.view.number) (map (fresh_store_lane {V = V} places fault_places keys) (fresh_lanes cells first n))) m → first ≤ m
-fresh_past V places fault_places keys cells first zero m there = absurd (contains_none m there)
-fresh_past V places fault_places keys cells first (suc n) m there =
-    elim (contains_cons first (map (λ lane. lane.cells.view.number) (map (fresh_store_lane {V = V} places fault_places keys) (fresh_lanes cells (first + 1) n))) m there) [
+fresh_past : (V : Type 0) (slots fault_slots keys : List ℕ) (cells : CellsId) (first n m : ℕ)
+    → Contains (map (λ lane. lane.cells.view.number) (map (fresh_store_lane {V = V} slots fault_slots keys) (fresh_lanes cells first n))) m → first ≤ m
+fresh_past V slots fault_slots keys cells first zero m there = absurd (contains_none m there)
+fresh_past V slots fault_slots keys cells first (suc n) m there =
+    elim (contains_cons first (map (λ lane. lane.cells.view.number) (map (fresh_store_lane {V = V} slots fault_slots keys) (fresh_lanes cells (first + 1) n))) m there) [
       | inl here ↦ omega (arith, here)
-      | inr later ↦ let past = fresh_past V places fault_places keys cells (first + 1) n m later in omega (arith, past)
+      | inr later ↦ let past = fresh_past V slots fault_slots keys cells (first + 1) n m later in omega (arith, past)
     ]
 
-pub fresh_apart : (V : Type 0) (places fault_places keys : List ℕ) (cells : CellsId) (first n : ℕ) → AreApart (map (fresh_store_lane {V = V} places fault_places keys) (fresh_lanes cells first n))
-fresh_apart V places fault_places keys cells first zero = tt
-fresh_apart V places fault_places keys cells first (suc n) =
-    ((λ there. let past = fresh_past V places fault_places keys cells (first + 1) n first there in absurd (omega (arith, past))), fresh_apart V places fault_places keys cells (first + 1) n)
+pub fresh_apart : (V : Type 0) (slots fault_slots keys : List ℕ) (cells : CellsId) (first n : ℕ) → AreApart (map (fresh_store_lane {V = V} slots fault_slots keys) (fresh_lanes cells first n))
+fresh_apart V slots fault_slots keys cells first zero = tt
+fresh_apart V slots fault_slots keys cells first (suc n) =
+    ((λ there. let past = fresh_past V slots fault_slots keys cells (first + 1) n first there in absurd (omega (arith, past))), fresh_apart V slots fault_slots keys cells (first + 1) n)

@@ -70,7 +70,7 @@ pub mod NodeCalls
 pub mod NodePlaces
 pub mod NodePlain
 pub mod NodeRooms
-pub mod NodeTold
+pub mod ResultLists
 pub mod NodeTrees
 pub mod NodesAlone
 pub mod Numbered
@@ -147,7 +147,7 @@ pub mod SharedNodesOrders
 pub mod SharedNodesPasses
 pub mod SharedNodesPlaces
 pub mod SharedNodesRuns
-pub mod SharedNodesTold
+pub mod SharedNodesResults
 pub mod SharedNodesTurn
 pub mod SharedNodesTurns
 pub mod SharedNodesWords
@@ -170,8 +170,8 @@ pub mod StoredRuns
 pub mod StoredWords
 pub mod TestCallsWords
 pub mod TestRooms
-pub mod ToldLacks
-pub mod ToldLacksOfNode
+pub mod ShownLacks
+pub mod ShownLacksOfNode
 pub mod Views
 pub mod ViewsWords
 pub mod Whole

@@ -25,7 +25,7 @@ use Rattle.ext_one_report.proofs.Runs.{run_lanes}
 use Rattle.ext_one_report.proofs.MatchingWords.{RunView}
 use Rattle.ext_one_report.proofs.Covered.{changed_in, touched_in}
 use Rattle.ext_one_report.proofs.CoveredPlans.{plans_are_covered}
-use Rattle.ext_one_report.specs.Shares.{SharedValues, SharesNothing, shares_in, AreToldNear}
+use Rattle.ext_one_report.specs.Shares.{SharedValues, SharesNothing, shares_in, AreNearResults}
 use Rattle.ext_one_report.proofs.Shared.{AreShared, given_in}
 use Rattle.ext_one_report.specs.FullRuns.{LacksNothing}
 use Rattle.ext_one_report.proofs.Fills.{computed_at, computed_of, computed_told}
@@ -34,7 +34,7 @@ use Rattle.ext_one_report.proofs.FullRuns.{setting_in}
 use Rattle.ext_one_report.specs.OneReport.{AreNearReports, NearReport, OneReport}
 use Rattle.ext_races.specs.MadeSteps.{plan_path}
 use Rattle.ext_races.specs.OneReports.{HasNearReport}
-use Rattle.ext_one_report.proofs.SharedNodesWords.{AllToldNear, BeginsNear, EndsNear, IsSharedBasis}
+use Rattle.ext_one_report.proofs.SharedNodesWords.{AllResultsNear, BeginsNear, EndsNear, IsSharedBasis}
 use Rattle.ext_one_report.proofs.Bases.{at_places, changed, enough_results, holds_once, its, numbers_left, only, opens_level}
 use Rattle.ext_one_report.proofs.ComputedAbove.{IsClosedAbove}
 use Rattle.ext_one_report.proofs.LanesAlone.{view_moves}
@@ -52,12 +52,12 @@ none_open context key = None
 
 module _ (nodes : List NodeText) (suite : SuiteView) (ran : List Ran) (results : List (ResultOf Fault)) (after : List NodeOutcome)
     (tests : (node : ℕ) → suite.is_test node ≡ is_some (test_in (slice_get nodes node))) (one : IsOneEach suite (λ node answer. answer ≡ true) (length nodes) ran results) (shares : ℕ → Open)
-    (told : AllToldNear shares ran (skipped_from 0 nodes) after) (once : Once (nodes_of ran)) (as_many : computed_of ran ≡ computed_told ran after) where
-  itself : (shared : SharedValues) (a b : NodeOutcome) → a ≡ b → AreToldNear shared a b
-  itself shared a b same = subst (λ x. AreToldNear shared a x) same (record { same = refl; counts = refl; exact = λ nothing. refl })
+    (told : AllResultsNear shares ran (skipped_from 0 nodes) after) (once : Once (nodes_of ran)) (as_many : computed_of ran ≡ computed_told ran after) where
+  itself : (shared : SharedValues) (a b : NodeOutcome) → a ≡ b → AreNearResults shared a b
+  itself shared a b same = subst (λ x. AreNearResults shared a x) same (record { same = refl; counts = refl; exact = λ nothing. refl })
 
   at : (k : ℕ) (here there : NodeOutcome) → k < length nodes → HasRun ran k ⊎ (¬ HasRun ran k) → option_map (with_fault_told fault_text) (slice_get results k) ≡ Some here → slice_get after k ≡ Some there
-      → AreToldNear (values_of (shares k)) here there
+      → AreNearResults (values_of (shares k)) here there
   at k here there within (inl has) is is' =
       let r = contains-from_map (λ (x : Ran). x.result.node) ran k has in
       let t = told.each r.0 r.1 in
@@ -65,8 +65,8 @@ module _ (nodes : List NodeText) (suite : SuiteView) (ran : List Ran) (results :
       let theirs : Some t.0 ≡ Some there = sym (ap (λ n. slice_get after n) (sym r.2) ∙ t.1) ∙ is' in
       let here_is : with_fault_told fault_text r.0.result ≡ here = cc mine in
       let there_is : t.0 ≡ there = cc theirs in
-      subst (λ n. AreToldNear (values_of (shares n)) here there) r.2
-      (subst (λ x. AreToldNear (values_of (shares r.0.result.node)) x there) here_is (subst (λ x. AreToldNear (values_of (shares r.0.result.node)) (with_fault_told fault_text r.0.result) x) there_is t.2))
+      subst (λ n. AreNearResults (values_of (shares n)) here there) r.2
+      (subst (λ x. AreNearResults (values_of (shares r.0.result.node)) x there) here_is (subst (λ x. AreNearResults (values_of (shares r.0.result.node)) (with_fault_told fault_text r.0.result) x) there_is t.2))
   at k here there within (inr none) is is' =
       let mine : Some (skipped_result k (is_some (test_in (slice_get nodes k)))) ≡ Some here = sym (ap (λ o. option_map (with_fault_told fault_text) o) (one.of_skipped k within none) ∙ ap (λ b. Some (skipped_result k b)) (tests k)) ∙ is in
       let theirs : Some (skipped_result k (is_some (test_in (slice_get nodes k)))) ≡ Some there =

@@ -20,7 +20,7 @@ use Rattle.ext_one_report.proofs.FrameKeys.{nodes_give_few}
 use Rattle.ext_one_report.proofs.FrameNodes.{nodes_leave}
 use Rattle.ext_one_report.proofs.FrameSlots.{leaves_itself, leaves_more, leaves_then}
 use Rattle.ext_one_report.proofs.NodePlaces.{any_of, or_first, or_second, within_any}
-use Rattle.ext_one_report.proofs.NodeTold.{set-long}
+use Rattle.ext_one_report.proofs.ResultLists.{set-long}
 use Rattle.ext_one_report.proofs.OfPlanNodes.{node_of}
 
 -- a node keeps one result for each node

@@ -67,5 +67,5 @@ module _ (plan : PlanText) (lanes : ℕ) (results : List (ResultOf Fault)) (run 
   run_lanes =
       let id = run.store.id in
       let few : id.cells.limits.lanes ≡ lanes = ap (λ (l : Limits). l.lanes) run.store_is.limits in
-      let fresh = subst (λ (n : ℕ). run.first.first ≡ map (fresh_store_lane id.places id.fault_places id.keys) (fresh_lanes id.cells 0 n)) (sym few) run.fresh in
-      fresh_all id.cells.limits id.cells id.places id.fault_places id.keys run.shared.history run.first.first run.after.first fresh run.shared.legal run_within run.shared.own_events
+      let fresh = subst (λ (n : ℕ). run.first.first ≡ map (fresh_store_lane id.slots id.fault_slots id.keys) (fresh_lanes id.cells 0 n)) (sym few) run.fresh in
+      fresh_all id.cells.limits id.cells id.slots id.fault_slots id.keys run.shared.history run.first.first run.after.first fresh run.shared.legal run_within run.shared.own_events

@@ -59,7 +59,7 @@ use Rattle.ext_one_report.proofs.SharedNodesBeside.{off_above}
 use Rattle.ext_one_report.proofs.SharedNodesBody.{Ground, IsChild, path_in}
 use Rattle.ext_one_report.proofs.SharedNodesPasses.{Passes, own_fewer}
 use Rattle.ext_one_report.proofs.SharedNodesPlaces.{not_both, still_cases, still_parts, unshared_is, unshared_parts}
-use Rattle.ext_one_report.proofs.SharedNodesTold.{AreCounted}
+use Rattle.ext_one_report.proofs.SharedNodesResults.{AreCounted}
 use Rattle.ext_one_report.proofs.SharedNodesTurn.{Since, Whole, computed_then, own_then}
 use Rattle.ext_one_report.proofs.SharedTestsOpen.{after_fits, befores_fit, none_fewer, same_filled, shared_beside}
 use Rattle.ext_one_report.proofs.OpenCallLists.{all_calls_end_near, befores_end_near}

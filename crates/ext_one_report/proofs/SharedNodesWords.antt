@@ -1,6 +1,6 @@
 -- Runs of nodes that compute the same values as nodes beside them: on several lanes and in the plain run the same is told of each node but for who computed such a value and who found it.
 -- JUnit 5 User Guide, "Parallel Execution"; Javadoc `ExtensionContext.Store`, `getOrComputeIfAbsent`.
-use Rattle.ext_one_report.specs.Shares.{AreToldNear}
+use Rattle.ext_one_report.specs.Shares.{AreNearResults}
 use Rattle.std.specs.Prelude.{◌≡◌, ℕ, ◌+◌, ◌<◌, true, false, List, length, All, Contains, Some, drop, is_some, slice_get}
 use mathlib.Core.List.{IsPrefix}
 use Rattle.ext_model.specs.declared.event.Event.{Event}
@@ -79,9 +79,9 @@ pub record IsSharedBasis (plan : PlanText) (run : RunView) (locks : LocksView) (
 
 -- ---- what is told
 
-pub record AllToldNear (shares : ℕ → Open) (ran : List Ran) (before after : List NodeOutcome) : Type 0 where
+pub record AllResultsNear (shares : ℕ → Open) (ran : List Ran) (before after : List NodeOutcome) : Type 0 where
   pub count : length after ≡ length before
-  pub each : (one : Ran) → Contains ran one → (told : NodeOutcome) × (slice_get after one.result.node ≡ Some told) × AreToldNear (values_of (shares one.result.node)) (with_fault_told fault_text one.result) told
+  pub each : (one : Ran) → Contains ran one → (told : NodeOutcome) × (slice_get after one.result.node ≡ Some told) × AreNearResults (values_of (shares one.result.node)) (with_fault_told fault_text one.result) told
   pub others : (node : ℕ) → ¬ HasRun ran node → slice_get after node ≡ slice_get before node
 
 -- ---- laws
@@ -97,7 +97,7 @@ module _ (plan : PlanText) (run : RunView) (locks : LocksView) (h : History) (to
     pub stand : (context : ℕ) (key : KeyValue) (v : Given) → settled context key ≡ true → open_at context key ≡ Some v → StandsInBoth run v context key (first_seen after.first) s.state
     pub unchanged : (context : ℕ) (key : KeyValue) (v : Given) → settled context key ≡ false → open_at context key ≡ Some v → plain_slot s.state context key ≡ plain_slot r.state context key
     pub untouched : AreUntouched run h open_at settled before.first after.first
-    pub told : AllToldNear shares ran r.results s.results
+    pub told : AllResultsNear shares ran r.results s.results
     -- but for what each run filled itself at open places, both computed as many values
     pub fills : Fills (IsFilledIn run h before.first after.first) open_at (still_open settled open_at) r.state (computed_of ran) (computed_told ran s.results)
     -- at all places that it touches in other contexts, and that were not open when it began, both runs give numbers in one order

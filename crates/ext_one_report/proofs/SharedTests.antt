@@ -51,9 +51,9 @@ use Rattle.ext_one_report.proofs.Fills.{Fills, IsFilledBy, IsFilledIn, Spot, com
 use Rattle.ext_one_report.proofs.FillsCounts.{computed_is, of_first, told_first}
 use Rattle.ext_one_report.proofs.FillsLanes.{filled_by, filled_first, filled_in, filled_then}
 use Rattle.ext_one_report.proofs.FillsLaws.{fills_as}
-use Rattle.ext_one_report.proofs.NodeTold.{set-there}
+use Rattle.ext_one_report.proofs.ResultLists.{set-there}
 use Rattle.ext_one_report.proofs.Open.{AreNear, Given, Open, also, is_left, of_value, some_or_none, still_open, values_of}
-use Rattle.ext_one_report.specs.Shares.{AreToldNear}
+use Rattle.ext_one_report.specs.Shares.{AreNearResults}
 use Rattle.ext_one_report.proofs.OpenCalls.{BeforesFit, CallFitsOpen, CallsNear, FitsBehind, LeavesNear}
 use Rattle.ext_one_report.proofs.OpenSteps.{AreBesideOpen}
 use Rattle.ext_one_report.proofs.Shared.{unshared}
@@ -61,7 +61,7 @@ use Rattle.ext_one_report.proofs.Closes.{ClosesLevel, IsClosedAlone}
 use Rattle.ext_one_report.proofs.FullRuns.{setting_in}
 use Rattle.ext_one_report.specs.Within.{is_within}
 use Rattle.ext_one_report.proofs.Levels.{AreLevel, besides, outside}
-use Rattle.ext_one_report.proofs.SharedNodesWords.{AllToldNear, AreComputed, AreOwn, AreUntouched, BeginsNear, EndsNear, IsSharedBasis, TestsEndNear}
+use Rattle.ext_one_report.proofs.SharedNodesWords.{AllResultsNear, AreComputed, AreOwn, AreUntouched, BeginsNear, EndsNear, IsSharedBasis, TestsEndNear}
 use Rattle.ext_one_report.proofs.Beside.{first_of_calls, test_made}
 use Rattle.ext_one_report.proofs.CloseEnds.{close_orders, sealed_slot, closes_end_level}
 use Rattle.ext_one_report.proofs.ClosePlain.{plain_seals_places}
@@ -71,7 +71,7 @@ use Rattle.ext_one_report.proofs.NodeTrees.{its_path, within_itself}
 use Rattle.ext_one_report.proofs.SharedClosesOpen.{computed_fewer, near_after, none_elsewhere, own_standing, stand_after}
 use Rattle.ext_one_report.proofs.SharedNodesBasis.{in_plan, run_tree}
 use Rattle.ext_one_report.proofs.SharedNodesPlaces.{still_parts, unshared_is}
-use Rattle.ext_one_report.proofs.SharedNodesTold.{near_none, near_own, told_as}
+use Rattle.ext_one_report.proofs.SharedNodesResults.{near_none, near_own, told_as}
 use Rattle.ext_one_report.proofs.SharedTestsOpen.{after_fits, befores_fit, body_fits, open_elsewhere, open_not_below, same_filled, shared_beside}
 use Rattle.ext_one_report.proofs.TestRooms as rooms
 use Rattle.ext_one_report.proofs.OpenTests.{test_ends_near}
@@ -282,17 +282,17 @@ module _ (plan : PlanText) (run : RunView) (locks : LocksView) (h : History) (to
     abbrev outcome : NodeOutcome
     outcome = outcome_of node true end (faults_of_closes end.state.places node sealed)
 
-    told : AreToldNear (values_of (shares node)) (with_fault_told fault_text own.result) outcome
+    told : AreNearResults (values_of (shares node)) (with_fault_told fault_text own.result) outcome
     told =
         told_as (shares node) node true its_run.outcomes its_run.faults end (faults_of_closes end.state.places node sealed) closed.told near.0.counts
         (λ nothing.
         let same = same_filled (shares node) open_at (still_open settled open_at) (IsFilledBy run its_run.calls.lane its_run.calls.left) r.state (computed_in its_run.outcomes) end.computed begins.open_is nothing near.2 in
         record { computed = same; found = omega (arith, same, near.0.counts) })
 
-    all_told : AllToldNear shares ran r.results (test_node_run plan node path r).results
+    all_told : AllResultsNear shares ran r.results (test_node_run plan node path r).results
     all_told =
         let long = begins.results in
-        subst (λ rs. AllToldNear shares rs r.results (test_node_run plan node path r).results) (sym its_run.ran_is)
+        subst (λ rs. AllResultsNear shares rs r.results (test_node_run plan node path r).results) (sym its_run.ran_is)
         (near_own shares own [] r.results r.results outcome told (let n = in_nodes in omega (arith, n, long)) (λ has. contains_none node has) (near_none shares r.results))
 
     -- ---- open places

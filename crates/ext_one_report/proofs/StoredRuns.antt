@@ -36,9 +36,9 @@ use Rattle.ext_one_report.proofs.Stored.{are_stored}
 
 -- ---- lanes
 
-module _ (cells : CellsId) (places fault_places keys : List ℕ) where
+module _ (cells : CellsId) (slots fault_slots keys : List ℕ) where
   abbrev fresh : ℕ → ℕ → List PlanLane
-  fresh first n = map (fresh_store_lane places fault_places keys) (fresh_lanes cells first n)
+  fresh first n = map (fresh_store_lane slots fault_slots keys) (fresh_lanes cells first n)
 
   fresh_nothing : (first n : ℕ) → first_seen (fresh first n) ≡ []
   fresh_nothing first zero = refl
@@ -50,7 +50,7 @@ module _ (cells : CellsId) (places fault_places keys : List ℕ) where
 
   fresh_places : (first n : ℕ) → All HasPlaces (fresh first n)
   fresh_places first zero = All-nil HasPlaces
-  fresh_places first (suc n) = All-cons HasPlaces (fresh_store_lane places fault_places keys (fresh_lane cells first)) (fresh (first + 1) n) (key_places_of-nothing keys) (fresh_places (first + 1) n)
+  fresh_places first (suc n) = All-cons HasPlaces (fresh_store_lane slots fault_slots keys (fresh_lane cells first)) (fresh (first + 1) n) (key_places_of-nothing keys) (fresh_places (first + 1) n)
 
   -- so where there is a lane, they are numbered for these places
   numbered_places : (numbering : List KnownPlace) (h : History) (place : ℕ) (xs ys : List PlanLane) → AllGoOn xs ys → All HasPlaces xs → All (λ lane. KeepsKeys lane.keys numbering) ys → IsMadeIn h place xs ys → key_places_of numbering ≡ keys
@@ -111,7 +111,7 @@ module _ (plan : PlanText) (lanes : ℕ) (results : List (ResultOf Fault)) (run 
   run_made place event there =
       let id = run.store.id in
       whole_made (run_setting plan lanes results run) (run_moves plan lanes results run) 16 0 run.first run.ran run.after (numbered_run plan lanes results run) h (run_lanes plan lanes results run)
-      (ap first_seen run.fresh ∙ fresh_nothing id.cells id.places id.fault_places id.keys 0 lanes) place event there
+      (ap first_seen run.fresh ∙ fresh_nothing id.cells id.slots id.fault_slots id.keys 0 lanes) place event there
 
   run_named : OnlyNamedCells plan lanes results run
   run_named place cell event there is =
@@ -124,8 +124,8 @@ module _ (plan : PlanText) (lanes : ℕ) (results : List (ResultOf Fault)) (run 
       let id = run.store.id in
       let t = run_setting plan lanes results run in
       let goes = tree_goes t (run_moves plan lanes results run) 16 0 run.first run.ran run.after (numbered_run plan lanes results run) in
-      let has = subst (λ l. All (HasPlaces id.cells id.places id.fault_places id.keys) l) (sym run.fresh) (fresh_places id.cells id.places id.fault_places id.keys 0 lanes) in
-      length-places numbering id.keys (numbered_places id.cells id.places id.fault_places id.keys numbering h place run.first.first run.after.first goes has run.numbered.parts (run_made place event there))
+      let has = subst (λ l. All (HasPlaces id.cells id.slots id.fault_slots id.keys) l) (sym run.fresh) (fresh_places id.cells id.slots id.fault_slots id.keys 0 lanes) in
+      length-places numbering id.keys (numbered_places id.cells id.slots id.fault_slots id.keys numbering h place run.first.first run.after.first goes has run.numbered.parts (run_made place event there))
 
   run_unnamed : UnnamedKeepNothing plan lanes results run
   run_unnamed part begins context number low unnamed =

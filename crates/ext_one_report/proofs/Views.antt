@@ -170,7 +170,7 @@ module _ (moves : PlansGoOn) where
   runs_are_seen_as_one plan lanes results run =
       let store = run.store in
       let keys = store.id.keys in
-      let make = fresh_store_lane {V = StoredValue} store.id.places store.id.fault_places keys in
+      let make = fresh_store_lane {V = StoredValue} store.id.slots store.id.fault_slots keys in
       let fresh = fresh_lanes store.id.cells 0 lanes in
       let first : All (KeysOf keys) run.first.first = subst (λ (l : List PlanLane). All (KeysOf keys) l) (sym run.fresh) (All-map (KeysOf keys) make fresh (λ i d within. key_places_of-nothing keys)) in
       let go = tree_goes (setting_of_plan plan store run.locks) (moves plan store) 16 0 run.first run.ran run.after run.run in

@@ -26,7 +26,7 @@ use Rattle.ext_engine.proofs.Finer.{tree_finer}
 use Rattle.ext_engine.proofs.Going.{goes_met, goes_same, goes_sealed, goes_then, tree_goes}
 use Rattle.ext_engine.proofs.RunLaws.{one_result_each}
 use Rattle.ext_engine.proofs.Grown.{Grows, ran_once}
-use Rattle.ext_engine.proofs.Told.{grown}
+use Rattle.ext_engine.proofs.GrownRuns.{grown}
 use Rattle.ext_one_report.specs.Changing.{NodesChangeOnly}
 use Rattle.ext_parallel.specs.declared.steps.stored_value.StoredValue.{StoredValue}
 use Rattle.ext_parallel.specs.ParallelRun.{ParallelRun}
@@ -74,7 +74,7 @@ module _ (plan : PlanText) (lanes : ℕ) (results : List (ResultOf Fault)) (run 
   -- no two lanes have one number
   pub lanes_apart : AreApart run.after.first
   lanes_apart =
-      let fresh : AreApart run.first.first = subst AreApart (sym run.fresh) (fresh_apart StoredValue store.id.places store.id.fault_places store.id.keys store.id.cells 0 lanes) in
+      let fresh : AreApart run.first.first = subst AreApart (sym run.fresh) (fresh_apart StoredValue store.id.slots store.id.fault_slots store.id.keys store.id.cells 0 lanes) in
       apart_after run.first.first run.after.first goes fresh
 
   -- there is a lane
@@ -140,7 +140,7 @@ module _ (plan : PlanText) (lanes : ℕ) (results : List (ResultOf Fault)) (run 
   }
 
   -- the lanes have seen nothing before the run
-  nothing_seen : (n first : ℕ) → first_seen (map (fresh_store_lane {V = StoredValue} store.id.places store.id.fault_places store.id.keys) (fresh_lanes store.id.cells first n)) ≡ []
+  nothing_seen : (n first : ℕ) → first_seen (map (fresh_store_lane {V = StoredValue} store.id.slots store.id.fault_slots store.id.keys) (fresh_lanes store.id.cells first n)) ≡ []
   nothing_seen zero first = refl
   nothing_seen (suc n) first = refl
 

@@ -81,9 +81,9 @@ whole_made t moves depth node before ran after run h all nothing place event the
 
 -- ---- fresh lanes
 
-module _ (V : Type 0) (cells : CellsId) (places fault_places keys : List ℕ) where
+module _ (V : Type 0) (cells : CellsId) (slots fault_slots keys : List ℕ) where
   abbrev fresh : ℕ → ℕ → List (StoreLane V)
-  fresh first n = map (fresh_store_lane places fault_places keys) (fresh_lanes cells first n)
+  fresh first n = map (fresh_store_lane slots fault_slots keys) (fresh_lanes cells first n)
 
   fresh_number : (first n lane : ℕ) → first ≤ lane → lane < first + n → Contains (map number_of (fresh first n)) lane
   fresh_number first zero lane low high = absurd (omega (arith, low, high))
@@ -95,15 +95,15 @@ module _ (V : Type 0) (cells : CellsId) (places fault_places keys : List ℕ) wh
 
   fresh_seen : (since : History) (first n : ℕ) → All (HasSeenWithin since) (fresh first n)
   fresh_seen since first zero = All-nil (HasSeenWithin since)
-  fresh_seen since first (suc n) = All-cons (HasSeenWithin since) (fresh_store_lane places fault_places keys (fresh_lane cells first)) (fresh (first + 1) n) (since, refl) (fresh_seen since (first + 1) n)
+  fresh_seen since first (suc n) = All-cons (HasSeenWithin since) (fresh_store_lane slots fault_slots keys (fresh_lane cells first)) (fresh (first + 1) n) (since, refl) (fresh_seen since (first + 1) n)
 
 pub fresh_all : {V : Type 0} → FreshLanesAreAll V
-fresh_all {V} limits cells places fault_places keys h before after is legal parts own_events = record {
-  first = subst (λ (l : List (StoreLane V)). All (HasSeenWithin (first_seen before)) l) (sym is) (fresh_seen V cells places fault_places keys (first_seen before) 0 limits.lanes);
+fresh_all {V} limits cells slots fault_slots keys h before after is legal parts own_events = record {
+  first = subst (λ (l : List (StoreLane V)). All (HasSeenWithin (first_seen before)) l) (sym is) (fresh_seen V cells slots fault_slots keys (first_seen before) 0 limits.lanes);
   by_lanes = λ place event there.
       let at = cut_at h place event there in
       subst (λ (l : List (StoreLane V)). Contains (numbers_of l) event.lane) (sym is)
-      (fresh_number V cells places fault_places keys 0 limits.lanes event.lane (omega arith) (let l = (legal.each at.0 event at.1 at.2).lane in omega (arith, l)));
+      (fresh_number V cells slots fault_slots keys 0 limits.lanes event.lane (omega arith) (let l = (legal.each at.0 event at.1 at.2).lane in omega (arith, l)));
   parts = parts;
   own_events = own_events;
 }

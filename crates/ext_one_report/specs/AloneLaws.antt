@@ -92,7 +92,7 @@ module _ {V A : Type 0} (t : TreeSetting V A) where
 -- The lanes with which a store was opened are all its lanes, if afterwards all have seen beginnings of one legal
 -- history that has exactly each lane's own events.
 abbrev pub FreshLanesAreAll : Type 0 → Type 0
-FreshLanesAreAll V = (limits : Limits) (cells : CellsId) (places fault_places keys : List ℕ) (h : History)
+FreshLanesAreAll V = (limits : Limits) (cells : CellsId) (slots fault_slots keys : List ℕ) (h : History)
     (before after : List (StoreLane V))
-    → before ≡ map (fresh_store_lane places fault_places keys) (fresh_lanes cells 0 limits.lanes) → IsLegal limits h
+    → before ≡ map (fresh_store_lane slots fault_slots keys) (fresh_lanes cells 0 limits.lanes) → IsLegal limits h
     → All (HasSeenWithin h) after → All (HasJustItsOwn h) after → AreAllLanes h before after

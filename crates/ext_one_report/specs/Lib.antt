@@ -5,6 +5,6 @@ pub mod Changing
 pub mod FullRuns
 pub mod OneReport
 pub mod Shares
-pub mod ToldLacks
+pub mod ShownLacks
 pub mod Within
 pub mod WorkedPlans

@@ -10,7 +10,7 @@ use Rattle.ext_plan.specs.ReadPlans.{IsReadPlan}
 use Rattle.ext_parallel.specs.ParallelRun.{ParallelRun}
 use Rattle.ext_plain.specs.PlainRun.{plain_run}
 use Rattle.ext_races.specs.OneReports.{HasNearReport, HasOneReport}
-use Rattle.ext_one_report.specs.Shares.{SharedValues, shares_in, AreToldNear}
+use Rattle.ext_one_report.specs.Shares.{SharedValues, shares_in, AreNearResults}
 use Rattle.ext_one_report.specs.FullRuns.{LacksNothing}
 
 -- Each run of such a plan that lacks nothing reports of each node what the plain run does, on however many lanes and in
@@ -27,7 +27,7 @@ pub record AreNearReports (shares : ℕ → SharedValues) (here there : List Nod
   pub count : length here ≡ length there
   pub computed : sum_by (λ outcome. outcome.computed) here ≡ sum_by (λ outcome. outcome.computed) there
   pub near : (node : ℕ) (one other : NodeOutcome) → slice_get here node ≡ Some one → slice_get there node ≡ Some other
-      → AreToldNear (shares node) one other
+      → AreNearResults (shares node) one other
 
 -- Each run of such a plan that lacks nothing reports of each node what the plain run does, with this exception. So all
 -- lines of its report are the same, that of sums with them.

@@ -58,7 +58,7 @@ SharesNothing shared = (context : ℕ) (key : KeyValue) → shared context key �
 
 -- The results of a node are the same, except for which of its shared values it computed and which it found. Both counts
 -- together are equal, and if it shares nothing the results are exactly the same.
-pub record AreToldNear (shared : SharedValues) (here there : NodeOutcome) : Type 0 where
+pub record AreNearResults (shared : SharedValues) (here there : NodeOutcome) : Type 0 where
   pub same : record here { computed = 0; found = 0 } ≡ record there { computed = 0; found = 0 }
   pub counts : here.computed + here.found ≡ there.computed + there.found
   pub exact : SharesNothing shared → here ≡ there

@@ -9,7 +9,7 @@
 //!   (`specs/Shares`),
 //! - no two such nodes leave values in one context whose closes fail with different texts,
 //! - and no call and no close wants memory, a number, a key or a value (`specs/FullRuns`). The
-//!   results of a run tell that this is so (`told_lack_laws`).
+//!   results of a run tell that this is so (`shown_lack_laws`).
 //!
 //! `ext_run::run` promises it of what it writes.
 //!
@@ -25,10 +25,10 @@
 
 mod alone;
 mod report;
-mod told_lacks;
+mod shown_lacks;
 mod worked;
 
 pub use alone::{alone_laws, apart_laws};
 pub use report::report_laws;
-pub use told_lacks::told_lack_laws;
+pub use shown_lacks::shown_lack_laws;
 pub use worked::worked_plans;

@@ -99,9 +99,9 @@ seen_part h lane all = last_part h [] lane.cells.view.fronts (h, refl) all
 
 -- ---- the lanes of a run
 
-module _ (plan : PlanText) (store : StoreView) (cells : CellsId) (places fault_places keys : List ℕ) where
+module _ (plan : PlanText) (store : StoreView) (cells : CellsId) (slots fault_slots keys : List ℕ) where
   abbrev Fresh : ℕ → ℕ → List PlanLane
-  Fresh first n = map (fresh_store_lane places fault_places keys) (fresh_lanes cells first n)
+  Fresh first n = map (fresh_store_lane slots fault_slots keys) (fresh_lanes cells first n)
 
   fresh_kept : (first n : ℕ) → All (OwnKept plan store) (Fresh first n)
   fresh_kept first zero = All-nil (OwnKept plan store)
@@ -148,11 +148,11 @@ module _ (plan : PlanText) (lanes : ℕ) (results : List (ResultOf Fault)) (run 
       tree_relates (setting_of_plan plan store run.locks) (Moves plan store) (moves_same plan store)
       (moves_then plan store) (call_moves plan store) (moves_met plan store) (moves_sealed plan store) 16 0 run.first run.ran run.after run.run
 
-  from_fresh : AllZip (Moves plan store) (Fresh plan store store.id.cells store.id.places store.id.fault_places store.id.keys 0 lanes) ended
+  from_fresh : AllZip (Moves plan store) (Fresh plan store store.id.cells store.id.slots store.id.fault_slots store.id.keys 0 lanes) ended
   from_fresh = subst (λ (l : List PlanLane). AllZip (Moves plan store) l ended) run.fresh moved
 
   all_own : All (OwnKept plan store) ended
-  all_own = all_keep plan store store.id.cells store.id.places store.id.fault_places store.id.keys _ ended from_fresh (fresh_kept plan store store.id.cells store.id.places store.id.fault_places store.id.keys 0 lanes)
+  all_own = all_keep plan store store.id.cells store.id.slots store.id.fault_slots store.id.keys _ ended from_fresh (fresh_kept plan store store.id.cells store.id.slots store.id.fault_slots store.id.keys 0 lanes)
 
   part_of : (lane : PlanLane) → Contains ended lane → IsPrefix (seen_by lane.cells.view) h
   part_of lane there = seen_part h lane (All-contains (λ (l : PlanLane). All (λ front. IsPrefix front h) l.cells.view.fronts) ended lane run.shared.parts there)
@@ -171,7 +171,7 @@ module _ (plan : PlanText) (lanes : ℕ) (results : List (ResultOf Fault)) (run 
   storer e cell s there stores =
       let below : e.lane < store.id.cells.limits.lanes = legal_each (IsAllowed store.id.cells.limits) (λ (x : Event ℕ). x.lane < store.id.cells.limits.lanes) (λ before x allowed. allowed.lane) h run.shared.legal e there in
       let few : store.id.cells.limits.lanes ≡ lanes = ap (λ (l : Limits). l.lanes) run.store_is.limits in
-      let r = numbered plan store store.id.cells store.id.places store.id.fault_places store.id.keys 0 lanes ended from_fresh e.lane (omega arith) (omega (arith, below, few)) in
+      let r = numbered plan store store.id.cells store.id.slots store.id.fault_slots store.id.keys 0 lanes ended from_fresh e.lane (omega arith) (omega (arith, below, few)) in
       let n = r.0.cells.view.number in
       let mine : Contains (own n h) e = contains_filter (λ (x : Event ℕ). lane_of x == n) h e (eq-eqb e.lane n (sym r.2)) there in
       let seen = subst (λ (l : History). Contains l e) (All-contains (λ (l : PlanLane). own l.cells.view.number h ≡ own l.cells.view.number (seen_by l.cells.view)) ended r.0 run.shared.own_events r.1) mine in

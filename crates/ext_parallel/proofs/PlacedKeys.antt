@@ -94,10 +94,10 @@ module _ (plan : PlanText) where
   fresh_places (name ∷ names) zero = refl
   fresh_places (name ∷ names) (suc number) = fresh_places names number
 
-  all_fresh : (places fault_places keys : List ℕ) (lanes : List Lane) → All HasPlacedNone (map (fresh_store_lane {V = StoredValue} places fault_places keys) lanes)
-  all_fresh places fault_places keys [] = All-nil HasPlacedNone
-  all_fresh places fault_places keys (lane ∷ lanes) =
-      All-cons HasPlacedNone (fresh_store_lane places fault_places keys lane) (map (fresh_store_lane places fault_places keys) lanes) (fresh_places keys) (all_fresh places fault_places keys lanes)
+  all_fresh : (slots fault_slots keys : List ℕ) (lanes : List Lane) → All HasPlacedNone (map (fresh_store_lane {V = StoredValue} slots fault_slots keys) lanes)
+  all_fresh slots fault_slots keys [] = All-nil HasPlacedNone
+  all_fresh slots fault_slots keys (lane ∷ lanes) =
+      All-cons HasPlacedNone (fresh_store_lane slots fault_slots keys lane) (map (fresh_store_lane slots fault_slots keys) lanes) (fresh_places keys) (all_fresh slots fault_slots keys lanes)
 
   abbrev IsOfPlan : PlanLane → Type 0
   IsOfPlan lane = (number : ℕ) → placed_at lane.keys number ≡ true → IsPlaceOfPlan plan lane.keys number
@@ -114,8 +114,8 @@ module _ (plan : PlanText) where
       All-cons IsOfPlan b ys (λ number set. one_of_plan a b number (All-head HasPlacedNone a xs fresh) set (sets.0.placed number)) (all_of_plan xs ys sets.1 (All-tail HasPlacedNone a xs fresh))
 
   pub placed_by_run : (store : StoreView) (locks : LocksView) (lanes : List Lane) (depth node : ℕ) (first : Lanes StoredValue) (ran : List Ran) (after : Lanes StoredValue)
-      → first.first ≡ map (fresh_store_lane store.id.places store.id.fault_places store.id.keys) lanes → TreeRun (setting_of_plan plan store locks) depth node first ran after → PlaceKeysOfPlan plan after.first
+      → first.first ≡ map (fresh_store_lane store.id.slots store.id.fault_slots store.id.keys) lanes → TreeRun (setting_of_plan plan store locks) depth node first ran after → PlaceKeysOfPlan plan after.first
   placed_by_run store locks lanes depth node first ran after fresh run =
       all_of_plan first.first after.first
       (tree_relates (setting_of_plan plan store locks) SetsOfPlan sets_same sets_then (sets_call store) (sets_met store) (sets_sealed store) depth node first ran after run)
-      (subst (λ (l : List PlanLane). All HasPlacedNone l) (sym fresh) (all_fresh store.id.places store.id.fault_places store.id.keys lanes))
+      (subst (λ (l : List PlanLane). All HasPlacedNone l) (sym fresh) (all_fresh store.id.slots store.id.fault_slots store.id.keys lanes))

@@ -23,7 +23,7 @@ use Rattle.ext_locks.specs.Opening.{LocksView}
 abbrev pub run_tries : ℕ
 run_tries = 64
 
--- A store of the plan's contexts with `lanes` lanes, the plan's places for keys, a place for the value of each number
+-- A store of the plan's contexts with `lanes` lanes, the plan's places for keys, a slot for the value of each number
 -- and, if faults are kept, one for the fault of each.
 pub record IsStoreOf (plan : PlanText) (lanes : ℕ) (store : StoreView) : Type 0 where
   pub tree : store.tree ≡ ids_of_nodes plan.nodes
@@ -35,8 +35,8 @@ pub record IsStoreOf (plan : PlanText) (lanes : ℕ) (store : StoreView) : Type 
         keep_faults = plan.keep_faults;
       }
   pub key_places : length store.id.keys ≡ plan.key_places
-  pub places : length store.id.places ≡ most_numbers plan.size
-  pub fault_places : length store.id.fault_places ≡ fault_count plan.keep_faults (most_numbers plan.size)
+  pub slots : length store.id.slots ≡ most_numbers plan.size
+  pub fault_slots : length store.id.fault_slots ≡ fault_count plan.keep_faults (most_numbers plan.size)
   pub tries : store.tries ≡ run_tries
 
 -- Locks with the names that the plan's nodes name, for `lanes` lanes.

@@ -59,7 +59,7 @@ pub record ParallelRun (plan : PlanText) (lanes : ℕ) (results : List (ResultOf
   pub locks_are : IsLocksOf plan lanes locks
   -- The lanes have seen nothing before the run.
   pub first : Lanes StoredValue
-  pub fresh : first.first ≡ map (fresh_store_lane store.id.places store.id.fault_places store.id.keys)
+  pub fresh : first.first ≡ map (fresh_store_lane store.id.slots store.id.fault_slots store.id.keys)
       (fresh_lanes store.id.cells 0 lanes)
   pub fresh_locks : first.second ≡ locking.fresh_lanes locks.table lanes lanes
   -- The run of the tree, and its results.
@@ -93,7 +93,7 @@ pub record ParallelEndsEarly (plan : PlanText) (lanes : ℕ) (why : EngineFault)
   pub locks : LocksView
   pub locks_are : IsLocksOf plan lanes locks
   pub first : Lanes StoredValue
-  pub fresh : first.first ≡ map (fresh_store_lane store.id.places store.id.fault_places store.id.keys)
+  pub fresh : first.first ≡ map (fresh_store_lane store.id.slots store.id.fault_slots store.id.keys)
       (fresh_lanes store.id.cells 0 lanes)
   pub fresh_locks : first.second ≡ locking.fresh_lanes locks.table lanes lanes
   pub ends : EndsOver plan store locks first why

@@ -9,7 +9,7 @@ use ext_lifecycle::NodeResult;
 /// key or a place, or being shown what stands in its place. This is true if one of all faults and
 /// aborts of a node tells of a lack, also one whose text is not reported.
 ///
-/// If it is false, nothing was lacking (`ext_one_report::told_lack_laws`).
+/// If it is false, nothing was lacking (`ext_one_report::shown_lack_laws`).
 pub fn may_have_lacked(results: &[NodeResult]) -> bool
     ensures { result ≡ may_have_lacked (results_view results.now) }
 {

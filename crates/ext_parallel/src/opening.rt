@@ -26,7 +26,7 @@ pub(crate) fn open_store<V: StoreValue + Drop>(
     requires tree { NodesAreTree (plan_view plan.now) }
     requires places { HasKeyPlaces (plan_view plan.now) }
     ensures store { IfOk result (λ r. IsStoreOf (plan_view plan.now) lanes r.0) }
-    ensures lanes { IfOk result (λ r. r.1.items ≡ map (fresh_store_lane r.0.id.places r.0.id.fault_places r.0.id.keys) (fresh_lanes r.0.id.cells 0 lanes)) }
+    ensures lanes { IfOk result (λ r. r.1.items ≡ map (fresh_store_lane r.0.id.slots r.0.id.fault_slots r.0.id.keys) (fresh_lanes r.0.id.cells 0 lanes)) }
     ensures own_lanes { IfOk result (λ r. All (IsLaneOf r.0.id) r.1.items) }
     ensures closers { IfOk result (λ r. r.2.items ≡ closers_below r.0.id.cells (length r.0.tree)) }
 {

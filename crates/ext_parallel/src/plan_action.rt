@@ -6,7 +6,7 @@ ghost use Rattle.ext_parallel.specs.PlanActions.{AnswersClose};
 
 use crate::steps::StoredValue;
 use ext_closing::CloseAction;
-use ext_lifecycle::{FaultPlace, RunListener, tell_fault};
+use ext_lifecycle::{FaultOrigin, RunListener, tell_fault};
 use ext_model::{ContextNo, Fault};
 use ext_plan::close_fault;
 use std::alloc::Global;
@@ -54,7 +54,7 @@ impl<'a, L: RunListener> CloseAction<StoredValue<'a>> for PlanAction<'_, L> {
     fn close(&mut self, _number: u32, value: &StoredValue<'a>) -> Result<(), Fault> {
         let answer = answer_of(self.alloc, value);
         let fault = answer.as_ref().err();
-        tell_fault(self.listener, self.node, FaultPlace::Close, fault);
+        tell_fault(self.listener, self.node, FaultOrigin::Close, fault);
         answer
     }
 }

@@ -8,7 +8,7 @@ ghost use Rattle.ext_parallel.specs.PlanSuites.{asked};
 use crate::PlanAction;
 use crate::steps::{StoreSteps, StoredValue};
 use ext_engine::{Call, Callbacks, Kind, Mode, Outcome, Suite};
-use ext_lifecycle::{FaultPlace, NodeResult, RunListener, tell_fault};
+use ext_lifecycle::{FaultOrigin, NodeResult, RunListener, tell_fault};
 use ext_locks::{Held, LockMode, LockRequest, Resource};
 use ext_model::{ContextNo, LaneNo};
 use ext_plan::{Plan, PlanLock, StepKeys};
@@ -145,11 +145,11 @@ impl<'a, L: RunListener + Sync> Suite<StoredValue<'a>> for PlanSuite<'a, L> {
         let steps = StoreSteps::of(self.alloc, names);
         let path = store.tree().path(node);
         let end = steps.run(rt, store, lane, path.as_slice(), plan.steps_of(call));
-        let place = FaultPlace::Step {
+        let origin = FaultOrigin::Step {
             call: *call,
             step: end.passed,
         };
-        tell_fault(self.listener, node, place, end.outcome.verdict.fault());
+        tell_fault(self.listener, node, origin, end.outcome.verdict.fault());
         end.outcome
     }
 }

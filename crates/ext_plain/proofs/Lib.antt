@@ -12,7 +12,7 @@ pub mod Named
 pub mod Rooms
 pub mod Few
 pub mod Telling
-pub mod FaultsTold
+pub mod ReportedFaults
 pub mod Spared
 pub mod NodeCalls
 pub mod CallsDone

@@ -13,7 +13,7 @@ use Rattle.ext_plain.specs.InnerSteps.{IsSpared}
 use Rattle.ext_plain.specs.NodeCalls.{CallsEnd}
 use Rattle.ext_plain.specs.PlainRun.{may_lack, may_lack_memory, outcome_of, says_no_memory}
 use Rattle.ext_plain.specs.StepRuns.{no_memory}
-use Rattle.ext_plain.proofs.FaultsTold.{TellsFault, either-true, fault-told, some-more}
+use Rattle.ext_plain.proofs.ReportedFaults.{TellsFault, either-true, fault-told, some-more}
 
 -- a success is no want of memory
 pub passes : (e : Ending Fault) → is_successful e ≡ true → with_fault fault_text e ≢ no_memory

@@ -59,14 +59,14 @@ IsReasonOf plain.NumbersFull why = why ≡ reason events.NumbersFull
 IsReasonOf plain.Memory why = ⊥
 
 -- The reason why a call of the store was refused, if it was.
-abbrev pub Told : {A : Type 0} → Result A PlainFault → Option Reason → Type 0
-Told (Ok x) why = why ≡ None
-Told (Err plain.Busy) why = why ≡ Some (reason events.Busy)
-Told (Err plain.Closed) why = why ≡ Some (reason events.Closed)
-Told (Err (plain.Taken number)) why = why ≡ Some (reason (events.Standing number))
-Told (Err (plain.FaultStands number)) why = why ≡ Some (reason (events.FaultStanding number))
-Told (Err plain.NumbersFull) why = why ≡ Some (reason events.NumbersFull)
-Told (Err plain.Memory) why = ⊥
+abbrev pub IsReasonIfRefused : {A : Type 0} → Result A PlainFault → Option Reason → Type 0
+IsReasonIfRefused (Ok x) why = why ≡ None
+IsReasonIfRefused (Err plain.Busy) why = why ≡ Some (reason events.Busy)
+IsReasonIfRefused (Err plain.Closed) why = why ≡ Some (reason events.Closed)
+IsReasonIfRefused (Err (plain.Taken number)) why = why ≡ Some (reason (events.Standing number))
+IsReasonIfRefused (Err (plain.FaultStands number)) why = why ≡ Some (reason (events.FaultStanding number))
+IsReasonIfRefused (Err plain.NumbersFull) why = why ≡ Some (reason events.NumbersFull)
+IsReasonIfRefused (Err plain.Memory) why = ⊥
 
 -- The value is kept under this number.
 pub record IsKeptAs (value : ValueText) (old new : ValueState) (number : ℕ) : Type 0 where

@@ -1,7 +1,7 @@
 //! The calls of a node, each on the store of the run.
 use crate::setting::Setting;
 use crate::value_store::ValueStore;
-use ext_lifecycle::{Call, Caller, FaultPlace, Outcome, RunListener, tell_fault};
+use ext_lifecycle::{Call, Caller, FaultOrigin, Outcome, RunListener, tell_fault};
 use ext_model::ContextNo;
 use std::alloc::Global;
 
@@ -47,11 +47,16 @@ impl<L: RunListener> Caller for NodeCaller<'_, L> {
         let alloc = self.alloc;
         let end = self.store.run_steps(alloc, &keys, path.as_slice(), steps);
         self.lacked = self.has_lacked(end.lacked);
-        let place = FaultPlace::Step {
+        let origin = FaultOrigin::Step {
             call: *call,
             step: end.passed,
         };
-        tell_fault(self.listener, self.node, place, end.outcome.verdict.fault());
+        tell_fault(
+            self.listener,
+            self.node,
+            origin,
+            end.outcome.verdict.fault(),
+        );
         end.outcome
     }
 }

@@ -7,7 +7,7 @@ ghost use Rattle.ext_plain.specs.InnerPlaces.{SparesUnused};
 ghost use Rattle.ext_plain.specs.InnerSteps.{state_view, only_closeable, HasClosed};
 
 use crate::value_store::ValueStore;
-use ext_lifecycle::{FaultPlace, RunListener, tell_fault};
+use ext_lifecycle::{FaultOrigin, RunListener, tell_fault};
 use ext_model::{Closed, ContextNo, FallingNumbers};
 use ext_plan::{PlanValue, close_fault};
 use std::alloc::{AllocError, Global};
@@ -56,7 +56,7 @@ impl<'a> ValueStore<'a> {
         for number in numbers {
             if let Some(value) = self.closeable(*number) {
                 let fault = close_fault(alloc, &value)?;
-                tell_fault(listener, at, FaultPlace::Close, fault.as_ref());
+                tell_fault(listener, at, FaultOrigin::Close, fault.as_ref());
                 closes.add(fault);
             }
         }

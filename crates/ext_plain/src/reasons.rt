@@ -2,15 +2,15 @@
 ghost use Rattle.std.specs.Prelude.{◌≡◌, Err, IfOk, IfErr};
 ghost use Rattle.ext_model.specs.declared.plain_fault.PlainFault.TheVariants as plain;
 ghost use Rattle.ext_plain.specs.declared.lack.Lack.TheVariants as lacks;
-ghost use Rattle.ext_plain.specs.InnerSteps.{Told};
+ghost use Rattle.ext_plain.specs.InnerSteps.{IsReasonIfRefused};
 
 use crate::lack::Lack;
 use ext_model::PlainFault;
 use ext_plan::Reason;
 
 /// Why a call of the store was refused, if it was; or that its place lacked memory.
-pub fn told<T: Drop>(answer: Result<T, PlainFault>) -> Result<Option<Reason>, Lack>
-    ensures why { IfOk result (λ why. Told answer why) }
+pub fn reason_if_refused<T: Drop>(answer: Result<T, PlainFault>) -> Result<Option<Reason>, Lack>
+    ensures why { IfOk result (λ why. IsReasonIfRefused answer why) }
     ensures lacks { IfErr result (λ lack. lack ≡ lacks.Place) }
     ensures memory { IfErr result (λ _. answer ≡ Err plain.Memory) }
 {

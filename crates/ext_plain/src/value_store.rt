@@ -12,7 +12,7 @@ ghost use Rattle.ext_plain.specs.ValueStates.{after_act, why_refused, value_of, 
 
 use crate::lack::{Lack, StepLack};
 use crate::place_store::PlaceStore;
-use crate::reasons::told;
+use crate::reasons::reason_if_refused;
 use ext_model::{ContextNo, KeyNo, LaneNo, Look, PlainFault};
 use ext_plan::{PlanValue, Reason};
 use ext_tree::{Directory, Key};
@@ -121,7 +121,7 @@ impl<'a> ValueStore<'a> {
         ensures vacant { OnErr result (under (state_view self.old).store key at ≡ None) }
         ensures unchanged { OnErr result (state_view self.new ≡ state_view self.old) }
     {
-        told(self.store.put(at, key, number))
+        reason_if_refused(self.store.put(at, key, number))
     }
 
     /// Removes what stands there, or returns why it is refused.
@@ -129,7 +129,7 @@ impl<'a> ValueStore<'a> {
         ensures state { state_view self.new ≡ after_act (act.Remove (at, key)) (state_view self.old) }
         ensures why { result ≡ why_refused (act.Remove (at, key)) (state_view self.old) }
     {
-        match told(self.store.remove(at, key)) {
+        match reason_if_refused(self.store.remove(at, key)) {
             Ok(why) => why,
             // A remove takes no memory.
             Err(_) => unreachable!(),
@@ -145,7 +145,7 @@ impl<'a> ValueStore<'a> {
         ensures unchanged { OnErr result (state_view self.new ≡ state_view self.old) }
         ensures won { IfOk result (λ why. why ≡ None → under (state_view self.new).store key at ≡ Some (slot.Claim any_lane)) }
     {
-        told(self.store.claim(at, key, LANE))
+        reason_if_refused(self.store.claim(at, key, LANE))
     }
 
     /// Stores a number in a claimed place.

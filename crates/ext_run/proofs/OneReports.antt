@@ -7,9 +7,9 @@ use Rattle.ext_plan_reading.specs.Plans.{PlanText}
 use Rattle.ext_plan_reading.specs.ReadPlans.{IsReadPlan}
 use Rattle.ext_races.specs.OneReports.{HasNearReport, HasOneReport}
 use Rattle.ext_one_report.specs.OneReport.{AreNearReports}
-use Rattle.ext_one_report.specs.Shares.{AreToldNear, SharedValues, shares_in}
+use Rattle.ext_one_report.specs.Shares.{AreNearResults, SharedValues, shares_in}
 use Rattle.ext_one_report.proofs.Near.{near_report, one_report}
-use Rattle.ext_one_report.proofs.ToldLacks.{tells_lacks}
+use Rattle.ext_one_report.proofs.ShownLacks.{tells_lacks}
 use Rattle.ext_plan_reading.specs.ReadPlans.{ids_of_nodes}
 use Rattle.ext_report.specs.Report.{sums_of}
 use Rattle.ext_report.specs.declared.form.ReportForm.{ReportForm}
@@ -28,7 +28,7 @@ near_itself shares results = record {
   near = λ node one other is is_too.
       let both : Some one ≡ Some other = sym is ∙ is_too in
       let same : one ≡ other = cc both in
-      subst (λ there. AreToldNear (shares node) one there) same (record { same = refl; counts = refl; exact = λ nothing. refl });
+      subst (λ there. AreNearResults (shares node) one there) same (record { same = refl; counts = refl; exact = λ nothing. refl });
 }
 
 module _ (plan : PlanText) (lanes : ℕ) (results : List NodeOutcome) (lacked : Bool) (nothing : lacked ≡ false) (read : IsReadPlan plan) where

@@ -18,8 +18,8 @@ use Rattle.json.specs.Print.{print}
 use Rattle.ext_ids.specs.Grammar.{Pair, id_text}
 use Rattle.ext_lifecycle.specs.declared.call.Kind.{Kind}
 use Rattle.ext_lifecycle.specs.declared.call.Kind.TheVariants as kinds
-use Rattle.ext_lifecycle.specs.declared.fault_place.FaultPlace.{FaultPlace}
-use Rattle.ext_lifecycle.specs.declared.fault_place.FaultPlace.TheVariants as places
+use Rattle.ext_lifecycle.specs.declared.fault_origin.FaultOrigin.{FaultOrigin}
+use Rattle.ext_lifecycle.specs.declared.fault_origin.FaultOrigin.TheVariants as origins
 use Rattle.ext_races.specs.RaceJson.{text_member}
 use Rattle.ext_report.specs.JsonLines.{count_member}
 use Rattle.ext_run.specs.declared.failures.NodeFault.{NodeFault}
@@ -48,15 +48,15 @@ module _ (ids : List Id) where
   call_members kinds.AfterEach from index = callback_members (codes "after_each") index from
   call_members kinds.AfterAll from index = callback_members (codes "after_all") index from
 
-  abbrev pub place_members : FaultPlace → List Token
-  place_members (places.Step call step) = call_members call.kind call.from call.index ++ count_member (codes "step") step
-  place_members places.Close = plain_members (codes "close") ++ null_member (codes "step")
+  abbrev pub origin_members : FaultOrigin → List Token
+  origin_members (origins.Step call step) = call_members call.kind call.from call.index ++ count_member (codes "step") step
+  origin_members origins.Close = plain_members (codes "close") ++ null_member (codes "step")
 
   -- The object of a fault of the node with this id.
   unfoldable pub failure_object : List Pair → NodeFault → List Token
   failure_object id fault =
       begin_object ∷ (text_member (codes "id") (id_text id) ++ text_member (codes "fault") (string_bytes fault.text)
-      ++ place_members fault.place ++ end_object ∷ [])
+      ++ origin_members fault.origin ++ end_object ∷ [])
 
   abbrev pub failure_json : List Pair → NodeFault → List ℕ
   failure_json id fault = print (failure_object id fault) ++ codes "\n"

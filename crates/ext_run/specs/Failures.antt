@@ -1,4 +1,4 @@
--- What is listed once more of nodes that failed or were aborted: a line `ID: FAULT (PLACE)` for each fault that was
+-- What is listed once more of nodes that failed or were aborted: a line `ID: FAULT (ORIGIN)` for each fault that was
 -- reported for a node. Texts are lists of bytes. JUnit has no such list.
 use Rattle.std.specs.Prelude.{◌≡◌, ℕ, zero, suc, true, ◌==◌, codes, List, [], ◌∷◌, ◌++◌, length, if◌then◌else◌, string_bytes}
 use Rattle.std.specs.Fmt.{decimal}
@@ -6,24 +6,24 @@ use Rattle.std.specs.List.{flat_map}
 use Rattle.ext_ids.specs.Grammar.{Pair, id_text}
 use Rattle.ext_lifecycle.specs.declared.call.Kind.{Kind}
 use Rattle.ext_lifecycle.specs.declared.call.Kind.TheVariants as kinds
-use Rattle.ext_lifecycle.specs.declared.fault_place.FaultPlace.{FaultPlace}
-use Rattle.ext_lifecycle.specs.declared.fault_place.FaultPlace.TheVariants as places
+use Rattle.ext_lifecycle.specs.declared.fault_origin.FaultOrigin.{FaultOrigin}
+use Rattle.ext_lifecycle.specs.declared.fault_origin.FaultOrigin.TheVariants as origins
 use Rattle.ext_tree.specs.Trees.{Id, id_at}
 use Rattle.ext_run.specs.declared.failures.NodeFault.{NodeFault}
 use Rattle.ext_run.specs.declared.failures.ToldFaults.{ToldFaults}
 
 -- ---- what is kept
 
--- The node's fault, with this place and text, is appended to the others.
-abbrev pub IsAdded : List NodeFault → List NodeFault → ℕ → FaultPlace → List ℕ → Type 0
-IsAdded old new node place text = (fault : NodeFault) × (new ≡ old ++ fault ∷ []) × (fault.node ≡ node)
-    × (fault.place ≡ place) × (string_bytes fault.text ≡ text)
+-- The node's fault, with this origin and text, is appended to the others.
+abbrev pub IsAdded : List NodeFault → List NodeFault → ℕ → FaultOrigin → List ℕ → Type 0
+IsAdded old new node origin text = (fault : NodeFault) × (new ≡ old ++ fault ∷ []) × (fault.node ≡ node)
+    × (fault.origin ≡ origin) × (string_bytes fault.text ≡ text)
 
 -- The fault is appended to the others, or it is lost, and that is noted.
-pub data NotesFault (old new : ToldFaults) (node : ℕ) (place : FaultPlace) (text : List ℕ) : Type 0 where
-  added : IsAdded old.faults.items new.faults.items node place text → new.lost ≡ old.lost
-      → NotesFault old new node place text
-  lost : new.faults.items ≡ old.faults.items → new.lost ≡ true → NotesFault old new node place text
+pub data NotesFault (old new : ToldFaults) (node : ℕ) (origin : FaultOrigin) (text : List ℕ) : Type 0 where
+  added : IsAdded old.faults.items new.faults.items node origin text → new.lost ≡ old.lost
+      → NotesFault old new node origin text
+  lost : new.faults.items ≡ old.faults.items → new.lost ≡ true → NotesFault old new node origin text
 
 -- ---- what is listed
 
@@ -40,15 +40,15 @@ module _ (ids : List Id) where
   call_text kinds.AfterEach from index = callback_of (codes "after_each") index from
   call_text kinds.AfterAll from index = codes "after_all " ++ decimal index
 
-  -- For instance `before_each 0 of [engine:x], step 1`. A fault at the end of a context has the place `close`.
-  abbrev pub place_text : FaultPlace → List ℕ
-  place_text (places.Step call step) = call_text call.kind call.from call.index ++ codes ", step " ++ decimal step
-  place_text places.Close = codes "close"
+  -- For instance `before_each 0 of [engine:x], step 1`. A fault at the end of a context has the origin `close`.
+  abbrev pub origin_text : FaultOrigin → List ℕ
+  origin_text (origins.Step call step) = call_text call.kind call.from call.index ++ codes ", step " ++ decimal step
+  origin_text origins.Close = codes "close"
 
-  -- `ID: FAULT (PLACE)` and a line feed.
+  -- `ID: FAULT (ORIGIN)` and a line feed.
   abbrev pub failure_line : List Pair → NodeFault → List ℕ
   failure_line id fault =
-      id_text id ++ codes ": " ++ string_bytes fault.text ++ codes " (" ++ place_text fault.place ++ codes ")\n"
+      id_text id ++ codes ": " ++ string_bytes fault.text ++ codes " (" ++ origin_text fault.origin ++ codes ")\n"
 
 -- What is listed of a fault of the node with this id.
 abbrev pub Listing : Type 0

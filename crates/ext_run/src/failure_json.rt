@@ -3,11 +3,11 @@ ghost use Rattle.std.specs.Prelude.{◌≡◌, ◌++◌, [], string_bytes, IfOk,
 ghost use Rattle.json.specs.Print.{print};
 ghost use Rattle.ext_races.specs.RaceJson.{text_member};
 ghost use Rattle.ext_report.specs.JsonLines.{count_member};
-ghost use Rattle.ext_run.specs.FailureJson.{call_members, callback_members, failure_json, failure_object, null_member, place_members, plain_members};
+ghost use Rattle.ext_run.specs.FailureJson.{call_members, callback_members, failure_json, failure_object, null_member, origin_members, plain_members};
 
 use crate::failures::{NodeFault, write_id};
 use ext_ids::UniqueId;
-use ext_lifecycle::{Call, FaultPlace, Kind};
+use ext_lifecycle::{Call, FaultOrigin, Kind};
 use ext_model::ContextNo;
 use ext_tree::Tree;
 use json::Writer;
@@ -43,7 +43,7 @@ fn object_of(
     writer.begin_object()?;
     write_text(&mut writer, "id", name.as_str())?;
     write_text(&mut writer, "fault", fault.text.as_str())?;
-    write_place(&mut writer, alloc, tree, fault.place)?;
+    write_origin(&mut writer, alloc, tree, fault.origin)?;
     writer.end_object()?;
     Ok(written(writer))
 }
@@ -59,22 +59,22 @@ fn written(writer: Writer) -> String
     }
 }
 
-/// Writes the members that tell the place of a fault.
-fn write_place(
+/// Writes the members that tell the origin of a fault.
+fn write_origin(
     writer: &mut Writer,
     alloc: Global,
     tree: &Tree,
-    place: FaultPlace,
+    origin: FaultOrigin,
 ) -> Result<(), AllocError>
     ensures before { OnOk result (writer.new.before ≡ writer.old.before) }
-    ensures tokens { OnOk result (writer.new.tokens ≡ writer.old.tokens ++ place_members tree.now place) }
+    ensures tokens { OnOk result (writer.new.tokens ≡ writer.old.tokens ++ origin_members tree.now origin) }
 {
-    match place {
-        FaultPlace::Step { call, step } => {
+    match origin {
+        FaultOrigin::Step { call, step } => {
             write_call(writer, alloc, tree, call)?;
             write_count(writer, "step", step)
         }
-        FaultPlace::Close => {
+        FaultOrigin::Close => {
             write_plain(writer, "close")?;
             write_null(writer, "step")
         }

@@ -4,7 +4,7 @@ ghost use Rattle.ext_lifecycle.specs.FaultTexts.{fault_text};
 ghost use Rattle.ext_plan_reading.specs.Plans.{plan_view};
 ghost use Rattle.ext_report.specs.Groups.{shown};
 ghost use Rattle.ext_run.specs.FailureForms.{line_in, lost_as, lost_line, told_as};
-ghost use Rattle.ext_run.specs.Failures.{IsAdded, NotesFault, call_text, callback_of, failure_line, failures_of, place_text};
+ghost use Rattle.ext_run.specs.Failures.{IsAdded, NotesFault, call_text, callback_of, failure_line, failures_of, origin_text};
 ghost use Rattle.ext_run.specs.InnerFailures.{lines_of, nodes_of};
 ghost use Rattle.ext_tree.specs.Trees.{id_at};
 ghost use Rattle.ext_ids.specs.Grammar.{id_text};
@@ -12,7 +12,7 @@ ghost use Rattle.ext_ids.specs.Grammar.{id_text};
 use crate::failure_json::write_object;
 use crate::list_form::ListForm;
 use ext_ids::UniqueId;
-use ext_lifecycle::{Call, FaultPlace, Kind, NodeResult, RunListener};
+use ext_lifecycle::{Call, FaultOrigin, Kind, NodeResult, RunListener};
 use ext_model::{ContextNo, Fault};
 use ext_plan_reading::Plan;
 use ext_report::grouped;
@@ -26,7 +26,7 @@ pub struct NodeFault {
     /// The index of the node in the plan.
     pub node: ContextNo,
     /// Where in the node it came.
-    pub place: FaultPlace,
+    pub origin: FaultOrigin,
     /// The fault's text, `no memory` for `Fault::Memory`.
     pub text: String,
 }
@@ -54,10 +54,10 @@ impl ToldFaults {
 
     /// Adds a fault of a node after the others. Takes memory for its text. If that is refused, the
     /// fault is lost and `lost` is set.
-    pub fn note(&mut self, alloc: Global, node: ContextNo, place: FaultPlace, fault: &Fault)
-        ensures { NotesFault self.old self.new node place (fault_text fault.now) }
+    pub fn note(&mut self, alloc: Global, node: ContextNo, origin: FaultOrigin, fault: &Fault)
+        ensures { NotesFault self.old self.new node origin (fault_text fault.now) }
     {
-        if self.push(alloc, node, place, fault).is_err() {
+        if self.push(alloc, node, origin, fault).is_err() {
             self.lost = true;
         }
     }
@@ -67,15 +67,15 @@ impl ToldFaults {
         &mut self,
         alloc: Global,
         node: ContextNo,
-        place: FaultPlace,
+        origin: FaultOrigin,
         fault: &Fault,
     ) -> Result<(), AllocError>
         ensures lost { self.new.lost ≡ self.old.lost }
-        ensures added { OnOk result (IsAdded self.old.faults.items self.new.faults.items node place (fault_text fault.now)) }
+        ensures added { OnOk result (IsAdded self.old.faults.items self.new.faults.items node origin (fault_text fault.now)) }
         ensures kept { OnErr result (self.new.faults.items ≡ self.old.faults.items) }
     {
         let text = text_of(alloc, fault)?;
-        self.faults.push(NodeFault { node, place, text })?;
+        self.faults.push(NodeFault { node, origin, text })?;
         Ok(())
     }
 }
@@ -124,9 +124,11 @@ impl<R: Wait, L: RunListener> RunListener for Failures<'_, R, L> {
     }
 
     /// Keeps the fault and forwards it. It may wait for other threads that add one.
-    fn faulted(&self, node: ContextNo, place: FaultPlace, fault: &Fault) {
-        self.told.lock(self.rt).note(self.alloc, node, place, fault);
-        self.listener.faulted(node, place, fault);
+    fn faulted(&self, node: ContextNo, origin: FaultOrigin, fault: &Fault) {
+        self.told
+            .lock(self.rt)
+            .note(self.alloc, node, origin, fault);
+        self.listener.faulted(node, origin, fault);
     }
 
     fn ended(&self, ran: &NodeResult, nodes: usize) {
@@ -138,7 +140,7 @@ impl<R: Wait, L: RunListener> RunListener for Failures<'_, R, L> {
 /// order of the plan, and the faults of each node in the order in which they were reported. A last
 /// line says that faults were lost, if some were (`lost_line`).
 ///
-/// A line is `ID: FAULT (PLACE)`. The place is for instance `test, step 1` or `before_each 0 of
+/// A line is `ID: FAULT (ORIGIN)`. The origin is for instance `test, step 1` or `before_each 0 of
 /// [engine:x], step 1`, or `close` for a value that could not be closed. As JSON it is an object
 /// with the members `id`, `fault`, `call`, `index`, `of` and `step`, in this order. `call` is the
 /// field of a callback, `test` or `close`. `index` is the callback's number among those of its
@@ -264,20 +266,20 @@ fn write_failure(
     text.push_str(": ")?;
     text.push_str(fault.text.as_str())?;
     text.push_str(" (")?;
-    write_place(text, tree, fault.place)?;
+    write_origin(text, tree, fault.origin)?;
     text.push_str(")\n")
 }
 
-/// Writes the place of a fault at the end of a text.
-fn write_place(text: &mut String, tree: &Tree, place: FaultPlace) -> Result<(), AllocError>
-    ensures { OnOk result (string_bytes text.new ≡ string_bytes text.old ++ place_text tree.now place) }
+/// Writes the origin of a fault at the end of a text.
+fn write_origin(text: &mut String, tree: &Tree, origin: FaultOrigin) -> Result<(), AllocError>
+    ensures { OnOk result (string_bytes text.new ≡ string_bytes text.old ++ origin_text tree.now origin) }
 {
-    match place {
-        FaultPlace::Step { call, step } => {
+    match origin {
+        FaultOrigin::Step { call, step } => {
             write_call(text, tree, call)?;
             write!(text, ", step {step}")
         }
-        FaultPlace::Close => text.push_str("close"),
+        FaultOrigin::Close => text.push_str("close"),
     }
 }
 

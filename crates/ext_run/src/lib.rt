@@ -35,7 +35,7 @@ mod runs;
 pub use checks::{check, check_races, explain_keys};
 pub use drawing::draw;
 pub use ext_ids::{IdFault, PartFault};
-pub use ext_lifecycle::{Call, FaultPlace, Kind, NoListener, NodeResult, RunListener, Status};
+pub use ext_lifecycle::{Call, FaultOrigin, Kind, NoListener, NodeResult, RunListener, Status};
 pub use ext_model::Size;
 pub use ext_parallel::EngineFault;
 pub use ext_plain::plain_run_laws;

@@ -1,12 +1,12 @@
 //! What is known of a node while a run lasts.
-use ext_table::{FaultPlace, LeftOut, Status};
+use ext_table::{FaultOrigin, LeftOut, Status};
 use std::alloc::Global;
 use std::time::{Duration, Instant};
 
 /// A fault of a node, and where in the node it came.
 #[derive(Drop)]
 pub(crate) struct ToldFault {
-    pub(crate) place: FaultPlace,
+    pub(crate) origin: FaultOrigin,
     pub(crate) text: String,
 }
 

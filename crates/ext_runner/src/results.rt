@@ -6,7 +6,7 @@ ghost use Rattle.ext_runner.specs.InnerTelling.{extra_of, has_come, indented, in
 use crate::node_log::{NodeLog, ToldFault};
 use crate::run_log::{Listed, State};
 use ext_report::{Extra, NodeResult};
-use ext_table::{ContextNo, Fault, FaultPlace, Kind, LeftOut};
+use ext_table::{ContextNo, Fault, FaultOrigin, Kind, LeftOut};
 use ext_tree::Tree;
 use std::alloc::{AllocError, Global};
 use std::time::Duration;
@@ -162,22 +162,22 @@ fn text_of_all(
         if at > 0 {
             text.push('\n')?;
         }
-        write_place(&mut text, listed, node, fault.place)?;
+        write_origin(&mut text, listed, node, fault.origin)?;
         text.push_str(fault.text.as_str())?;
     }
     Ok(text)
 }
 
 /// Writes where in this node a fault came, unless it came in the test itself.
-fn write_place(
+fn write_origin(
     text: &mut String,
     listed: &[Listed],
     node: ContextNo,
-    place: FaultPlace,
+    origin: FaultOrigin,
 ) -> Result<(), AllocError> {
-    match place {
-        FaultPlace::Close => text.push_str("close: "),
-        FaultPlace::Step { call, .. } => match call.kind {
+    match origin {
+        FaultOrigin::Close => text.push_str("close: "),
+        FaultOrigin::Step { call, .. } => match call.kind {
             Kind::Test => Ok(()),
             kind => {
                 text.push_str(word_of(kind))?;

@@ -2,7 +2,7 @@
 use crate::live::{ended_line, progress_line, slow_line};
 use crate::node_log::{NodeLog, ToldFault};
 use ext_table::{
-    Call, ContextNo, Fault, FaultPlace, LeftOut, NodeResult, RunListener, TableListener,
+    Call, ContextNo, Fault, FaultOrigin, LeftOut, NodeResult, RunListener, TableListener,
 };
 use std::alloc::{AllocError, Global};
 use std::sync::{Condvar, CondvarTimeouts, Mutex, Wait};
@@ -163,8 +163,8 @@ impl<R: Wait + Clock> RunListener for RunLog<'_, R> {
         }
     }
 
-    fn faulted(&self, node: ContextNo, place: FaultPlace, fault: &Fault) {
-        let told = told_fault(self.rt.alloc(), place, fault);
+    fn faulted(&self, node: ContextNo, origin: FaultOrigin, fault: &Fault) {
+        let told = told_fault(self.rt.alloc(), origin, fault);
         let mut state = self.state.lock(self.threads);
         let kept = match (told, state.nodes.get_mut(node)) {
             (Ok(told), Some(log)) => log.faults.push(told).is_ok(),
@@ -197,10 +197,10 @@ impl<R: Wait + Clock> RunListener for RunLog<'_, R> {
     }
 }
 
-/// The fault with its place. Takes memory for its text.
-fn told_fault(alloc: Global, place: FaultPlace, fault: &Fault) -> Result<ToldFault, AllocError> {
+/// The fault with its origin. Takes memory for its text.
+fn told_fault(alloc: Global, origin: FaultOrigin, fault: &Fault) -> Result<ToldFault, AllocError> {
     Ok(ToldFault {
-        place,
+        origin,
         text: format!(in alloc; "{fault}")?,
     })
 }

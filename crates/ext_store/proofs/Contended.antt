@@ -3,7 +3,7 @@ use Rattle.std.proofs.Common.{◌≡◌, ◌∙◌, ℕ, List, sym, ap, refl, Op
 use Rattle.std.specs.Prelude.{Result, Ok, Err, MatchResult}
 use Rattle.ext_model.specs.declared.event.Act.{Act}
 use Rattle.ext_values.specs.Known.{Known}
-use Rattle.ext_values.specs.Places.{IsNumber}
+use Rattle.ext_values.specs.Slots.{IsNumber}
 use Rattle.ext_cells.specs.declared.refusal.CellRefusal.{CellRefusal}
 use Rattle.ext_cells.specs.declared.refusal.CellRefusal.TheVariants as cell
 use Rattle.ext_cells.specs.Lanes.{Lane}
@@ -12,7 +12,7 @@ use Rattle.ext_store_core.specs.declared.fault.Refusal.{Refusal}
 use Rattle.ext_store_core.specs.declared.fault.Refusal.TheVariants as refusal
 use Rattle.ext_store.specs.declared.fault.KeepFault.{KeepFault}
 use Rattle.ext_store.specs.declared.fault.KeepFault.TheVariants as fault
-use Rattle.ext_store.specs.InnerKeeping.{IsOfCount, PlacesDrawn, keep_fault}
+use Rattle.ext_store.specs.InnerKeeping.{IsOfCount, SlotsDrawn, keep_fault}
 use Rattle.ext_store.specs.LaneCalls.{with_kept}
 
 -- why a call was refused that hands something back, or else this
@@ -43,11 +43,11 @@ of_count cell.BadLimit is e = absurd is
 same_fault : {V : Type 0} (back value : V) (a b : KeepFault) → (let x : Result ℕ (V × KeepFault) = Err (back, a) in let y : Result ℕ (V × KeepFault) = Err (value, b) in x ≡ y) → a ≡ b
 same_fault back value a b e = ap (cause a) e
 
-pub keep_last : {V : Type 0} (tries : ℕ) (before after : Lane) (act : Act ℕ) (places : List ℕ) (value : V) (known learnt : List (Known V)) (drawn : Result ℕ CellRefusal) (r : Result ℕ (V × KeepFault))
-    → MatchResult drawn (IsNumber places) IsOfCount → PlacesDrawn value drawn known learnt r → ComesLast cell.Contended tries before after act drawn → ComesLast (value, fault.Contended) tries before after act r
-keep_last tries before after act places value known learnt drawn (Ok number) fits placed last e = absurd (cc e)
-keep_last tries before after act places value known learnt (Ok number) (Err (back, why)) fits placed last e = let not : fault.Unplaced ≡ fault.Contended = sym placed.1.0 ∙ same_fault back value why fault.Contended e in absurd (cc not)
-keep_last tries before after act places value known learnt (Err refused) (Err (back, why)) fits placed last e = last (ap Err (of_count refused fits (sym placed.1.0 ∙ same_fault back value why fault.Contended e)))
+pub keep_last : {V : Type 0} (tries : ℕ) (before after : Lane) (act : Act ℕ) (slots : List ℕ) (value : V) (known learnt : List (Known V)) (drawn : Result ℕ CellRefusal) (r : Result ℕ (V × KeepFault))
+    → MatchResult drawn (IsNumber slots) IsOfCount → SlotsDrawn value drawn known learnt r → ComesLast cell.Contended tries before after act drawn → ComesLast (value, fault.Contended) tries before after act r
+keep_last tries before after act slots value known learnt drawn (Ok number) fits placed last e = absurd (cc e)
+keep_last tries before after act slots value known learnt (Ok number) (Err (back, why)) fits placed last e = let not : fault.Unplaced ≡ fault.Contended = sym placed.1.0 ∙ same_fault back value why fault.Contended e in absurd (cc not)
+keep_last tries before after act slots value known learnt (Err refused) (Err (back, why)) fits placed last e = last (ap Err (of_count refused fits (sym placed.1.0 ∙ same_fault back value why fault.Contended e)))
 
 -- want of memory is another answer
 pub unkept_last : {V : Type 0} (tries : ℕ) (before after : Lane) (act : Act ℕ) (value back : V) → (let r : Result ℕ (V × KeepFault) = Err (back, fault.Memory) in ComesLast (value, fault.Contended) tries before after act r)

@@ -11,7 +11,7 @@ use Rattle.ext_model.specs.CallActs.{LaneView, Calls, IsHeld, MayStoreNow}
 use Rattle.ext_history.proofs.Legal.{legal_begun}
 use Rattle.ext_history.proofs.Composed.{answer_point, point_legal}
 use Rattle.ext_tree.proofs.KeyPlacing.{keeps_all}
-use Rattle.ext_values.specs.Known.{Known, KeepsKnown, LearnsOne, known_at, places_of}
+use Rattle.ext_values.specs.Known.{Known, KeepsKnown, LearnsOne, known_at, slots_of}
 use Rattle.ext_cells.specs.declared.refusal.CellRefusal.{CellRefusal}
 use Rattle.ext_cells.specs.Lanes.{CellsId, Lane}
 use Rattle.ext_cells.specs.CellCalls as cells
@@ -27,7 +27,7 @@ use Rattle.ext_store.specs.declared.computed.Compute.{Compute}
 use Rattle.ext_store.specs.Stores.{StoreView, StoreLane, IsKeptBy, IsLaneOf, StillKeeps, context_cells}
 use Rattle.ext_store.specs.LaneCalls.{Frame, KeepFails, KeepsFault, KeepsNoFault, KnowsUnkept}
 use Rattle.ext_store.specs.Computing.{ClaimsAlong, ClaimsMissing, IsFaultless, IsFaultlessUnused, with_factory}
-use Rattle.ext_store.specs.InnerKeeping.{keep_fault, IsPlaced, PlacesDrawn}
+use Rattle.ext_store.specs.InnerKeeping.{keep_fault, IsInSlot, SlotsDrawn}
 use Rattle.ext_store.proofs.Keeping.{quiet_keeps, unplaced_keeps, drew, drew_none}
 use Rattle.ext_store.proofs.NewDraws.{drawn_apart, draws_new, knows_undrawn}
 use Rattle.ext_store.proofs.Frames.{framed, no_frame}
@@ -54,43 +54,43 @@ module _ {V : Type 0} (store : StoreView) (tries : ℕ) (same : tries ≡ store.
   abbrev b : StoreLane V
   b = record { cells = after; known = a.known; faults = notes; keys = a.keys }
 
-  own_lane : places_of notes ≡ places_of a.faults → IsLaneOf store.id b
-  own_lane places = record { cells = is ∙ mine.cells; places = mine.places; fault_places = places ∙ mine.fault_places; keys = mine.keys }
+  own_lane : slots_of notes ≡ slots_of a.faults → IsLaneOf store.id b
+  own_lane slots = record { cells = is ∙ mine.cells; slots = mine.slots; fault_slots = slots ∙ mine.fault_slots; keys = mine.keys }
 
-  placed : (number : ℕ) → cells.Answers tries a.cells after cells.number_acts (cells.number_reply a.cells) (Ok number) → MayStoreNow after.view number → IsPlaced why a.faults notes number → FaultParts store why a b (Ok number)
-  placed number answers storable is_placed =
+  placed : (number : ℕ) → cells.Answers tries a.cells after cells.number_acts (cells.number_reply a.cells) (Ok number) → MayStoreNow after.view number → IsInSlot why a.faults notes number → FaultParts store why a b (Ok number)
+  placed number answers storable is_in_slot =
       let drawn = drew store tries a.cells after same number answers in
       record {
-        answer = record { drawn = drawn; learnt = is_placed.learnt; storable = storable };
+        answer = record { drawn = drawn; learnt = is_in_slot.learnt; storable = storable };
         known = refl;
         apart = λ m kept. drawn_apart a.cells after number m lawful drawn kept.storable;
-        frame = framed store.id a b mine (own_lane is_placed.learnt.places) (λ n v known. known) is_placed.known (keeps_all a.keys) (Keep number ∷ []) drawn.calls (unplaced_keeps a.cells.cells.limits a b number drawn.calls refl);
+        frame = framed store.id a b mine (own_lane is_in_slot.learnt.slots) (λ n v known. known) is_in_slot.known (keeps_all a.keys) (Keep number ∷ []) drawn.calls (unplaced_keeps a.cells.cells.limits a b number drawn.calls refl);
       }
 
   module _ (back : Fault) (handed : back ≡ why) where
-    nothing : (acts : List (Act ℕ)) → Calls a.cells.cells.limits a.cells.view after.view acts → StillKeeps a b → places_of notes ≡ places_of a.faults → KeepsKnown a.faults notes → (cause : KeepFault) → KeepFails store a.cells after cause
+    nothing : (acts : List (Act ℕ)) → Calls a.cells.cells.limits a.cells.view after.view acts → StillKeeps a b → slots_of notes ≡ slots_of a.faults → KeepsKnown a.faults notes → (cause : KeepFault) → KeepFails store a.cells after cause
         → KnowsUnkept a.cells.view after.view a.faults notes cause → FaultParts store why a b (Err (back, cause))
-    nothing acts calls keeps places knows cause fails learnt = record {
+    nothing acts calls keeps slots knows cause fails learnt = record {
       answer = record { handed_back = handed; faults = learnt; fails = fails };
       known = refl;
       apart = tt;
-      frame = framed store.id a b mine (own_lane places) (λ n v known. known) knows (keeps_all a.keys) acts calls keeps;
+      frame = framed store.id a b mine (own_lane slots) (λ n v known. known) knows (keeps_all a.keys) acts calls keeps;
     }
 
     unplaced : (number : ℕ) → cells.Answers tries a.cells after cells.number_acts (cells.number_reply a.cells) (Ok number) → LearnsOne a.faults notes number → KeepsKnown a.faults notes → FaultParts store why a b (Err (back, Unplaced))
     unfolding KeepFails
     unplaced number answers stands knows =
         let drawn = drew store tries a.cells after same number answers in
-        nothing (Keep number ∷ []) drawn.calls (unplaced_keeps a.cells.cells.limits a b number drawn.calls refl) stands.1.places knows Unplaced (number, drawn) (number, draws_new a.cells after number lawful drawn, stands)
+        nothing (Keep number ∷ []) drawn.calls (unplaced_keeps a.cells.cells.limits a b number drawn.calls refl) stands.1.slots knows Unplaced (number, drawn) (number, draws_new a.cells after number lawful drawn, stands)
 
     undrawn : (cause : CellRefusal) → cells.Answers tries a.cells after cells.number_acts (cells.number_reply a.cells) (Err cause) → notes ≡ a.faults → FaultParts store why a b (Err (back, keep_fault cause))
     undrawn cause answers still =
         let quiet = drew_quiet tries a.cells after cause answers in
-        nothing [] quiet (quiet_keeps a.cells.cells.limits a b quiet refl) (ap (λ l. places_of l) still) (λ number v known. ap (λ l. known_at l number) still ∙ known) (keep_fault cause) (drew_none store tries a.cells after same cause answers)
+        nothing [] quiet (quiet_keeps a.cells.cells.limits a b quiet refl) (ap (λ l. slots_of l) still) (λ number v known. ap (λ l. known_at l number) still ∙ known) (keep_fault cause) (drew_none store tries a.cells after same cause answers)
         (knows_undrawn a.cells after a.faults notes cause still)
 
   by_drawn : (drawn : Result ℕ CellRefusal) → cells.Answers tries a.cells after cells.number_acts (cells.number_reply a.cells) drawn → IfOk drawn (MayStoreNow after.view)
-      → (r : Result ℕ (Fault × KeepFault)) → PlacesDrawn why drawn a.faults notes r → FaultParts store why a b r
+      → (r : Result ℕ (Fault × KeepFault)) → SlotsDrawn why drawn a.faults notes r → FaultParts store why a b r
   by_drawn (Ok n) answers storable (Ok number) p =
       let e : n ≡ number = cc p.0 in
       placed number (subst (λ k. cells.Answers tries a.cells after cells.number_acts (cells.number_reply a.cells) (Ok k)) e answers) (subst (MayStoreNow after.view) e storable) p.1
@@ -102,7 +102,7 @@ module _ {V : Type 0} (store : StoreView) (tries : ℕ) (same : tries ≡ store.
 pub fault_by_drawn : {V : Type 0} (store : StoreView) (tries : ℕ) → tries ≡ store.tries → (why : Fault) (inside before : StoreLane V) → inside ≡ before → IsLaneOf store.id before
     → (after : Lane) → after.cells ≡ inside.cells.cells → IsLegal after.cells.limits (seen_by after.view) → (notes : List (Known Fault)) (drawn : Result ℕ CellRefusal)
     → cells.Answers tries inside.cells after cells.number_acts (cells.number_reply inside.cells) drawn → IfOk drawn (MayStoreNow after.view)
-    → (r : Result ℕ (Fault × KeepFault)) → PlacesDrawn why drawn inside.faults notes r → FaultParts store why before (record { cells = after; known = inside.known; faults = notes; keys = inside.keys }) r
+    → (r : Result ℕ (Fault × KeepFault)) → SlotsDrawn why drawn inside.faults notes r → FaultParts store why before (record { cells = after; known = inside.known; faults = notes; keys = inside.keys }) r
 fault_by_drawn store tries same why inside before is mine after cells legal notes drawn answers storable r p =
     subst (λ l. FaultParts store why l (record { cells = after; known = inside.known; faults = notes; keys = inside.keys }) r) is
     (by_drawn store tries same why inside (subst (IsLaneOf store.id) (sym is) mine) after cells (subst (λ (z : CellsId). IsLegal z.limits (seen_by after.view)) cells legal) notes drawn answers storable r p)

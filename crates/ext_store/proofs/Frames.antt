@@ -14,7 +14,7 @@ use Rattle.ext_history.proofs.Composed.{calls_none}
 use Rattle.ext_model.proofs.Composed.{calls_compose}
 use Rattle.ext_tree.specs.Keys.{KeepsKeys, key_places_of}
 use Rattle.ext_tree.proofs.KeyPlacing.{keeps_all, keeps_both}
-use Rattle.ext_values.specs.Known.{KeepsKnown, Learns, known_at, places_of}
+use Rattle.ext_values.specs.Known.{KeepsKnown, Learns, known_at, slots_of}
 use Rattle.ext_cells.specs.Lanes.{CellsId, Lane}
 use Rattle.ext_store_core.specs.declared.fault.Refusal.{Refusal}
 use Rattle.ext_store_core.specs.ContextCalls.{ContextCells, cell_in}
@@ -152,7 +152,7 @@ module _ {V : Type 0} (id : StoreId) (inside a b : StoreLane V) (is : inside ≡
     same_keys = ap (λ (l : StoreLane V). l.keys) on_cells
 
     abbrev after : IsLaneOf id b
-    after = record { cells = cells ∙ own.cells; places = ap (λ l. places_of l) same ∙ own.places; fault_places = ap (λ l. places_of l) also ∙ own.fault_places; keys = ap (λ l. key_places_of l) same_keys ∙ own.keys }
+    after = record { cells = cells ∙ own.cells; slots = ap (λ l. slots_of l) same ∙ own.slots; fault_slots = ap (λ l. slots_of l) also ∙ own.fault_slots; keys = ap (λ l. key_places_of l) same_keys ∙ own.keys }
 
     knows : KeepsKnown inside.known b.known
     knows = λ number value known. ap (λ l. known_at l number) same ∙ known

@@ -8,14 +8,14 @@ use Rattle.ext_values.proofs.NotesLaws.{nothing_is_known}
 use Rattle.ext_cells.specs.Lanes.{CellsId, Lane, fresh_lane, fresh_lanes}
 use Rattle.ext_store.specs.Stores.{StoreId, StoreView, StoreLane, CloserView, IsLaneOf, IsCloserOf, fresh_store_lane, closers_below}
 
-fresh_own : {V : Type 0} (id : StoreId) (first n : ℕ) → All (IsLaneOf {V = V} id) (map (fresh_store_lane id.places id.fault_places id.keys) (fresh_lanes id.cells first n))
+fresh_own : {V : Type 0} (id : StoreId) (first n : ℕ) → All (IsLaneOf {V = V} id) (map (fresh_store_lane id.slots id.fault_slots id.keys) (fresh_lanes id.cells first n))
 fresh_own {V} id first zero = All-nil (IsLaneOf {V = V} id)
 fresh_own {V} id first (suc n) =
-    All-cons (IsLaneOf {V = V} id) (fresh_store_lane id.places id.fault_places id.keys (fresh_lane id.cells first)) (map (fresh_store_lane id.places id.fault_places id.keys) (fresh_lanes id.cells (first + 1) n))
-    (record { cells = refl; places = (nothing_is_known V).places id.places; fault_places = (nothing_is_known Fault).places id.fault_places; keys = key_places_of-nothing id.keys }) (fresh_own id (first + 1) n)
+    All-cons (IsLaneOf {V = V} id) (fresh_store_lane id.slots id.fault_slots id.keys (fresh_lane id.cells first)) (map (fresh_store_lane id.slots id.fault_slots id.keys) (fresh_lanes id.cells (first + 1) n))
+    (record { cells = refl; slots = (nothing_is_known V).slots id.slots; fault_slots = (nothing_is_known Fault).slots id.fault_slots; keys = key_places_of-nothing id.keys }) (fresh_own id (first + 1) n)
 
-pub lanes_own : {V : Type 0} (id : StoreId) (lanes : List (StoreLane V)) (cell_lanes : List Lane) (n : ℕ) → lanes ≡ map (fresh_store_lane id.places id.fault_places id.keys) cell_lanes → cell_lanes ≡ fresh_lanes id.cells 0 n → All (IsLaneOf id) lanes
-lanes_own {V} id lanes cell_lanes n is fresh = subst (All (IsLaneOf id)) (sym is) (subst (λ ls. All (IsLaneOf {V = V} id) (map (fresh_store_lane id.places id.fault_places id.keys) ls)) (sym fresh) (fresh_own id 0 n))
+pub lanes_own : {V : Type 0} (id : StoreId) (lanes : List (StoreLane V)) (cell_lanes : List Lane) (n : ℕ) → lanes ≡ map (fresh_store_lane id.slots id.fault_slots id.keys) cell_lanes → cell_lanes ≡ fresh_lanes id.cells 0 n → All (IsLaneOf id) lanes
+lanes_own {V} id lanes cell_lanes n is fresh = subst (All (IsLaneOf id)) (sym is) (subst (λ ls. All (IsLaneOf {V = V} id) (map (fresh_store_lane id.slots id.fault_slots id.keys) ls)) (sym fresh) (fresh_own id 0 n))
 
 below_own : (store : StoreView) (n : ℕ) → n ≤ length store.tree → All (IsCloserOf store) (closers_below store.id.cells n)
 below_own store zero few = All-nil (IsCloserOf store)

@@ -1,4 +1,4 @@
--- The number that a call drew: its event is new, and what the lane knows where the number's place did not take what was to be kept.
+-- The number that a call drew: its event is new, and what the lane knows where the number's slot did not take what was to be kept.
 use Rattle.std.proofs.Common.{◌≡◌, ◌≢◌, arith, ℕ, ◌+◌, ◌≤◌, List, [], ◌∷◌, ◌++◌, Contains, sym, refl, subst, inl, inr, Some}
 use Rattle.std.specs.Prelude.{◌==◌}
 use Rattle.std.proofs.lemmas.List.Elements.{Contains-append_left, Contains-push}

@@ -7,8 +7,8 @@ use Rattle.ext_history.specs.Histories.{seen_by}
 use Rattle.ext_model.specs.History.{IsLegal}
 use Rattle.ext_model.specs.CallActs.{Calls, MayStoreNow}
 use Rattle.ext_tree.proofs.KeyPlacing.{keeps_all}
-use Rattle.ext_values.specs.Places.{IsNumber}
-use Rattle.ext_values.specs.Known.{Known, KeepsKnown, LearnsOne, known_at, places_of}
+use Rattle.ext_values.specs.Slots.{IsNumber}
+use Rattle.ext_values.specs.Known.{Known, KeepsKnown, LearnsOne, known_at, slots_of}
 use Rattle.ext_cells.specs.declared.refusal.CellRefusal.{CellRefusal}
 use Rattle.ext_cells.specs.declared.refusal.CellRefusal.TheVariants as cell
 use Rattle.ext_cells.specs.Lanes.{CellsId, Lane}
@@ -18,7 +18,7 @@ use Rattle.ext_store.specs.declared.fault.KeepFault.TheVariants.{Memory, Unplace
 use Rattle.ext_store.specs.Stores.{StoreView, StoreLane, IsKeptBy, IsLaneOf, StillKeeps}
 use Rattle.ext_store.specs.LaneCalls.{Frame, KeepFails, KeepsAs, KeepsNothing, KnowsUnkept}
 use Rattle.ext_store.specs.Waiting.{IsDecidedFault}
-use Rattle.ext_store.specs.InnerKeeping.{IsOfCount, keep_fault, IsPlaced, PlacesDrawn}
+use Rattle.ext_store.specs.InnerKeeping.{IsOfCount, keep_fault, IsInSlot, SlotsDrawn}
 use Rattle.ext_store.proofs.Keeping.{quiet_keeps, found_keeps, learnt_keeps, drew, drew_number, drew_none, not_both}
 use Rattle.ext_store.proofs.NewDraws.{drawn_apart, draws_new, knows_undrawn}
 use Rattle.ext_store_core.proofs.Events.{drew_quiet}
@@ -51,29 +51,29 @@ module _ {V : Type 0} (store : StoreView) (tries : ℕ) (same : tries ≡ store.
   abbrev b : StoreLane V
   b = record { cells = after; known = notes; faults = a.faults; keys = a.keys }
 
-  own : places_of notes ≡ places_of a.known → IsLaneOf store.id b
-  own places = record { cells = is ∙ mine.cells; places = places ∙ mine.places; fault_places = mine.fault_places; keys = mine.keys }
+  own : slots_of notes ≡ slots_of a.known → IsLaneOf store.id b
+  own slots = record { cells = is ∙ mine.cells; slots = slots ∙ mine.slots; fault_slots = mine.fault_slots; keys = mine.keys }
 
-  placed : (number : ℕ) → cells.Answers tries a.cells after cells.number_acts (cells.number_reply a.cells) (Ok number) → MayStoreNow after.view number → IsPlaced value a.known notes number → KeepParts store value a b (Ok number)
-  placed number answers storable is_placed =
+  placed : (number : ℕ) → cells.Answers tries a.cells after cells.number_acts (cells.number_reply a.cells) (Ok number) → MayStoreNow after.view number → IsInSlot value a.known notes number → KeepParts store value a b (Ok number)
+  placed number answers storable is_in_slot =
       let drawn = drew store tries a.cells after same number answers in
-      let mine_still = own is_placed.learnt.places in
-      let keeps = learnt_keeps a.cells.cells.limits a b number value drawn.calls is_placed.learnt is_placed.free in
+      let mine_still = own is_in_slot.learnt.slots in
+      let keeps = learnt_keeps a.cells.cells.limits a b number value drawn.calls is_in_slot.learnt is_in_slot.free in
       record {
-        answer = record { drawn = drawn; learnt = is_placed.learnt; kept = record { storable = storable; value = value; known = is_placed.learnt.learnt } };
+        answer = record { drawn = drawn; learnt = is_in_slot.learnt; kept = record { storable = storable; value = value; known = is_in_slot.learnt.learnt } };
         lane = mine_still;
-        known = is_placed.known;
+        known = is_in_slot.known;
         faults = refl;
         kept = keeps;
-        apart = λ m kept at. not_both _ kept.value (ap (λ n. known_at a.known n) (sym at) ∙ kept.known) is_placed.free;
-        frame = framed store.id a b mine mine_still is_placed.known (λ number v known. known) (keeps_all a.keys) (Keep number ∷ []) drawn.calls keeps;
+        apart = λ m kept at. not_both _ kept.value (ap (λ n. known_at a.known n) (sym at) ∙ kept.known) is_in_slot.free;
+        frame = framed store.id a b mine mine_still is_in_slot.known (λ number v known. known) (keeps_all a.keys) (Keep number ∷ []) drawn.calls keeps;
       }
 
   module _ (back : V) (handed : back ≡ value) where
-    nothing : (acts : List (Act ℕ)) → Calls a.cells.cells.limits a.cells.view after.view acts → StillKeeps a b → places_of notes ≡ places_of a.known → KeepsKnown a.known notes → (why : KeepFault) → KeepFails store a.cells after why
+    nothing : (acts : List (Act ℕ)) → Calls a.cells.cells.limits a.cells.view after.view acts → StillKeeps a b → slots_of notes ≡ slots_of a.known → KeepsKnown a.known notes → (why : KeepFault) → KeepFails store a.cells after why
         → KnowsUnkept a.cells.view after.view a.known notes why → KeepParts store value a b (Err (back, why))
-    nothing acts calls keeps places knows why fails learnt =
-        let mine_still = own places in
+    nothing acts calls keeps slots knows why fails learnt =
+        let mine_still = own slots in
         record {
           answer = record { handed_back = handed; known = learnt; fails = fails };
           lane = mine_still;
@@ -89,16 +89,16 @@ module _ {V : Type 0} (store : StoreView) (tries : ℕ) (same : tries ≡ store.
     unplaced number answers stands knows =
         let drawn = drew store tries a.cells after same number answers in
         let keeps = found_keeps a.cells.cells.limits a b number stands.0 drawn.calls stands.1 (λ m kept. drawn_apart a.cells after number m lawful drawn kept.storable) in
-        nothing (Keep number ∷ []) drawn.calls keeps stands.1.places knows Unplaced (number, drawn) (number, draws_new a.cells after number lawful drawn, stands)
+        nothing (Keep number ∷ []) drawn.calls keeps stands.1.slots knows Unplaced (number, drawn) (number, draws_new a.cells after number lawful drawn, stands)
 
     undrawn : (why : CellRefusal) → cells.Answers tries a.cells after cells.number_acts (cells.number_reply a.cells) (Err why) → notes ≡ a.known → KeepParts store value a b (Err (back, keep_fault why))
     undrawn why answers still =
         let quiet = drew_quiet tries a.cells after why answers in
-        nothing [] quiet (quiet_keeps a.cells.cells.limits a b quiet still) (ap (λ l. places_of l) still) (λ number v known. ap (λ l. known_at l number) still ∙ known) (keep_fault why) (drew_none store tries a.cells after same why answers)
+        nothing [] quiet (quiet_keeps a.cells.cells.limits a b quiet still) (ap (λ l. slots_of l) still) (λ number v known. ap (λ l. known_at l number) still ∙ known) (keep_fault why) (drew_none store tries a.cells after same why answers)
         (knows_undrawn a.cells after a.known notes why still)
 
   by_drawn : (drawn : Result ℕ CellRefusal) → cells.Answers tries a.cells after cells.number_acts (cells.number_reply a.cells) drawn → IfOk drawn (MayStoreNow after.view)
-      → (r : Result ℕ (V × KeepFault)) → PlacesDrawn value drawn a.known notes r → KeepParts store value a b r
+      → (r : Result ℕ (V × KeepFault)) → SlotsDrawn value drawn a.known notes r → KeepParts store value a b r
   by_drawn (Ok n) answers storable (Ok number) p =
       let e : n ≡ number = cc p.0 in
       placed number (subst (λ k. cells.Answers tries a.cells after cells.number_acts (cells.number_reply a.cells) (Ok k)) e answers) (subst (MayStoreNow after.view) e storable) p.1
@@ -110,26 +110,26 @@ module _ {V : Type 0} (store : StoreView) (tries : ℕ) (same : tries ≡ store.
 pub kept_by_drawn : {V : Type 0} (store : StoreView) (tries : ℕ) → tries ≡ store.tries → (value : V) (inside before : StoreLane V) → inside ≡ before → IsLaneOf store.id before
     → (after : Lane) → after.cells ≡ inside.cells.cells → IsLegal after.cells.limits (seen_by after.view) → (notes : List (Known V)) (drawn : Result ℕ CellRefusal)
     → cells.Answers tries inside.cells after cells.number_acts (cells.number_reply inside.cells) drawn → IfOk drawn (MayStoreNow after.view)
-    → (r : Result ℕ (V × KeepFault)) → PlacesDrawn value drawn inside.known notes r → KeepParts store value before (record { cells = after; known = notes; faults = inside.faults; keys = inside.keys }) r
+    → (r : Result ℕ (V × KeepFault)) → SlotsDrawn value drawn inside.known notes r → KeepParts store value before (record { cells = after; known = notes; faults = inside.faults; keys = inside.keys }) r
 kept_by_drawn store tries same value inside before is mine after cells legal notes drawn answers storable r p =
     subst (λ l. KeepParts store value l (record { cells = after; known = notes; faults = inside.faults; keys = inside.keys }) r) is
     (by_drawn store tries same value inside (subst (IsLaneOf store.id) (sym is) mine) after cells (subst (λ (z : CellsId). IsLegal z.limits (seen_by after.view)) cells legal) notes drawn answers storable r p)
 
 -- what the drawing of a number says is what the placing of it asks for
 pub drawn_fits : (store : StoreView) (tries : ℕ) → tries ≡ store.tries → (before after : Lane) (drawn : Result ℕ CellRefusal) → cells.Answers tries before after cells.number_acts (cells.number_reply before) drawn
-    → (places : List ℕ) → before.cells.limits.numbers ≡ length places → MatchResult drawn (IsNumber places) IsOfCount
-drawn_fits store tries same before after (Ok number) answers places numbers = let d = drew_number store tries before after same number answers in (omega (arith, d.0), subst (λ n. number ≤ n) numbers d.1)
-drawn_fits store tries same before after (Err why) answers places numbers = draw_refusal tries before after why answers
+    → (slots : List ℕ) → before.cells.limits.numbers ≡ length slots → MatchResult drawn (IsNumber slots) IsOfCount
+drawn_fits store tries same before after (Ok number) answers slots numbers = let d = drew_number store tries before after same number answers in (omega (arith, d.0), subst (λ n. number ≤ n) numbers d.1)
+drawn_fits store tries same before after (Err why) answers slots numbers = draw_refusal tries before after why answers
 
 -- a draw that other lanes were not in the way of gives no fault of that kind
-pub decided_by_drawn : {V : Type 0} (places : List ℕ) (value : V) (drawn : Result ℕ CellRefusal) (before after : List (Known V)) (r : Result ℕ (V × KeepFault)) → drawn ≢ Err cell.Contended → MatchResult drawn (IsNumber places) IsOfCount
-    → PlacesDrawn value drawn before after r → IfErr r (λ e. IsDecidedFault e.1)
-decided_by_drawn places value drawn before after (Ok number) ne fits p = tt
-decided_by_drawn places value (Ok n) before after (Err (back, why)) ne fits p = subst IsDecidedFault (sym p.1.0) tt
-decided_by_drawn places value (Err cell.NumbersFull) before after (Err (back, why)) ne fits p = subst IsDecidedFault (sym p.1.0) tt
-decided_by_drawn places value (Err cell.Contended) before after (Err (back, why)) ne fits p = absurd (ne refl)
-decided_by_drawn places value (Err cell.Busy) before after (Err (back, why)) ne fits p = absurd fits
-decided_by_drawn places value (Err cell.Closed) before after (Err (back, why)) ne fits p = absurd fits
-decided_by_drawn places value (Err cell.Exhausted) before after (Err (back, why)) ne fits p = absurd fits
-decided_by_drawn places value (Err cell.Memory) before after (Err (back, why)) ne fits p = absurd fits
-decided_by_drawn places value (Err cell.BadLimit) before after (Err (back, why)) ne fits p = absurd fits
+pub decided_by_drawn : {V : Type 0} (slots : List ℕ) (value : V) (drawn : Result ℕ CellRefusal) (before after : List (Known V)) (r : Result ℕ (V × KeepFault)) → drawn ≢ Err cell.Contended → MatchResult drawn (IsNumber slots) IsOfCount
+    → SlotsDrawn value drawn before after r → IfErr r (λ e. IsDecidedFault e.1)
+decided_by_drawn slots value drawn before after (Ok number) ne fits p = tt
+decided_by_drawn slots value (Ok n) before after (Err (back, why)) ne fits p = subst IsDecidedFault (sym p.1.0) tt
+decided_by_drawn slots value (Err cell.NumbersFull) before after (Err (back, why)) ne fits p = subst IsDecidedFault (sym p.1.0) tt
+decided_by_drawn slots value (Err cell.Contended) before after (Err (back, why)) ne fits p = absurd (ne refl)
+decided_by_drawn slots value (Err cell.Busy) before after (Err (back, why)) ne fits p = absurd fits
+decided_by_drawn slots value (Err cell.Closed) before after (Err (back, why)) ne fits p = absurd fits
+decided_by_drawn slots value (Err cell.Exhausted) before after (Err (back, why)) ne fits p = absurd fits
+decided_by_drawn slots value (Err cell.Memory) before after (Err (back, why)) ne fits p = absurd fits
+decided_by_drawn slots value (Err cell.BadLimit) before after (Err (back, why)) ne fits p = absurd fits

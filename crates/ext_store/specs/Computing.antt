@@ -82,7 +82,7 @@ pub record IsOutdrawn (limits : Limits) (tries : ℕ) (before after : LaneView) 
   pub left : (p : History) × IsPoint before after p
       × ((answer : Option ℕ) × (reply_after limits p before.number (Keep 0) ≡ events.Happens answer))
 
--- Why the value is not kept. If its place did not take it, a number was drawn for it.
+-- Why the value is not kept. If its slot did not take it, a number was drawn for it.
 unfoldable pub IsUnkept : Limits → ℕ → List (Act ℕ) → ℕ → LaneView → LaneView → KeepFault → Type 0
 IsUnkept limits tries first cell before after fault.Memory = GivesUp limits first cell before after
 IsUnkept limits tries first cell before after fault.NumbersFull =

@@ -28,17 +28,17 @@ keep_fault cell.Memory = fault.Contended
 keep_fault cell.BadLimit = fault.Contended
 
 -- The number, whose value was not known before, has this value.
-pub record IsPlaced {V : Type 0} (value : V) (before after : List (Known V)) (number : ℕ) : Type 0 where
+pub record IsInSlot {V : Type 0} (value : V) (before after : List (Known V)) (number : ℕ) : Type 0 where
   pub learnt : Learns before after number value
   pub free : known_at before number ≡ None
   pub known : KeepsKnown before after
 
 -- The drawn number has the value, or the value comes back. It comes back if no number was drawn, and then the lane
--- learns nothing; or if the number's place has another value, which the lane learns.
-abbrev pub PlacesDrawn : {V : Type 0} → V → Result ℕ CellRefusal → List (Known V) → List (Known V)
+-- learns nothing; or if the number's slot has another value, which the lane learns.
+abbrev pub SlotsDrawn : {V : Type 0} → V → Result ℕ CellRefusal → List (Known V) → List (Known V)
     → Result ℕ (V × KeepFault) → Type 0
-PlacesDrawn value drawn before after (Ok number) = (drawn ≡ Ok number) × IsPlaced value before after number
-PlacesDrawn value drawn before after (Err (back, why)) =
+SlotsDrawn value drawn before after (Ok number) = (drawn ≡ Ok number) × IsInSlot value before after number
+SlotsDrawn value drawn before after (Err (back, why)) =
     (back ≡ value)
     × MatchResult drawn (λ number. (why ≡ fault.Unplaced) × LearnsOne before after number × KeepsKnown before after)
     (λ refused. (why ≡ keep_fault refused) × (after ≡ before))

@@ -125,7 +125,7 @@ pub record Draws (before after : LaneView) (number : ℕ) : Type 0 where
   pub new : ¬ Contains (seen_by before) (by before.number (Keep number))
   pub drawn : Contains (seen_by after) (by before.number (Keep number))
 
--- What the lane knows of values, or of faults, if one was not kept: what it knew. If the place of the drawn number did
+-- What the lane knows of values, or of faults, if one was not kept: what it knew. If the slot of the drawn number did
 -- not take it, another one stands there, which the lane now knows.
 abbrev pub KnowsUnkept : {V : Type 0} → LaneView → LaneView → List (Known V) → List (Known V) → KeepFault → Type 0
 KnowsUnkept before after known learnt fault.Memory = learnt ≡ known
@@ -141,7 +141,7 @@ pub record KeepsAs {V : Type 0} (value : V) (before after : StoreLane V) (number
   pub learnt : Learns before.known after.known number value
   pub kept : IsKeptBy after number
 
--- The value is handed back. The lane knows what it knew, and the value in the place that did not take its own.
+-- The value is handed back. The lane knows what it knew, and the value in the slot that did not take its own.
 pub record KeepsNothing {V : Type 0} (store : StoreView) (value : V) (before after : StoreLane V) (back : V)
     (why : KeepFault) : Type 0 where
   pub handed_back : back ≡ value
@@ -155,7 +155,7 @@ pub record KeepsFault {V : Type 0} (why : Fault) (before after : StoreLane V) (n
   pub learnt : Learns before.faults after.faults number why
   pub storable : model.MayStoreNow after.cells.view number
 
--- The fault is handed back. The lane knows what it knew, and the fault in the place that did not take its own.
+-- The fault is handed back. The lane knows what it knew, and the fault in the slot that did not take its own.
 pub record KeepsNoFault {V : Type 0} (store : StoreView) (why : Fault) (before after : StoreLane V) (back : Fault)
     (cause : KeepFault) : Type 0 where
   pub handed_back : back ≡ why

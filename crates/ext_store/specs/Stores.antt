@@ -12,12 +12,12 @@ use Rattle.ext_model.specs.History.{Limits}
 use Rattle.ext_store_core.specs.ContextCalls as cells
 use Rattle.ext_store_core.specs.ContextCalls.{ContextCells}
 
--- The identity of a store: its cells, and the names of the places of its values, of its kept faults and of its keys,
--- each in the order of their numbers.
+-- The identity of a store: its cells, and the names of the slots of its values and of its kept faults and of the places of its
+-- keys, each in the order of their numbers.
 pub record StoreId : Type 0 where
   pub cells : CellsId
-  pub places : List ℕ
-  pub fault_places : List ℕ
+  pub slots : List ℕ
+  pub fault_slots : List ℕ
   pub keys : List ℕ
 
 -- A store: its identity, the ids of its contexts, and how many exchanges a call makes at most.
@@ -34,11 +34,11 @@ context_cells store = record { cells = store.id.cells; keys = store.id.keys; tre
 abbrev pub cell_in : StoreView → ℕ → ℕ → ℕ
 cell_in store key context = cells.cell_in (context_cells store) key context
 
--- There is a place for each number's value. A store that keeps faults has one for each number's fault, too.
-pub record HasPlaces (limits : Limits) (places fault_places : List ℕ) : Type 0 where
-  pub numbers : limits.numbers ≡ length places
-  pub faults : IsTrue limits.keep_faults → limits.numbers ≡ length fault_places
-  pub no_faults : IsFalse limits.keep_faults → fault_places ≡ []
+-- There is a slot for each number's value. A store that keeps faults has one for each number's fault, too.
+pub record HasSlots (limits : Limits) (slots fault_slots : List ℕ) : Type 0 where
+  pub numbers : limits.numbers ≡ length slots
+  pub faults : IsTrue limits.keep_faults → limits.numbers ≡ length fault_slots
+  pub no_faults : IsFalse limits.keep_faults → fault_slots ≡ []
 
 -- A lane: its steps on the cells, what it knows of each number's value and kept fault, and what it knows of the places
 -- of keys.
@@ -58,8 +58,8 @@ pub record CloserView : Type 0 where
 -- The lane is one of this store's.
 pub record IsLaneOf {V : Type 0} (id : StoreId) (lane : StoreLane V) : Type 0 where
   pub cells : lane.cells.cells ≡ id.cells
-  pub places : AreNotesOf id.places lane.known
-  pub fault_places : AreNotesOf id.fault_places lane.faults
+  pub slots : AreNotesOf id.slots lane.known
+  pub fault_slots : AreNotesOf id.fault_slots lane.faults
   pub keys : keys.AreKeyNotesOf id.keys lane.keys
 
 -- The closer is one of this store's, for one of its contexts.
@@ -94,11 +94,11 @@ IsOnCells before after =
 
 -- A lane that has made no step and knows no value, fault or key.
 abbrev pub fresh_store_lane : {V : Type 0} → List ℕ → List ℕ → List ℕ → Lane → StoreLane V
-fresh_store_lane places fault_places key_places lane =
+fresh_store_lane slots fault_slots key_places lane =
     record {
       cells = lane;
-      known = nothing_known places;
-      faults = nothing_known fault_places;
+      known = nothing_known slots;
+      faults = nothing_known fault_slots;
       keys = keys.no_key_known key_places;
     }
 

@@ -16,7 +16,7 @@ pub enum KeepFault {
     NumbersFull,
     /// Other lanes were in the way: they drew at least as many numbers as a call has tries.
     Contended,
-    /// Another one stands in the number's place: the lane knows it from then on, and the number is
+    /// Another one stands in the number's slot: the lane knows it from then on, and the number is
     /// lost. Tests never meet it.
     Unplaced,
 }

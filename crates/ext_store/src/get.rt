@@ -119,7 +119,7 @@ impl<V: StoreValue + Drop> Store<V> {
     /// found if the lane kept it or was shown it, and otherwise if this thread finds it. It is
     /// never the value of another number.
     ///
-    /// `None`, with nothing changed, for a number that has no place, and where the thread finds no
+    /// `None`, with nothing changed, for a number that has no slot, and where the thread finds no
     /// value.
     #[tactic(auto, unfolding(crate::specs::LaneCalls::Frame))]
     pub fn show<'a>(&'a self, lane: &mut Lane<V>, number: u32) -> Option<&'a V>
@@ -141,7 +141,7 @@ impl<V: StoreValue + Drop> Store<V> {
     /// found if the lane kept it or was shown it, and otherwise if this thread finds it. It is
     /// never the fault of another number.
     ///
-    /// `None`, with nothing changed, for a number that has no place, and where the thread finds no
+    /// `None`, with nothing changed, for a number that has no slot, and where the thread finds no
     /// fault; always in a store that keeps no faults.
     #[tactic(auto, unfolding(crate::specs::LaneCalls::Frame))]
     pub fn show_fault<'a>(&'a self, lane: &mut Lane<V>, number: u32) -> Option<&'a Fault>

@@ -1,4 +1,4 @@
-//! Keeping of values (`keep` and `keep_wait`): each gets the next number, and its place.
+//! Keeping of values (`keep` and `keep_wait`): each gets the next number, and its slot.
 ghost use Rattle.std.specs.Prelude.{ℕ, ◌≡◌, ◌≢◌, ◌+◌, ◌*◌, ◌<◌, ◌≤◌, [], IfErr, IfOk, MatchResult, Ok, Err};
 ghost use Rattle.ext_model.specs.declared.event.Act.TheVariants as act_is;
 ghost use Rattle.ext_values.specs.Known.{KeepsKnown, AreNotesOf};
@@ -7,8 +7,8 @@ ghost use Rattle.ext_store.specs.Stores.{IsKeptBy, IsLaneOf, StillKeeps};
 ghost use Rattle.ext_store.specs.LaneCalls.{Frame, KeepsAs, KeepsNothing, steps_of};
 ghost use Rattle.ext_store.specs.declared.computed.Compute.TheVariants.{Refused};
 ghost use Rattle.ext_store.specs.Waiting.{IsDecidedFault};
-ghost use Rattle.ext_values.specs.Places.{IsNumber};
-ghost use Rattle.ext_store.specs.InnerKeeping.{IsOfCount, PlacesDrawn};
+ghost use Rattle.ext_values.specs.Slots.{IsNumber};
+ghost use Rattle.ext_store.specs.InnerKeeping.{IsOfCount, SlotsDrawn};
 
 use crate::{KeepFault, Kept, Lane, Store, StoreValue};
 use ext_cells::CellRefusal;
@@ -22,7 +22,7 @@ impl<V: StoreValue + Drop> Store<V> {
     /// Refused, in this order and with the value handed back, as `Memory`; as `NumbersFull` where
     /// all numbers were drawn; as `Contended` where other lanes have drawn at least as many as
     /// there are tries and a number is left; and as `Unplaced` where another value stands in the
-    /// number's place: the lane knows that one then, and the number is lost. JUnit numbers values
+    /// number's slot: the lane knows that one then, and the number is lost. JUnit numbers values
     /// as they are stored.
     #[tactic(auto, unfolding(crate::specs::LaneCalls::KeepFails, crate::specs::LaneCalls::Frame))]
     #[inline(always)]
@@ -46,7 +46,7 @@ impl<V: StoreValue + Drop> Store<V> {
         };
         let drawn = self.shared.keep(&mut lane.cells);
         lane.cells.tell_proof();
-        self.place_drawn(&mut lane.notes, drawn, boxed)
+        self.slot_drawn(&mut lane.notes, drawn, boxed)
     }
 
     /// Keeps a value as `keep` does, but draws again at once where other lanes were in the way.
@@ -74,19 +74,19 @@ impl<V: StoreValue + Drop> Store<V> {
         };
         let drawn = self.shared.keep_wait(&mut lane.cells);
         lane.cells.tell_proof();
-        self.place_drawn(&mut lane.notes, drawn, boxed)
+        self.slot_drawn(&mut lane.notes, drawn, boxed)
     }
 
-    // Places the value at the number that was drawn for it, or hands it back.
-    pub(crate) fn place_drawn(
+    // Puts the value in the slot that was drawn for it, or hands it back.
+    pub(crate) fn slot_drawn(
         &self,
         notes: &mut Notes<V>,
         drawn: Result<u32, CellRefusal>,
         boxed: Box<V>,
     ) -> Result<Kept, (V, KeepFault)>
-        requires notes { AreNotesOf self.now.id.places notes.old }
-        requires drawn { MatchResult drawn (IsNumber self.now.id.places) IsOfCount }
-        ensures { PlacesDrawn boxed.value drawn notes.old notes.new result }
+        requires notes { AreNotesOf self.now.id.slots notes.old }
+        requires drawn { MatchResult drawn (IsNumber self.now.id.slots) IsOfCount }
+        ensures { SlotsDrawn boxed.value drawn notes.old notes.new result }
     {
         let number = match drawn {
             Ok(number) => number,

@@ -1,4 +1,4 @@
-//! Keeping of factories' faults: each gets the next number, and its place.
+//! Keeping of factories' faults: each gets the next number, and its slot.
 ghost use Rattle.std.specs.Prelude.{ℕ, ◌≡◌, ◌≢◌, ◌+◌, ◌*◌, ◌<◌, ◌≤◌, [], IfErr, IfOk, IsTrue, MatchResult, Ok, Err};
 ghost use Rattle.ext_model.specs.declared.event.Act.TheVariants as act_is;
 ghost use Rattle.ext_values.specs.Known.{AreNotesOf};
@@ -6,8 +6,8 @@ ghost use Rattle.ext_cells.specs.CellCalls.{ComesLast};
 ghost use Rattle.ext_store.specs.Stores.{IsKeptBy, IsLaneOf};
 ghost use Rattle.ext_store.specs.LaneCalls.{Frame, steps_of, KeepsFault, KeepsNoFault};
 ghost use Rattle.ext_store.specs.Waiting.{IsDecidedFault};
-ghost use Rattle.ext_values.specs.Places.{IsNumber};
-ghost use Rattle.ext_store.specs.InnerKeeping.{IsOfCount, PlacesDrawn};
+ghost use Rattle.ext_values.specs.Slots.{IsNumber};
+ghost use Rattle.ext_store.specs.InnerKeeping.{IsOfCount, SlotsDrawn};
 
 use crate::{KeepFault, Lane, Store, StoreValue};
 use ext_cells::CellRefusal;
@@ -39,7 +39,7 @@ impl<V: StoreValue + Drop> Store<V> {
         };
         let drawn = self.shared.keep(&mut lane.cells);
         lane.cells.tell_proof();
-        self.place_drawn_fault(&mut lane.faults, drawn, boxed)
+        self.slot_drawn_fault(&mut lane.faults, drawn, boxed)
     }
 
     // Keeps a fault as `keep_fault` does, but draws again at once where other lanes were in the
@@ -67,20 +67,20 @@ impl<V: StoreValue + Drop> Store<V> {
         };
         let drawn = self.shared.keep_wait(&mut lane.cells);
         lane.cells.tell_proof();
-        self.place_drawn_fault(&mut lane.faults, drawn, boxed)
+        self.slot_drawn_fault(&mut lane.faults, drawn, boxed)
     }
 
-    // Places the fault at the number that was drawn for it, and answers the number, or hands the
+    // Puts the fault in the slot that was drawn for it, and answers the number, or hands the
     // fault back.
-    pub(crate) fn place_drawn_fault(
+    pub(crate) fn slot_drawn_fault(
         &self,
         notes: &mut SilentNotes<Fault>,
         drawn: Result<u32, CellRefusal>,
         boxed: Box<Fault>,
     ) -> Result<u32, (Fault, KeepFault)>
-        requires notes { AreNotesOf self.now.id.fault_places notes.old }
-        requires drawn { MatchResult drawn (IsNumber self.now.id.fault_places) IsOfCount }
-        ensures { PlacesDrawn boxed.value drawn notes.old notes.new result }
+        requires notes { AreNotesOf self.now.id.fault_slots notes.old }
+        requires drawn { MatchResult drawn (IsNumber self.now.id.fault_slots) IsOfCount }
+        ensures { SlotsDrawn boxed.value drawn notes.old notes.new result }
     {
         let number = match drawn {
             Ok(number) => number,

@@ -11,7 +11,7 @@ use ext_values::{Notes, SilentNotes, Values};
 use std::alloc::{AllocError, Global};
 use std::snapshot::Snapshot;
 
-// How many places there are for faults: one for each number if faults are kept, and otherwise none.
+// How many slots there are for faults: one for each number if faults are kept, and otherwise none.
 fn fault_capacity(numbers: u32, keep_faults: bool) -> u32
     ensures { result ≡ fault_count keep_faults numbers }
 {
@@ -34,8 +34,8 @@ fn are_store_limits(limits: &Limits) -> bool
         && are_limits(limits.size, 0, limits.lanes, limits.tries, limits.numbers)
 }
 
-// The parts of a store with so many contexts: the cells, the places of values, of kept faults and
-// of keys, a lane for each lane of the limits, and a closer for each of the contexts. Or why it is
+// The parts of a store with so many contexts: the cells, the slots of values and of kept faults, the
+// places of keys, a lane for each lane of the limits, and a closer for each of the contexts. Or why it is
 // not opened.
 pub(crate) fn open_parts<V: Drop>(
     alloc: Global,

@@ -56,7 +56,7 @@ impl<V> Store<V> {
     }
 
     /// Whether the lane knows the number's value: whether it kept the value or was shown it. False
-    /// for a number that has no place.
+    /// for a number that has no slot.
     pub fn knows(&self, lane: &Lane<V>, number: u32) -> bool
         ensures { result ≡ is_some (known_at lane.now.known number) }
     {

@@ -44,13 +44,13 @@ pub struct Store<V> {
 }
 
 impl<V> Model for Store<V> {
-    ghost use Rattle.ext_store.specs.Stores.{HasPlaces, StoreView};
+    ghost use Rattle.ext_store.specs.Stores.{HasSlots, StoreView};
 
     ghost Value = { StoreView };
 
-    ghost view = { λ s. record { id = record { cells = s.shared.cells; places = s.values; fault_places = s.faults; keys = s.shared.keys }; tree = s.shared.tree; tries = s.shared.tries } };
+    ghost view = { λ s. record { id = record { cells = s.shared.cells; slots = s.values; fault_slots = s.faults; keys = s.shared.keys }; tree = s.shared.tree; tries = s.shared.tries } };
 
-    ghost invariant = { λ s. HasPlaces s.shared.cells.limits s.values s.faults };
+    ghost invariant = { λ s. HasSlots s.shared.cells.limits s.values s.faults };
 }
 
 impl<V> Store<V> {
@@ -78,12 +78,12 @@ impl<V> Store<V> {
         self.shared.keeps_faults()
     }
 
-    // Tells a proof that there is a place for each number and, if faults are kept, one for its
+    // Tells a proof that there is a slot for each number and, if faults are kept, one for its
     // fault too; otherwise none.
     pub(crate) fn tell_proof(&self)
-        ensures numbers { self.now.id.cells.limits.numbers ≡ length self.now.id.places }
-        ensures faults { IsTrue self.now.id.cells.limits.keep_faults → self.now.id.cells.limits.numbers ≡ length self.now.id.fault_places }
-        ensures no_faults { IsFalse self.now.id.cells.limits.keep_faults → self.now.id.fault_places ≡ [] }
+        ensures numbers { self.now.id.cells.limits.numbers ≡ length self.now.id.slots }
+        ensures faults { IsTrue self.now.id.cells.limits.keep_faults → self.now.id.cells.limits.numbers ≡ length self.now.id.fault_slots }
+        ensures no_faults { IsFalse self.now.id.cells.limits.keep_faults → self.now.id.fault_slots ≡ [] }
     {
         let _tries = self.shared.tries();
     }
@@ -119,12 +119,12 @@ impl<V: StoreValue + Drop> Store<V> {
         ensures tree { IfOk result (λ r. r.0.tree ≡ tree) }
         ensures limits { IfOk result (λ r. r.0.id.cells.limits ≡ record { cells = length tree * places_for limits.keys; lanes = limits.lanes; numbers = limits.numbers; keep_faults = limits.keep_faults }) }
         ensures keys { IfOk result (λ r. length r.0.id.keys ≡ places_for limits.keys) }
-        ensures places { IfOk result (λ r. length r.0.id.places ≡ limits.numbers) }
-        ensures fault_places { IfOk result (λ r. length r.0.id.fault_places ≡ fault_count limits.keep_faults limits.numbers) }
+        ensures slots { IfOk result (λ r. length r.0.id.slots ≡ limits.numbers) }
+        ensures fault_slots { IfOk result (λ r. length r.0.id.fault_slots ≡ fault_count limits.keep_faults limits.numbers) }
         ensures tries { IfOk result (λ r. r.0.tries ≡ limits.tries) }
 
         // Its lanes have made no step and know nothing, and there is one closer a context.
-        ensures lanes { IfOk result (λ r. r.1.items ≡ map (fresh_store_lane r.0.id.places r.0.id.fault_places r.0.id.keys) (fresh_lanes r.0.id.cells 0 limits.lanes)) }
+        ensures lanes { IfOk result (λ r. r.1.items ≡ map (fresh_store_lane r.0.id.slots r.0.id.fault_slots r.0.id.keys) (fresh_lanes r.0.id.cells 0 limits.lanes)) }
         ensures own_lanes { IfOk result (λ r. All (IsLaneOf r.0.id) r.1.items) }
         ensures closers { IfOk result (λ r. r.2.items ≡ closers_below r.0.id.cells (length tree)) }
         ensures own_closers { IfOk result (λ r. All (IsCloserOf r.0) r.2.items) }

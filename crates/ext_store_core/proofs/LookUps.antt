@@ -44,25 +44,25 @@ something s standing told none = absurd (nothing standing (sym (ap standing_of n
 
 -- what is told of the nearest cell is the look-up
 stands_first : (cell_of : ℕ → ℕ) (p : History) (path : List ℕ) (n : Nearest) (look : Look) → StandsFirst p (map cell_of path) n
-    → ((s : Option Slot) → standing_of s ≡ Some n.standing → look ≡ look_in (slice_index path n.place) s) → look ≡ lookup (slots_in cell_of p) path
+    → ((s : Option Slot) → standing_of s ≡ Some n.standing → look ≡ look_in (slice_index path n.index) s) → look ≡ lookup (slots_in cell_of p) path
 stands_first cell_of p path n look first said =
     let long : length (map cell_of path) ≡ length path = length-map path cell_of in
     let inside = first.within in
-    let within : n.place < length path = omega (arith, long, inside) in
-    let context : ℕ = get_or path n.place 0 in
-    let cell_is : get_or (map cell_of path) n.place 0 ≡ cell_of (get_or path n.place 0) = get_or-map cell_of path n.place 0 0 within in
-    let none : All (λ c. slots_in cell_of p c ≡ None) (take n.place path) = nothing_along cell_of p (take n.place path) (subst (All (λ c. (state_after p).slots c ≡ None)) (take-map cell_of n.place path) first.nothing_before) in
-    let told : standing_of (slots_in cell_of p (get_or path n.place 0)) ≡ Some n.standing = subst (λ c. standing_of ((state_after p).slots c) ≡ Some n.standing) cell_is first.stands in
-    let some : slots_in cell_of p (get_or path n.place 0) ≢ None = something _ n.standing told in
-    let look_is : look ≡ look_in (get_or path n.place 0) (slots_in cell_of p (get_or path n.place 0)) = said _ told in
-    look_is ∙ (sym (stands_decides (slots_in cell_of p) (take n.place path) context (drop (suc n.place) path) _ none refl some) ∙ ap (lookup (slots_in cell_of p)) (path_at path n.place within))
+    let within : n.index < length path = omega (arith, long, inside) in
+    let context : ℕ = get_or path n.index 0 in
+    let cell_is : get_or (map cell_of path) n.index 0 ≡ cell_of (get_or path n.index 0) = get_or-map cell_of path n.index 0 0 within in
+    let none : All (λ c. slots_in cell_of p c ≡ None) (take n.index path) = nothing_along cell_of p (take n.index path) (subst (All (λ c. (state_after p).slots c ≡ None)) (take-map cell_of n.index path) first.nothing_before) in
+    let told : standing_of (slots_in cell_of p (get_or path n.index 0)) ≡ Some n.standing = subst (λ c. standing_of ((state_after p).slots c) ≡ Some n.standing) cell_is first.stands in
+    let some : slots_in cell_of p (get_or path n.index 0) ≢ None = something _ n.standing told in
+    let look_is : look ≡ look_in (get_or path n.index 0) (slots_in cell_of p (get_or path n.index 0)) = said _ told in
+    look_is ∙ (sym (stands_decides (slots_in cell_of p) (take n.index path) context (drop (suc n.index) path) _ none refl some) ∙ ap (lookup (slots_in cell_of p)) (path_at path n.index within))
 
 module _ (store : ContextCells) (path : List ℕ) (key : ℕ) (before after : Lane) (cells : List ℕ) (all : cells ≡ map (cell_in store key) path) where
   long_as : length cells ≡ length path
   long_as = ap length all ∙ length-map path (cell_in store key)
 
   pub looks_found : (n : Nearest) (look : Look) → StoodNearest before after cells (Some n)
-      → ((s : Option Slot) → standing_of s ≡ Some n.standing → look ≡ look_in (slice_index path n.place) s) → LooksAt store path key before after look
+      → ((s : Option Slot) → standing_of s ≡ Some n.standing → look ≡ look_in (slice_index path n.index) s) → LooksAt store path key before after look
   looks_found n look stood said =
       let p : History = stood.point.0 in
       let long = long_as in

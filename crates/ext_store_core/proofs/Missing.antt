@@ -33,7 +33,7 @@ use Rattle.ext_store_core.specs.Claiming.{ClaimComesLast, LooksFirst, Claims, Cl
 use Rattle.ext_model.proofs.Versions.{versions}
 use Rattle.ext_store_core.proofs.Rises.{rises_first, rises_second, version_grows, versions_grow}
 use Rattle.ext_store_core.proofs.Parts.{looks_second, happens_alone, first_stays, claims_stay, claims_first}
-use Rattle.ext_store_core.proofs.Standing.{Told, told}
+use Rattle.ext_store_core.proofs.Standing.{ClaimShows, claim_shows}
 
 -- why a claim is refused in whose way other lanes were
 abbrev in_the_way : CellRefusal
@@ -134,12 +134,12 @@ module _ (store : ContextCells) (context key : ℕ) (rest : List ℕ) where
     claim_told : (r : Result Claimed CellRefusal) → (let s : Result Claimed CellRefusal = Err cell.Contended in r ≢ s)
         → cells.Answers tries b c (cells.claim_acts (cell_in store key context)) (cells.claim_reply b (cell_in store key context)) r
         → HoldsAtPoint store.cells.limits a.view c.view (cells.claim_acts (cell_in store key context) r)
-        (λ p. Told (slots_in (cell_in store key) p) context rest (reply_after store.cells.limits p b.view.number (Claim (cell_in store key context))) r)
+        (λ p. ClaimShows (slots_in (cell_in store key) p) context rest (reply_after store.cells.limits p b.view.number (Claim (cell_in store key context))) r)
     claim_told r ne all =
         let acts = cells.claim_acts here r in
         let h : HoldsAtPoint limits b.view c.view acts (λ p. r ≡ cells.claim_result here (reply_after limits p b.view.number (Claim here))) = claim_holds r ne all in
-        later_answers limits a.view b.view c.view acts (λ p. Told (slots_in (cell_in store key) p) context rest (reply_after limits p b.view.number (Claim here)) r) one
-        (record { calls = h.calls; stepped = h.stepped; point = (h.point.0, h.point.1, told limits b.view.number (cell_in store key) context rest h.point.0 r h.point.2) })
+        later_answers limits a.view b.view c.view acts (λ p. ClaimShows (slots_in (cell_in store key) p) context rest (reply_after limits p b.view.number (Claim here)) r) one
+        (record { calls = h.calls; stepped = h.stepped; point = (h.point.0, h.point.1, claim_shows limits b.view.number (cell_in store key) context rest h.point.0 r h.point.2) })
 
     -- the first look came before it
     looked_before : (acts : List (Act ℕ)) → Calls store.cells.limits b.view c.view acts → LooksFirst (cell_in store key) (context ∷ rest) a.view c.view

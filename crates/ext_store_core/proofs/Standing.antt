@@ -19,28 +19,28 @@ stands_first : (slots : ℕ → Option Slot) (context : ℕ) (rest : List ℕ) (
 stands_first slots context rest here is = rw is (rw is refl)
 
 -- where a claim gets this result: what the look-up from the context is, or what one thread replies
-abbrev pub Told : (ℕ → Option Slot) → ℕ → List ℕ → events.Reply → Result Claimed CellRefusal → Type 0
-Told slots context rest reply (Ok (Won claim)) = reply ≡ events.Happens None
-Told slots context rest reply (Ok (Standing number)) = lookup slots (context ∷ rest) ≡ look.Found context number
-Told slots context rest reply (Ok (Fault number)) = lookup slots (context ∷ rest) ≡ look.Fault context number
-Told slots context rest reply (Err cell.Busy) = lookup slots (context ∷ rest) ≡ look.Busy context
-Told slots context rest reply (Err cell.Closed) = lookup slots (context ∷ rest) ≡ look.Closed context
-Told slots context rest reply (Err cell.Exhausted) = reply ≡ events.Refuses events.Exhausted
-Told slots context rest reply (Err cell.Contended) = ⊥
-Told slots context rest reply (Err cell.NumbersFull) = ⊥
-Told slots context rest reply (Err cell.Memory) = ⊥
-Told slots context rest reply (Err cell.BadLimit) = ⊥
+abbrev pub ClaimShows : (ℕ → Option Slot) → ℕ → List ℕ → events.Reply → Result Claimed CellRefusal → Type 0
+ClaimShows slots context rest reply (Ok (Won claim)) = reply ≡ events.Happens None
+ClaimShows slots context rest reply (Ok (Standing number)) = lookup slots (context ∷ rest) ≡ look.Found context number
+ClaimShows slots context rest reply (Ok (Fault number)) = lookup slots (context ∷ rest) ≡ look.Fault context number
+ClaimShows slots context rest reply (Err cell.Busy) = lookup slots (context ∷ rest) ≡ look.Busy context
+ClaimShows slots context rest reply (Err cell.Closed) = lookup slots (context ∷ rest) ≡ look.Closed context
+ClaimShows slots context rest reply (Err cell.Exhausted) = reply ≡ events.Refuses events.Exhausted
+ClaimShows slots context rest reply (Err cell.Contended) = ⊥
+ClaimShows slots context rest reply (Err cell.NumbersFull) = ⊥
+ClaimShows slots context rest reply (Err cell.Memory) = ⊥
+ClaimShows slots context rest reply (Err cell.BadLimit) = ⊥
 
-told_slot : (slots : ℕ → Option Slot) (context : ℕ) (rest : List ℕ) (at : ℕ) (worn : Bool) (stands : Option Slot) → slots context ≡ stands
-    → Told slots context rest (events.claim_reply worn stands) (claim_result at (events.claim_reply worn stands))
-told_slot slots context rest at true None is = refl
-told_slot slots context rest at false None is = refl
-told_slot slots context rest at worn (Some (slot.Entry number)) is = stands_first slots context rest (slot.Entry number) is
-told_slot slots context rest at worn (Some (slot.Fault number)) is = stands_first slots context rest (slot.Fault number) is
-told_slot slots context rest at worn (Some (slot.Claim lane)) is = stands_first slots context rest (slot.Claim lane) is
-told_slot slots context rest at worn (Some (slot.Sealed kept)) is = stands_first slots context rest (slot.Sealed kept) is
+claim_shows_slot : (slots : ℕ → Option Slot) (context : ℕ) (rest : List ℕ) (at : ℕ) (worn : Bool) (stands : Option Slot) → slots context ≡ stands
+    → ClaimShows slots context rest (events.claim_reply worn stands) (claim_result at (events.claim_reply worn stands))
+claim_shows_slot slots context rest at true None is = refl
+claim_shows_slot slots context rest at false None is = refl
+claim_shows_slot slots context rest at worn (Some (slot.Entry number)) is = stands_first slots context rest (slot.Entry number) is
+claim_shows_slot slots context rest at worn (Some (slot.Fault number)) is = stands_first slots context rest (slot.Fault number) is
+claim_shows_slot slots context rest at worn (Some (slot.Claim lane)) is = stands_first slots context rest (slot.Claim lane) is
+claim_shows_slot slots context rest at worn (Some (slot.Sealed kept)) is = stands_first slots context rest (slot.Sealed kept) is
 
-pub told : (limits : Limits) (lane : ℕ) (cell_of : ℕ → ℕ) (context : ℕ) (rest : List ℕ) (p : History) (r : Result Claimed CellRefusal)
-    → r ≡ claim_result (cell_of context) (reply_after limits p lane (Claim (cell_of context))) → Told (slots_in cell_of p) context rest (reply_after limits p lane (Claim (cell_of context))) r
-told limits lane cell_of context rest p r is =
-    subst (Told (slots_in cell_of p) context rest (reply_after limits p lane (Claim (cell_of context)))) (sym is) (told_slot (slots_in cell_of p) context rest (cell_of context) _ (slots_in cell_of p context) refl)
+pub claim_shows : (limits : Limits) (lane : ℕ) (cell_of : ℕ → ℕ) (context : ℕ) (rest : List ℕ) (p : History) (r : Result Claimed CellRefusal)
+    → r ≡ claim_result (cell_of context) (reply_after limits p lane (Claim (cell_of context))) → ClaimShows (slots_in cell_of p) context rest (reply_after limits p lane (Claim (cell_of context))) r
+claim_shows limits lane cell_of context rest p r is =
+    subst (ClaimShows (slots_in cell_of p) context rest (reply_after limits p lane (Claim (cell_of context)))) (sym is) (claim_shows_slot (slots_in cell_of p) context rest (cell_of context) _ (slots_in cell_of p context) refl)

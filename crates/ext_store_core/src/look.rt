@@ -75,7 +75,7 @@ impl StoreCore {
         self.tell_proof();
         let blocks = self.blocks();
         match self.cells.nearest(lane, path, blocks, key) {
-            Ok(Some(nearest)) => Ok(found_at(path[nearest.place], nearest.standing)),
+            Ok(Some(nearest)) => Ok(found_at(path[nearest.index], nearest.standing)),
             Ok(None) => Ok(Look::Absent),
             Err(CellRefusal::Contended) => Err(Refusal::Contended),
             Err(

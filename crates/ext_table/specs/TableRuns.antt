@@ -55,7 +55,7 @@ pub record IsOpenedFor {V : Type 0} (ids : List Id) (names : List (List ℕ)) (l
   pub store_is : IsStoreFor ids limits store
   pub names_are : IsPermutation names locks.names
   pub tries : locks.tries ≡ limits.tries
-  pub lanes : first.first ≡ map (fresh_store_lane store.id.places store.id.fault_places store.id.keys)
+  pub lanes : first.first ≡ map (fresh_store_lane store.id.slots store.id.fault_slots store.id.keys)
       (fresh_lanes store.id.cells 0 limits.lanes)
   pub lock_lanes : first.second ≡ locking.fresh_lanes locks.table limits.lanes limits.lanes
 

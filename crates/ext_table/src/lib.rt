@@ -25,7 +25,7 @@ mod table_run;
 
 pub use engine::{Engine, Kept};
 pub use ext_engine::{Call, EngineFault, Kind, Mode, NodeResult, OpenFault, Status};
-pub use ext_lifecycle::{FaultPlace, NoListener, RunListener};
+pub use ext_lifecycle::{FaultOrigin, NoListener, RunListener};
 pub use ext_locks::LockMode;
 pub use ext_model::{ContextNo, Fault};
 pub use ext_tree::Tree;

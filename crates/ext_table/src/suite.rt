@@ -15,7 +15,7 @@ use ext_closing::CloseAction;
 use ext_engine::{
     Call, Callbacks, Kind, Mode, NodeResult, Outcome, Status, Suite, Verdict, is_leaf,
 };
-use ext_lifecycle::FaultPlace;
+use ext_lifecycle::FaultOrigin;
 use ext_locks::{Held, LockRequest, Resource};
 use ext_model::{ContextNo, Fault, LaneNo};
 use ext_store::{Lane, Store};
@@ -66,7 +66,7 @@ impl<E: Engine, L: TableListener> CloseAction<Kept<E::Shared>> for Closing<'_, E
             Ok(()) => Ok(()),
             Err(stop) => {
                 let fault = stop.fault(self.rt);
-                self.listener.faulted(self.node, FaultPlace::Close, &fault);
+                self.listener.faulted(self.node, FaultOrigin::Close, &fault);
                 Err(fault)
             }
         }
@@ -238,13 +238,13 @@ impl<E: Engine, L> TableSuite<'_, E, L> {
 impl<E: Engine, L: TableListener> TableSuite<'_, E, L> {
     /// Tells the listener why a call did not succeed.
     fn tell(&self, node: ContextNo, call: &Call, verdict: &Verdict) {
-        let place = FaultPlace::Step {
+        let origin = FaultOrigin::Step {
             call: *call,
             step: 0,
         };
         match verdict {
             Verdict::Failed(fault) | Verdict::Aborted(fault) => {
-                self.listener.faulted(node, place, fault);
+                self.listener.faulted(node, origin, fault);
             }
             Verdict::Successful => {}
         }

@@ -3,7 +3,7 @@ use Rattle.std.proofs.Common.{ℕ, zero, suc, ◌≡◌, ◌+◌, ◌<◌, ◌�
 use Rattle.std.proofs.Math.ListN.{get_or-map}
 use Rattle.std.proofs.lemmas.List.{get_or_default, length-map, set-get_or}
 use Rattle.once_cell.specs.Once.{Agrees}
-use Rattle.ext_values.specs.Known.{Known, AllAgree, known_at, places_of}
+use Rattle.ext_values.specs.Known.{Known, AllAgree, known_at, slots_of}
 use Rattle.ext_values.proofs.Learning.{known_at-entry}
 use Rattle.ext_values.proofs.NotesLaws.{known_within}
 
@@ -25,31 +25,31 @@ module _ {V : Type 0} where
   agree_all count notes others all agree zero value second known known' = absurd (cc)
   agree_all count notes others all agree (suc index) value second known known' =
       let within = (known_within notes (suc index) value known).1 in
-      let e = length-map notes (λ (x : Known V). x.place) in agree index (omega arith) value second known known'
+      let e = length-map notes (λ (x : Known V). x.slot) in agree index (omega arith) value second known known'
 
   -- an entry that is written back as it was changes nothing
   pub written_back : (entries notes : List (Known V)) (index : ℕ) (entry written : Known V) → entries ≡ notes → entry ≡ get_or entries index entry → written ≡ entry → set entries index written ≡ notes
   written_back entries notes index entry written view is same = ap (λ x. set entries index x) (same ∙ is) ∙ (set-get_or entries index entry ∙ view)
 
--- the entries of two lanes' notes, of the same places, at one index
-module _ {V : Type 0} (entries notes : List (Known V)) (view : entries ≡ notes) (entries' others : List (Known V)) (view' : entries' ≡ others) (places : places_of notes ≡ places_of others) (index : ℕ) (below : index < length entries)
+-- the entries of two lanes' notes, of the same slots, at one index
+module _ {V : Type 0} (entries notes : List (Known V)) (view : entries ≡ notes) (entries' others : List (Known V)) (view' : entries' ≡ others) (slots : slots_of notes ≡ slots_of others) (index : ℕ) (below : index < length entries)
     (entry other : Known V) (is : entry ≡ get_or entries index entry) (is' : other ≡ get_or entries' index other) where
-  same_places : places_of entries ≡ places_of entries'
-  same_places = ap (λ l. places_of l) view ∙ (places ∙ sym (ap (λ l. places_of l) view'))
+  same_slots : slots_of entries ≡ slots_of entries'
+  same_slots = ap (λ l. slots_of l) view ∙ (slots ∙ sym (ap (λ l. slots_of l) view'))
 
-  pub same_place : entry.place ≡ other.place
-  same_place =
-      let e = length-map entries (λ (x : Known V). x.place) in
-      let a : get_or (places_of entries) index entry.place ≡ entry.place = get_or-map (λ (x : Known V). x.place) entries index entry ∙ ap (λ (x : Known V). x.place) (sym is) in
-      let b : get_or (places_of entries') index other.place ≡ other.place = get_or-map (λ (x : Known V). x.place) entries' index other ∙ ap (λ (x : Known V). x.place) (sym is') in
-      let there : index < length (places_of entries) = omega arith in
-      sym a ∙ (get_or_default (places_of entries) index entry.place other.place there ∙ (ap (λ l. get_or l index other.place) same_places ∙ b))
+  pub same_slot : entry.slot ≡ other.slot
+  same_slot =
+      let e = length-map entries (λ (x : Known V). x.slot) in
+      let a : get_or (slots_of entries) index entry.slot ≡ entry.slot = get_or-map (λ (x : Known V). x.slot) entries index entry ∙ ap (λ (x : Known V). x.slot) (sym is) in
+      let b : get_or (slots_of entries') index other.slot ≡ other.slot = get_or-map (λ (x : Known V). x.slot) entries' index other ∙ ap (λ (x : Known V). x.slot) (sym is') in
+      let there : index < length (slots_of entries) = omega arith in
+      sym a ∙ (get_or_default (slots_of entries) index entry.slot other.slot there ∙ (ap (λ l. get_or l index other.slot) same_slots ∙ b))
 
   below' : index < length entries'
   below' =
-      let a = length-map entries (λ (x : Known V). x.place) in
-      let b = length-map entries' (λ (x : Known V). x.place) in
-      let e = ap length same_places in omega arith
+      let a = length-map entries (λ (x : Known V). x.slot) in
+      let b = length-map entries' (λ (x : Known V). x.slot) in
+      let e = ap length same_slots in omega arith
 
   pub agree_more : IfSome other.value (Agrees entry.value) → AgreeBelow index notes others → AgreeBelow (index + 1) notes others
   agree_more told agree = below_more (AgreeAt notes others) index agree here

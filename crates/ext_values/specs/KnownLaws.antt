@@ -1,21 +1,21 @@
 -- Laws of what lanes know, by which a reader may judge the definitions.
 use Rattle.std.specs.Prelude.{ℕ, ◌≡◌, List, Some, None}
-use Rattle.ext_values.specs.Places.{IsNumber}
-use Rattle.ext_values.specs.Known.{Known, AreNotesOf, Learns, known_at, nothing_known, places_of}
+use Rattle.ext_values.specs.Slots.{IsNumber}
+use Rattle.ext_values.specs.Known.{Known, AreNotesOf, Learns, known_at, nothing_known, slots_of}
 
--- A lane that starts with these places knows them, but no value.
+-- A lane that starts with these slots knows them, but no value.
 pub record NothingIsKnown (V : Type 0) : Type 0 where
-  pub places : (places : List ℕ) → AreNotesOf places (nothing_known {V = V} places)
-  pub values : (places : List ℕ) (number : ℕ) → known_at (nothing_known {V = V} places) number ≡ None
+  pub slots : (slots : List ℕ) → AreNotesOf slots (nothing_known {V = V} slots)
+  pub values : (slots : List ℕ) (number : ℕ) → known_at (nothing_known {V = V} slots) number ≡ None
 
--- A number whose value is known has one of the places.
+-- A number whose value is known has one of the slots.
 abbrev pub KnownNumbersAreNumbers : Type 0 → Type 0
 KnownNumbersAreNumbers V = (notes : List (Known V)) (number : ℕ) (value : V) → known_at notes number ≡ Some value
-    → IsNumber (places_of notes) number
+    → IsNumber (slots_of notes) number
 
--- Notes are determined by their places and by what is known of each number.
+-- Notes are determined by their slots and by what is known of each number.
 abbrev pub NotesTell : Type 0 → Type 0
-NotesTell V = (notes second : List (Known V)) → places_of notes ≡ places_of second
+NotesTell V = (notes second : List (Known V)) → slots_of notes ≡ slots_of second
     → ((number : ℕ) → known_at notes number ≡ known_at second number) → notes ≡ second
 
 -- What is known after a value was learnt is determined by what was known before.

@@ -1,4 +1,4 @@
 pub mod InnerFlags
 pub mod Known
 pub mod KnownLaws
-pub mod Places
+pub mod Slots

@@ -22,7 +22,7 @@ impl<V> Model for Entry<V> {
 
     ghost Value = { Known V };
 
-    ghost view = { λ e. record { place = e.seen.cell; value = e.seen.known } };
+    ghost view = { λ e. record { slot = e.seen.cell; value = e.seen.known } };
 }
 
 impl<V> Entry<V> {
@@ -35,8 +35,8 @@ impl<V> Entry<V> {
 
     /// The value of the slot, if one is found. A known value is always found.
     pub fn get<'a>(&mut self, slot: &'a OnceBox<V>) -> Option<&'a V>
-        requires { self.old.place ≡ cell_name slot.now }
-        ensures place { self.new.place ≡ self.old.place }
+        requires { self.old.slot ≡ cell_name slot.now }
+        ensures slot { self.new.slot ≡ self.old.slot }
         ensures found { IfSome result (λ x. self.new.value ≡ Some x.now) }
         ensures same { IfSome result (λ x. Agrees self.old.value x.now) }
         ensures none { IfNone result ((self.new ≡ self.old) × (self.old.value ≡ None)) }
@@ -46,7 +46,7 @@ impl<V> Entry<V> {
 
     /// Shows that two entries of one slot know the same value, if both know one.
     pub fn agree(&mut self, other: &mut Entry<V>)
-        requires { self.old.place ≡ other.old.place }
+        requires { self.old.slot ≡ other.old.slot }
         ensures value { IfSome other.old.value (Agrees self.old.value) }
         ensures unchanged { (self.new ≡ self.old) × (other.new ≡ other.old) }
     {
@@ -58,8 +58,8 @@ impl<V: Drop> Entry<V> {
     /// Puts the value in the slot. If the slot is taken, the box is handed back, and the entry
     /// knows the value that stands there.
     pub fn place(&mut self, slot: &OnceBox<V>, value: Box<V>) -> Result<(), Box<V>>
-        requires { self.old.place ≡ cell_name slot.now }
-        ensures place { self.new.place ≡ self.old.place }
+        requires { self.old.slot ≡ cell_name slot.now }
+        ensures slot { self.new.slot ≡ self.old.slot }
         ensures placed { OnOk result (self.new.value ≡ Some value.value) }
         ensures free { OnOk result (self.old.value ≡ None) }
         ensures handed_back { IfErr result (λ b. b.value ≡ value.value) }

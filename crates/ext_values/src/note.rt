@@ -14,11 +14,11 @@ pub struct Note<V> {
 
 impl<V> Model for Note<V> {
     ghost use Rattle.std.specs.Prelude.{IsSome};
-    ghost use Rattle.ext_values.specs.Places.{Told};
+    ghost use Rattle.ext_values.specs.Slots.{Shown};
 
-    ghost Value = { Told V };
+    ghost Value = { Shown V };
 
-    ghost view = { λ n. record { number = n.number; place = n.seen.cell; value = n.seen.known } };
+    ghost view = { λ n. record { number = n.number; slot = n.seen.cell; value = n.seen.known } };
 
     ghost invariant = { λ n. IsSome n.seen.known };
 }

@@ -1,7 +1,7 @@
 //! What one lane knows of the values of all numbers, and whether it knows one.
 ghost use Rattle.std.specs.Prelude.{◌≡◌, IfErr, IfNone, IfOk, IfSome, OnErr, OnOk, OnSome, None, is_some};
-ghost use Rattle.ext_values.specs.Places.{IsNumber};
-ghost use Rattle.ext_values.specs.Known.{AllAgree, AreNotesOf, KeepsKnown, Learns, LearnsOne, known_at, nothing_known, places_of};
+ghost use Rattle.ext_values.specs.Slots.{IsNumber};
+ghost use Rattle.ext_values.specs.Known.{AllAgree, AreNotesOf, KeepsKnown, Learns, LearnsOne, known_at, nothing_known, slots_of};
 
 use crate::flag_bits::FlagBits;
 use crate::{SilentNotes, Values, ValuesFault};
@@ -72,7 +72,7 @@ impl<V> Notes<V> {
     /// Shows that a number that both notes know has the same value in both. The notes must be of
     /// the same slots, and stay as they were.
     pub fn meet(&mut self, other: &mut Notes<V>)
-        requires { places_of self.old ≡ places_of other.old }
+        requires { slots_of self.old ≡ slots_of other.old }
         ensures agree { AllAgree self.old other.old }
         ensures unchanged { (self.new ≡ self.old) × (other.new ≡ other.old) }
     {

@@ -1,7 +1,7 @@
 //! Slots for values, found by their numbers.
 ghost use Rattle.std.specs.Prelude.{◌≡◌, ◌↔◌, IfErr, IfOk, IfSome, IsSome, IsTrue, OnSome, Some, length};
 ghost use Rattle.once_cell.specs.Once.{cell_name};
-ghost use Rattle.ext_values.specs.Places.{IsCapacity, IsNoteOf, IsNumber, place_of};
+ghost use Rattle.ext_values.specs.Slots.{IsCapacity, IsNoteOf, IsNumber, slot_of};
 
 use crate::{Note, ValuesFault};
 use once_cell::race::OnceBox;
@@ -22,7 +22,7 @@ const _: () = prove!(size_of::<OnceBox<[u64; 4]>>() == size_of::<usize>());
 impl<V> Model for Values<V> {
     ghost use Rattle.std.specs.Prelude.{ℕ, List, length, map};
     ghost use Rattle.once_cell.specs.Once.{cell_name};
-    ghost use Rattle.ext_values.specs.Places.{IsCapacity};
+    ghost use Rattle.ext_values.specs.Slots.{IsCapacity};
 
     ghost Value = { List ℕ };
 
@@ -132,7 +132,7 @@ impl<V> Values<V> {
     // The slot with this number.
     pub(crate) fn slot_at(&self, number: u32) -> &OnceBox<V>
         requires { IsNumber self.now number }
-        ensures { cell_name result.now ≡ place_of self.now number }
+        ensures { cell_name result.now ≡ slot_of self.now number }
     {
         &self.slots[number as usize - 1]
     }

@@ -11,8 +11,8 @@ use crate::failing::tell_failures;
 use crate::progress::{Progress, run_beside};
 use ext_model::Fault;
 use ext_run::{
-    Failures, FaultPlace, NoListener, NodeResult, Options, Plan, ReportForm, RunFault, RunListener,
-    Summary, run_plan,
+    Failures, FaultOrigin, NoListener, NodeResult, Options, Plan, ReportForm, RunFault,
+    RunListener, Summary, run_plan,
 };
 use std::alloc::AllocError;
 use std::io::Write;
@@ -126,9 +126,9 @@ impl<R: Wait + Clock> RunListener for Listener<'_, R> {
         }
     }
 
-    fn faulted(&self, node: usize, place: FaultPlace, fault: &Fault) {
+    fn faulted(&self, node: usize, origin: FaultOrigin, fault: &Fault) {
         if let Some(failures) = &self.failures {
-            failures.faulted(node, place, fault);
+            failures.faulted(node, origin, fault);
         }
     }
 

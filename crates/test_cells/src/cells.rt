@@ -261,8 +261,8 @@ fn sixteen(cells: &Cells, lane: &mut CellLane) -> Option<[u64; 16]>
     let all = [255, 240, 32, 31, 30, 15, 14, 13, 12, 11, 10, 9, 8, 7, 1, 0];
     let words = cells.collect(lane, &all).ok()?;
     let mut found = [0; 16];
-    for place in 0..16 {
-        found[place] = words.get(place);
+    for index in 0..16 {
+        found[index] = words.get(index);
     }
     Some(found)
 }
@@ -286,12 +286,12 @@ fn sixteen_cells_at_once(rt: HostRuntime) {
     same(&rt, found, Some(wanted), "the words");
 }
 
-/// The place of the nearest row and what stands there, where one was found.
+/// The index of the nearest row and what stands there, where one was found.
 fn place_and_standing(
     found: Result<Option<Nearest>, CellRefusal>,
 ) -> Result<Option<(usize, Standing)>, CellRefusal> {
     match found {
-        Ok(Some(nearest)) => Ok(Some((nearest.place, nearest.standing))),
+        Ok(Some(nearest)) => Ok(Some((nearest.index, nearest.standing))),
         Ok(None) => Ok(None),
         Err(refusal) => Err(refusal),
     }

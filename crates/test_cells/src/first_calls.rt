@@ -39,13 +39,13 @@ fn first_calls_see_another_lanes_put(rt: HostRuntime) {
     }
 }
 
-/// The place of the nearest of the two rows.
+/// The index of the nearest of the two rows.
 fn nearest_of_two(cells: &Cells, lane: &mut CellLane) -> Option<usize>
     requires lane { lane.old.cells ≡ cells.now.id }
     requires cells { 128 ≤ cells.now.id.limits.cells }
 {
     match cells.nearest(lane, &[1, 0], 2, 0) {
-        Ok(Some(nearest)) => Some(nearest.place),
+        Ok(Some(nearest)) => Some(nearest.index),
         Ok(None) | Err(_) => None,
     }
 }

@@ -1,10 +1,10 @@
-//! The worked examples of places and notes, and callers that go by the clauses alone.
+//! The worked examples of slots and notes, and callers that go by the clauses alone.
 //!
 //! `placed_and_found` and `notes_know_what_was_placed_or_shown` show the calls of `ext_values`: a
-//! value that was placed is found by other lanes too, and a taken place hands the box back and
+//! value that was placed is found by other lanes too, and a taken slot hands the box back and
 //! shows which value stands there.
 ghost use Rattle.std.specs.Prelude.{◌≡◌, ◌<◌, IfErr, IfOk, IfSome};
-ghost use Rattle.ext_values.specs.Places.{IsCapacity, IsNoteOf, IsNumber};
+ghost use Rattle.ext_values.specs.Slots.{IsCapacity, IsNoteOf, IsNumber};
 ghost use Rattle.ext_values.specs.Known.{AreNotesOf};
 
 use crate::same::same;
@@ -32,7 +32,7 @@ fn placed_and_shown(values: &Values<u8>, number: u32, value: Box<u8>) -> Option<
     Some(*values.show_known(&mut second))
 }
 
-/// What a taken place hands back, and the value that it keeps.
+/// What a taken slot hands back, and the value that it keeps.
 fn handed_back(values: &Values<u8>, number: u32, value: Box<u8>) -> Option<(u8, u8)>
     requires { IsNumber values.now number }
     ensures { IfSome result (λ r. r.0 ≡ value.value) }
@@ -54,7 +54,7 @@ fn shown(values: &Values<u8>, number: u32) -> Option<u8> {
 /// Tests `Values::place`, `Values::show`, `Values::has_number`, `Values::show_known`,
 /// `Values::agree` and `Note::number`.
 #[test]
-fn places_are_set_once(rt: HostRuntime) -> Result<(), Fail> {
+fn slots_are_set_once(rt: HostRuntime) -> Result<(), Fail> {
     let values = Values::new(rt.alloc(), 3)?;
     let first = placed_and_shown(&values, 1, Box::new(rt.alloc(), 7)?);
     let third = placed_and_shown(&values, 3, Box::new(rt.alloc(), 9)?);
@@ -69,7 +69,7 @@ fn places_are_set_once(rt: HostRuntime) -> Result<(), Fail> {
     for (number, value) in [(0, None), (1, Some(7)), (2, None), (3, Some(9)), (4, None)] {
         same(&rt, shown(&values, number), value, "what is shown");
         let is_inside = number > 0 && number < 4;
-        same(&rt, values.has_number(number), is_inside, "a place");
+        same(&rt, values.has_number(number), is_inside, "a slot");
     }
     Ok(())
 }
@@ -110,14 +110,14 @@ fn value_seen_after_the_thread_ended(rt: HostRuntime) -> Result<(), Fail> {
         { noted_by_thread(shared, first) },
         || (),
     );
-    let note = theirs.ok_or("the place was taken")?;
+    let note = theirs.ok_or("the slot was taken")?;
     same(&rt, agreed(shared, note), Some(7), "the value");
     let back = handed_back(shared, 1, Box::new(rt.alloc(), 8)?);
     same(&rt, back, Some((8, 7)), "a further value");
     Ok(())
 }
 
-/// Places the value for a lane, which then finds it; what is handed back where the place is taken.
+/// Places the value for a lane, which then finds it; what is handed back where the slot is taken.
 fn placed_and_found(
     values: &Values<u8>,
     notes: &mut Notes<u8>,
@@ -209,10 +209,10 @@ fn notes_know_what_was_placed_or_shown(rt: HostRuntime) -> Result<(), Fail> {
     let mut own = Notes::new(rt.alloc(), &values)?;
     let mut other = Notes::new(rt.alloc(), &values)?;
     let nothing = found_by_both(&values, &mut own, &mut other, 2);
-    same(&rt, nothing, None, "an empty place");
+    same(&rt, nothing, None, "an empty slot");
     let placed = placed_and_found(&values, &mut own, 2, Box::new(rt.alloc(), 7)?);
     let refused = placed_and_found(&values, &mut other, 2, Box::new(rt.alloc(), 8)?);
-    same(&rt, (placed, refused), (Ok(7), Err(8)), "one place");
+    same(&rt, (placed, refused), (Ok(7), Err(8)), "one slot");
     let known = (own.knows(2), own.knows(1), other.knows(2));
     same(&rt, known, (true, false, true), "what is known");
     let found = found_by_both(&values, &mut own, &mut other, 2);
@@ -228,7 +228,7 @@ fn notes_know_what_was_placed_or_shown(rt: HostRuntime) -> Result<(), Fail> {
 }
 
 /// Places the value for a lane whose notes nobody asks, which then finds it; what is handed back
-/// where the place is taken.
+/// where the slot is taken.
 fn placed_silently(
     values: &Values<u8>,
     notes: &mut SilentNotes<u8>,
@@ -278,10 +278,10 @@ fn silent_notes_find_what_was_placed(rt: HostRuntime) -> Result<(), Fail> {
     let mut own = SilentNotes::new(rt.alloc(), &values)?;
     let mut other = SilentNotes::new(rt.alloc(), &values)?;
     let nothing = found_silently(&values, &mut own, &mut other, 2);
-    same(&rt, nothing, None, "an empty place");
+    same(&rt, nothing, None, "an empty slot");
     let placed = placed_silently(&values, &mut own, 2, Box::new(rt.alloc(), 7)?);
     let refused = placed_silently(&values, &mut other, 2, Box::new(rt.alloc(), 8)?);
-    same(&rt, (placed, refused), (Ok(7), Err(8)), "one place");
+    same(&rt, (placed, refused), (Ok(7), Err(8)), "one slot");
     let found = found_silently(&values, &mut other, &mut own, 2);
     same(&rt, found, Some((7, 7)), "what both find");
     let below = found_silently(&values, &mut own, &mut other, 0);
@@ -324,7 +324,7 @@ fn capacities_from_1_to_1048575(rt: HostRuntime) -> Result<(), Fail> {
 /// With a capacity of 0 there is no number, and neither kind of notes finds a value.
 /// Tests `Values::new`, `Values::capacity` and `Notes::new`.
 #[test]
-fn no_places_for_no_numbers(rt: HostRuntime) -> Result<(), Fail> {
+fn no_slots_for_no_numbers(rt: HostRuntime) -> Result<(), Fail> {
     let values: Values<u8> = Values::new(rt.alloc(), 0)?;
     let numbers = (
         values.capacity(),

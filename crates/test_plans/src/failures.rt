@@ -2,7 +2,7 @@
 use crate::same::same;
 use ext_model::{ContextNo, Fault};
 use ext_run::{
-    Call, Failures, FaultPlace, Kind, ListForm, NoListener, NodeResult, RunListener, Size,
+    Call, Failures, FaultOrigin, Kind, ListForm, NoListener, NodeResult, RunListener, Size,
     ToldFaults, failures_text, plan_of,
 };
 use std::alloc::{AllocError, Global};
@@ -19,8 +19,8 @@ fn fault(alloc: Global, text: &str) -> Result<Fault, AllocError> {
 }
 
 /// At a step of this call.
-fn at(kind: Kind, from: ContextNo, index: usize, step: usize) -> FaultPlace {
-    FaultPlace::Step {
+fn at(kind: Kind, from: ContextNo, index: usize, step: usize) -> FaultOrigin {
+    FaultOrigin::Step {
         call: Call { kind, from, index },
         step,
     }
@@ -41,7 +41,7 @@ fn faults_are_told_once_more_by_node(rt: HostRuntime) -> Result<(), Fail> {
     let failures = Failures::new(&rt, alloc, &NoListener);
     failures.started(2, 0);
     failures.faulted(2, at(Kind::Test, 2, 0, 3), &fault(alloc, "first")?);
-    failures.faulted(1, FaultPlace::Close, &Fault::Memory);
+    failures.faulted(1, FaultOrigin::Close, &Fault::Memory);
     failures.faulted(2, at(Kind::AfterEach, 0, 1, 0), &fault(alloc, "second")?);
     failures.ended(&NodeResult::skipped(2, true), 3);
     let told = failures.into_told();
@@ -85,7 +85,7 @@ fn faults_are_told_as_json(rt: HostRuntime) -> Result<(), Fail> {
     let alloc = rt.alloc();
     let mut told = ToldFaults::new(alloc);
     told.note(alloc, 2, at(Kind::Test, 2, 0, 3), &fault(alloc, "a \"b\"")?);
-    told.note(alloc, 1, FaultPlace::Close, &Fault::Memory);
+    told.note(alloc, 1, FaultOrigin::Close, &Fault::Memory);
     told.note(
         alloc,
         2,
@@ -131,7 +131,7 @@ impl RunListener for Sum {
         self.add(node, 1);
     }
 
-    fn faulted(&self, node: ContextNo, _place: FaultPlace, _fault: &Fault) {
+    fn faulted(&self, node: ContextNo, _origin: FaultOrigin, _fault: &Fault) {
         self.add(node, 100);
     }
 
@@ -147,8 +147,8 @@ fn each_is_passed_on_once(rt: HostRuntime) -> Result<(), Fail> {
     let sum = Sum(AtomicU64::new(0));
     let failures = Failures::new(&rt, rt.alloc(), &sum);
     failures.started(2, 0);
-    failures.faulted(2, FaultPlace::Close, &Fault::Memory);
-    failures.faulted(1, FaultPlace::Close, &Fault::Memory);
+    failures.faulted(2, FaultOrigin::Close, &Fault::Memory);
+    failures.faulted(1, FaultOrigin::Close, &Fault::Memory);
     failures.ended(&NodeResult::skipped(3, true), 4);
     let told = sum.0.load(Ordering::SeqCst);
     same(&rt, told, 30_302, "what was passed on");
@@ -161,7 +161,7 @@ fn each_is_passed_on_once(rt: HostRuntime) -> Result<(), Fail> {
 fn lost_faults_are_told(rt: HostRuntime) -> Result<(), Fail> {
     let alloc = rt.alloc();
     let mut told = ToldFaults::new(alloc);
-    told.note(alloc, 1, FaultPlace::Close, &Fault::Memory);
+    told.note(alloc, 1, FaultOrigin::Close, &Fault::Memory);
     told.lost = true;
     let text = text_of(alloc, &told, ListForm::Lines)?;
     let wanted = "[e:x]/[m:1]: no memory (close)\nfurther faults were lost: no memory\n";

@@ -5,7 +5,7 @@ use crate::rows::{FOUR_LANES, PLAIN};
 use crate::same::same;
 use ext_model::Fault;
 use ext_run::{
-    Call, FaultPlace, Kind, NodeResult, Options, ReportForm, RunListener, Size, plan_of, run_plan,
+    Call, FaultOrigin, Kind, NodeResult, Options, ReportForm, RunListener, Size, plan_of, run_plan,
 };
 use std::alloc::Global;
 use std::process::Abort;
@@ -25,11 +25,11 @@ const PLAN: &str =
 const THREE_FAULTS: &str =
     "[[key]]\nlabel = \"a\"\n\n[[node]]\nid = \"[engine:x]\"\nafter_each = [[], [\"fail u\"]]\n\n[[node]]\nid = \"[engine:x]/[method:m()]\"\ntest = [\"put! a bad\", \"fail t\"]\n";
 
-/// The faults of that test, in the order in which they come, with their places,
-const FAULTS: [(&str, FaultPlace); 3] = [
+/// The faults of that test, in the order in which they come, with their origins,
+const FAULTS: [(&str, FaultOrigin); 3] = [
     (
         "t",
-        FaultPlace::Step {
+        FaultOrigin::Step {
             call: Call {
                 kind: Kind::Test,
                 from: 1,
@@ -40,7 +40,7 @@ const FAULTS: [(&str, FaultPlace); 3] = [
     ),
     (
         "u",
-        FaultPlace::Step {
+        FaultOrigin::Step {
             call: Call {
                 kind: Kind::AfterEach,
                 from: 0,
@@ -49,7 +49,7 @@ const FAULTS: [(&str, FaultPlace); 3] = [
             step: 0,
         },
     ),
-    ("close bad", FaultPlace::Close),
+    ("close bad", FaultOrigin::Close),
 ];
 
 /// and the report of its run.
@@ -150,11 +150,11 @@ impl RunListener for Heard {
     }
 
     /// Comes between the start and the end, with the next of the faults where the node has three.
-    fn faulted(&self, node: usize, place: FaultPlace, fault: &Fault) {
+    fn faulted(&self, node: usize, origin: FaultOrigin, fault: &Fault) {
         self.expect(self.starts.of(node) == Some(1) && self.ends.of(node) == Some(0));
         let told = self.faults.add(node);
         if self.nodes == 2 {
-            self.expect(is_next(told, place, fault));
+            self.expect(is_next(told, origin, fault));
         }
     }
 
@@ -175,8 +175,8 @@ fn faults_in(ran: &NodeResult) -> u64 {
     }
 }
 
-/// Whether it is the fault that comes after so many, at its place.
-fn is_next(before: Option<u64>, place: FaultPlace, fault: &Fault) -> bool {
+/// Whether it is the fault that comes after so many, with its origin.
+fn is_next(before: Option<u64>, origin: FaultOrigin, fault: &Fault) -> bool {
     let Fault::Text(text) = fault else {
         return false;
     };
@@ -186,7 +186,7 @@ fn is_next(before: Option<u64>, place: FaultPlace, fault: &Fault) -> bool {
         Some(2) => FAULTS[2],
         _ => return false,
     };
-    text.as_str() == wanted && place == at
+    text.as_str() == wanted && origin == at
 }
 
 /// Runs the plan so, with this listener, and asserts that a node failed. Gives the report.
@@ -292,7 +292,7 @@ impl<C: Clock> RunListener for HoldsUp<'_, C> {
         self.starts.add(lane);
     }
 
-    fn faulted(&self, _node: usize, _place: FaultPlace, _fault: &Fault) {
+    fn faulted(&self, _node: usize, _origin: FaultOrigin, _fault: &Fault) {
         if self.held.swap(1, Ordering::SeqCst) == 1 {
             self.miss();
         }

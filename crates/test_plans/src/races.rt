@@ -410,7 +410,7 @@ const PLANS: [([&str; 6], &str); 32] = [
 
 /// What is told of a plan's races: by lines, and as JSON without its line feed.
 #[derive(Drop)]
-struct Told {
+struct RaceTexts {
     lines: String,
     object: Vec<u8>,
 }
@@ -421,16 +421,16 @@ struct Told {
 #[test]
 fn races_of_worked_plans(rt: HostRuntime) -> Result<(), AllocError> {
     for (fields, wanted) in PLANS {
-        let told = told_of(rt.alloc(), &fields)?;
-        assert_eq!(rt; told.lines.as_str(), wanted);
+        let texts = texts_of(rt.alloc(), &fields)?;
+        assert_eq!(rt; texts.lines.as_str(), wanted);
     }
     Ok(())
 }
 
 /// What is told of a plan of these fields.
-fn told_of(alloc: Global, fields: &[&str; 6]) -> Result<Told, AllocError> {
+fn texts_of(alloc: Global, fields: &[&str; 6]) -> Result<RaceTexts, AllocError> {
     let text = plan_text(alloc, fields)?;
-    told_of_plan(alloc, text.as_str(), Size::Usual)
+    texts_of_plan(alloc, text.as_str(), Size::Usual)
 }
 
 /// The plan of these fields.
@@ -445,18 +445,18 @@ fn plan_text(alloc: Global, fields: &[&str; 6]) -> Result<String, AllocError> {
 }
 
 /// What is told of the races of this plan, which is so large at most.
-fn told_of_plan(alloc: Global, text: &str, size: Size) -> Result<Told, AllocError> {
+fn texts_of_plan(alloc: Global, text: &str, size: Size) -> Result<RaceTexts, AllocError> {
     match read_plan_within(alloc, text, size) {
         Ok(plan) => {
             let found = races(alloc, &plan, 21)?;
             let mut object = races_json(alloc, &plan, &found)?;
             let _ = object.pop();
-            Ok(Told {
+            Ok(RaceTexts {
                 lines: races_text(alloc, &plan, &found)?,
                 object,
             })
         }
-        Err(_) => Ok(Told {
+        Err(_) => Ok(RaceTexts {
             lines: String::from_str(alloc, "refused")?,
             object: Vec::new(alloc),
         }),
@@ -500,8 +500,8 @@ const OBJECTS: [([&str; 6], &str); 3] = [
 #[test]
 fn races_as_json(rt: HostRuntime) -> Result<(), AllocError> {
     for (fields, wanted) in &OBJECTS {
-        let told = told_of(rt.alloc(), fields)?;
-        assert_eq!(rt; told.object.as_slice(), wanted.as_bytes());
+        let texts = texts_of(rt.alloc(), fields)?;
+        assert_eq!(rt; texts.object.as_slice(), wanted.as_bytes());
     }
     Ok(())
 }
@@ -543,9 +543,9 @@ const PUTS: [(u32, Size, &str, &str); 3] = [
 fn numbers_are_few_for_the_size(rt: HostRuntime) -> Result<(), AllocError> {
     for (count, size, wanted, object) in &PUTS {
         let plan = plan_of_puts(rt.alloc(), *count)?;
-        let told = told_of_plan(rt.alloc(), plan.as_str(), *size)?;
-        assert_eq!(rt; told.lines.as_str(), *wanted);
-        assert_eq!(rt; told.object.as_slice(), object.as_bytes());
+        let texts = texts_of_plan(rt.alloc(), plan.as_str(), *size)?;
+        assert_eq!(rt; texts.lines.as_str(), *wanted);
+        assert_eq!(rt; texts.object.as_slice(), object.as_bytes());
     }
     Ok(())
 }

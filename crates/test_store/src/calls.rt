@@ -3,7 +3,7 @@ ghost use Rattle.std.specs.Prelude.{◌≡◌, ◌<◌, IfErr, IfSome, length};
 ghost use Rattle.ext_store.specs.Stores.{IsKeptBy, IsLaneOf, StillKeeps};
 
 use crate::asked::{Scenario, same, with_chain};
-use crate::chain::{Call, Told, rows};
+use crate::chain::{Answer, Call, rows};
 use crate::full::name_from;
 use crate::opening::{Letter, contexts, plain};
 use crate::wide::lanes_and_closers;
@@ -40,7 +40,7 @@ fn first_calls_see_what_another_lane_put(rt: HostRuntime) {
     let calls = [
         Call::Gets(Ok(found)),
         Call::Removes(Ok(Some(1))),
-        Call::Computes('y', Told::Found(0, 1)),
+        Call::Computes('y', Answer::Found(0, 1)),
         // the number that is drawn first is the next one
         Call::Puts(plain('y'), 2, Ok(Some(1))),
         // the seals of a close, which names the value that its lane was not shown

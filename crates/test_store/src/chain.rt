@@ -19,7 +19,7 @@ use std::process::Abort;
 /// What a compute answers. Where its factory comes back unused, it was called afterwards and gave
 /// the letter that it was to give.
 #[derive(Clone, Copy, Debug, PartialEq, Eq)]
-pub(crate) enum Told {
+pub(crate) enum Answer {
     Computed(u32),
     Found(ContextNo, u32),
     Failed,
@@ -44,13 +44,13 @@ pub(crate) enum Call {
     /// which comes back, is put then, where nothing stands.
     PutsInstead(Letter, u32, Refusal, ContextNo),
     /// The letter that the factory makes.
-    Computes(char, Told),
+    Computes(char, Answer),
     /// The letter that the factory makes, of a closeable value.
-    ComputesToClose(char, Told),
+    ComputesToClose(char, Answer),
     /// The text with which the factory fails.
     Fails(&'static str),
-    /// The same, with what the compute tells.
-    FailsAs(&'static str, Told),
+    /// The same, with what the compute answers.
+    FailsAs(&'static str, Answer),
     ShowsFault(u32, Option<&'static str>),
     Shows(u32, Option<Letter>),
     /// By all lanes up to this one: how many values are closed, or why none is, and the numbers
@@ -158,26 +158,26 @@ fn give_back(rt: &impl Abort, store: &Store<Letter>, closers: &mut Vec<Closer>, 
     };
 }
 
-/// What the compute tells whose factory makes the letter.
-fn tell(outcome: Compute<Letter, Result<Letter, Fault>>, letter: char) -> Told {
+/// What the compute answers whose factory makes the letter.
+fn answer_of(outcome: Compute<Letter, Result<Letter, Fault>>, letter: char) -> Answer {
     match outcome {
-        Compute::Computed { number } => Told::Computed(number),
+        Compute::Computed { number } => Answer::Computed(number),
         Compute::Found {
             at,
             number,
             unused: Ok(value),
-        } if value.letter == letter => Told::Found(at, number),
+        } if value.letter == letter => Answer::Found(at, number),
         Compute::FaultStands {
             at,
             number,
             unused: Ok(value),
-        } if value.letter == letter => Told::FaultStands(at, number),
-        Compute::Unkept { value, cause } if value.letter == letter => Told::Unkept(cause),
+        } if value.letter == letter => Answer::FaultStands(at, number),
+        Compute::Unkept { value, cause } if value.letter == letter => Answer::Unkept(cause),
         Compute::Refused {
             refusal,
             unused: Ok(value),
-        } if value.letter == letter => Told::Refused(refusal),
-        _ => Told::Other,
+        } if value.letter == letter => Answer::Refused(refusal),
+        _ => Answer::Other,
     }
 }
 
@@ -196,35 +196,39 @@ fn check_fault<R: Abort>(rt: &R, fault: Option<&Fault>, text: Option<&str>) {
 }
 
 /// This, where the fault has the text.
-fn told_if(fault: &Fault, text: &str, told: Told) -> Told {
+fn answer_if(fault: &Fault, text: &str, answer: Answer) -> Answer {
     if text_of(Some(fault)) == Some(text) {
-        told
+        answer
     } else {
-        Told::Other
+        Answer::Other
     }
 }
 
 /// This, where the factory that came back fails with the text.
-fn told_if_unused(made: Result<Letter, Fault>, text: &str, told: Told) -> Told {
+fn answer_if_unused(made: Result<Letter, Fault>, text: &str, answer: Answer) -> Answer {
     match made {
-        Ok(_) => Told::Other,
-        Err(fault) => told_if(&fault, text, told),
+        Ok(_) => Answer::Other,
+        Err(fault) => answer_if(&fault, text, answer),
     }
 }
 
-/// What the compute tells whose factory fails with the text.
-fn tell_fault(outcome: Compute<Letter, Result<Letter, Fault>>, text: &str) -> Told {
+/// What the compute answers whose factory fails with the text.
+fn answer_of_fault(outcome: Compute<Letter, Result<Letter, Fault>>, text: &str) -> Answer {
     match outcome {
-        Compute::Failed(fault) => told_if(&fault, text, Told::Failed),
-        Compute::FaultKept { number } => Told::FaultKept(number),
-        Compute::FaultUnkept { fault, cause } => told_if(&fault, text, Told::FaultUnkept(cause)),
+        Compute::Failed(fault) => answer_if(&fault, text, Answer::Failed),
+        Compute::FaultKept { number } => Answer::FaultKept(number),
+        Compute::FaultUnkept { fault, cause } => answer_if(
+            &fault,
+            text,
+            Answer::FaultUnkept(cause),
+        ),
         Compute::FaultStands { at, number, unused } => {
-            told_if_unused(unused, text, Told::FaultStands(at, number))
+            answer_if_unused(unused, text, Answer::FaultStands(at, number))
         }
         Compute::Refused { refusal, unused } => {
-            told_if_unused(unused, text, Told::Refused(refusal))
+            answer_if_unused(unused, text, Answer::Refused(refusal))
         }
-        Compute::Computed { .. } | Compute::Found { .. } | Compute::Unkept { .. } => Told::Other,
+        Compute::Computed { .. } | Compute::Found { .. } | Compute::Unkept { .. } => Answer::Other,
     }
 }
 
@@ -454,13 +458,13 @@ fn make(
     context: ContextNo,
     key: &Key,
     value: Letter,
-) -> Told
+) -> Answer
     requires lane { IsLaneOf store.now.id lane.old }
     requires context { context < length store.now.tree }
     ensures { IsLaneOf store.now.id lane.new }
 {
     let letter = value.letter;
-    tell(compute(way, store, lane, context, key, Ok(value)), letter)
+    answer_of(compute(way, store, lane, context, key, Ok(value)), letter)
 }
 
 /// Computes by a factory that fails with the text.
@@ -472,16 +476,16 @@ fn fail(
     context: ContextNo,
     key: &Key,
     text: &str,
-) -> Told
+) -> Answer
     requires lane { IsLaneOf store.now.id lane.old }
     requires context { context < length store.now.tree }
     ensures { IsLaneOf store.now.id lane.new }
 {
     let Ok(fault) = String::from_str(alloc, text) else {
-        return Told::Other;
+        return Answer::Other;
     };
     let outcome = compute(way, store, lane, context, key, Err(Fault::Text(fault)));
-    tell_fault(outcome, text)
+    answer_of_fault(outcome, text)
 }
 
 /// Asserts that the lane's call has its answer. A close is no lane's.
@@ -530,7 +534,7 @@ fn ask<R: Abort>(
         }
         Call::Fails(text) => {
             let told = fail(way, alloc, store, lane, at, key, text);
-            same(rt, told, Told::Failed, name);
+            same(rt, told, Answer::Failed, name);
         }
         Call::FailsAs(text, answer) => {
             let told = fail(way, alloc, store, lane, at, key, text);

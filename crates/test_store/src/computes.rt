@@ -4,7 +4,7 @@ ghost use Rattle.std.specs.Prelude.{◌<◌, length};
 ghost use Rattle.ext_store.specs.Stores.{IsLaneOf};
 
 use crate::asked::{Scenario, same, with_chain};
-use crate::chain::{Call, Told, rows, rows_with_faults};
+use crate::chain::{Answer, Call, rows, rows_with_faults};
 use crate::opening::{Letter, plain};
 use ext_model::{Fault, Look};
 use ext_store::{Compute, KeepFault, Lane, Store};
@@ -21,7 +21,7 @@ fn failed_factory_leaves_cell_empty(rt: HostRuntime) {
     let all = [
         (0, 2, "a", Call::Fails("boom")),
         (0, 2, "a", Call::Gets(Ok(Look::Absent))),
-        (0, 2, "a", Call::Computes('x', Told::Computed(1))),
+        (0, 2, "a", Call::Computes('x', Answer::Computed(1))),
         (0, 2, "a", Call::Gets(Ok(found))),
     ];
     rows(&rt, rt.alloc(), 8, &all);
@@ -36,24 +36,24 @@ fn failed_factory_leaves_cell_empty(rt: HostRuntime) {
 fn two_calls_answer_as_one(rt: HostRuntime) {
     let found = Look::Found { at: 1, number: 1 };
     let all = [
-        (0, 1, "a", Call::Computes('x', Told::Computed(1))),
-        (1, 2, "a", Call::Computes('y', Told::Found(1, 1))),
+        (0, 1, "a", Call::Computes('x', Answer::Computed(1))),
+        (1, 2, "a", Call::Computes('y', Answer::Found(1, 1))),
         (1, 2, "a", Call::Gets(Ok(found))),
     ];
     rows(&rt, rt.alloc(), 8, &all);
     let all = [
         (0, 1, "b", Call::Fails("boom")),
         (0, 1, "b", Call::Gets(Ok(Look::Absent))),
-        (1, 1, "b", Call::Computes('x', Told::Computed(1))),
+        (1, 1, "b", Call::Computes('x', Answer::Computed(1))),
         (0, 1, "b", Call::Shows(1, Some(plain('x')))),
     ];
     rows(&rt, rt.alloc(), 8, &all);
     let stands = Look::Fault { at: 1, number: 1 };
     let all = [
-        (0, 1, "c", Call::FailsAs("boom", Told::FaultKept(1))),
-        (1, 2, "c", Call::Computes('x', Told::FaultStands(1, 1))),
+        (0, 1, "c", Call::FailsAs("boom", Answer::FaultKept(1))),
+        (1, 2, "c", Call::Computes('x', Answer::FaultStands(1, 1))),
         (1, 2, "c", Call::Gets(Ok(stands))),
-        (1, 2, "d", Call::Computes('y', Told::Computed(2))),
+        (1, 2, "d", Call::Computes('y', Answer::Computed(2))),
     ];
     rows_with_faults(&rt, rt.alloc(), 8, &all);
 }
@@ -68,8 +68,8 @@ fn value_at_root_leaves_factory_unused(rt: HostRuntime) {
     let found = Look::Found { at: 0, number: 1 };
     let all = [
         (1, 0, "a", Call::Puts(plain('x'), 1, Ok(None))),
-        (0, 2, "a", Call::Computes('y', Told::Found(0, 1))),
-        (1, 2, "a", Call::Computes('z', Told::Found(0, 1))),
+        (0, 2, "a", Call::Computes('y', Answer::Found(0, 1))),
+        (1, 2, "a", Call::Computes('z', Answer::Found(0, 1))),
         (0, 2, "a", Call::Gets(Ok(found))),
         (0, 2, "b", Call::Gets(Ok(Look::Absent))),
     ];
@@ -82,12 +82,12 @@ fn value_at_root_leaves_factory_unused(rt: HostRuntime) {
 #[test]
 fn computed_value_is_shown_and_found(rt: HostRuntime) {
     let all = [
-        (0, 1, "a", Call::Computes('x', Told::Computed(1))),
+        (0, 1, "a", Call::Computes('x', Answer::Computed(1))),
         (0, 1, "a", Call::Shows(1, Some(plain('x')))),
-        (1, 2, "a", Call::Computes('y', Told::Found(1, 1))),
+        (1, 2, "a", Call::Computes('y', Answer::Found(1, 1))),
         (1, 2, "a", Call::Shows(1, Some(plain('x')))),
         (1, 1, "a", Call::Removes(Ok(Some(1)))),
-        (1, 2, "a", Call::Computes('z', Told::Computed(2))),
+        (1, 2, "a", Call::Computes('z', Answer::Computed(2))),
         (0, 1, "a", Call::Gets(Ok(Look::Absent))),
     ];
     rows(&rt, rt.alloc(), 8, &all);
@@ -105,7 +105,7 @@ fn compute_without_a_number_hands_its_value_back(rt: HostRuntime) {
             0,
             2,
             "b",
-            Call::Computes('y', Told::Unkept(KeepFault::NumbersFull)),
+            Call::Computes('y', Answer::Unkept(KeepFault::NumbersFull)),
         ),
         (0, 2, "b", Call::Gets(Ok(Look::Absent))),
         (1, 2, "b", Call::Gets(Ok(Look::Absent))),

@@ -1,5 +1,5 @@
 //! Faults that are kept: they stand until they are removed or replaced, and are not closed.
-use crate::chain::{Call, Told, rows, rows_with_faults};
+use crate::chain::{Answer, Call, rows, rows_with_faults};
 use crate::opening::{closeable, plain};
 use ext_model::Look;
 use ext_store::{KeepFault, Refusal};
@@ -14,14 +14,14 @@ use ext_store::{KeepFault, Refusal};
 fn kept_fault_stands_until_it_is_replaced(rt: HostRuntime) {
     let met = Look::Fault { at: 1, number: 1 };
     let all = [
-        (0, 1, "a", Call::FailsAs("boom", Told::FaultKept(1))),
+        (0, 1, "a", Call::FailsAs("boom", Answer::FaultKept(1))),
         (0, 1, "a", Call::ShowsFault(1, Some("boom"))),
-        (0, 2, "a", Call::Computes('x', Told::FaultStands(1, 1))),
+        (0, 2, "a", Call::Computes('x', Answer::FaultStands(1, 1))),
         (0, 2, "a", Call::Gets(Ok(met))),
         (0, 1, "a", Call::Puts(plain('y'), 2, Ok(Some(1)))),
         (0, 1, "a", Call::Removes(Ok(Some(2)))),
-        (0, 2, "a", Call::ComputesToClose('z', Told::Computed(3))),
-        (0, 2, "b", Call::FailsAs("bang", Told::FaultKept(4))),
+        (0, 2, "a", Call::ComputesToClose('z', Answer::Computed(3))),
+        (0, 2, "b", Call::FailsAs("bang", Answer::FaultKept(4))),
         (0, 2, "a", Call::Closes(Ok(1), [3, 0, 0, 0])),
         (0, 2, "b", Call::Gets(Ok(Look::Closed(2)))),
     ];
@@ -35,11 +35,11 @@ fn kept_fault_stands_until_it_is_replaced(rt: HostRuntime) {
 #[test]
 fn removed_fault_lets_a_factory_run(rt: HostRuntime) {
     let all = [
-        (0, 0, "a", Call::FailsAs("boom", Told::FaultKept(1))),
-        (1, 2, "a", Call::FailsAs("bang", Told::FaultStands(0, 1))),
+        (0, 0, "a", Call::FailsAs("boom", Answer::FaultKept(1))),
+        (1, 2, "a", Call::FailsAs("bang", Answer::FaultStands(0, 1))),
         (1, 0, "a", Call::Removes(Ok(Some(1)))),
         (1, 2, "a", Call::Gets(Ok(Look::Absent))),
-        (1, 2, "a", Call::Computes('x', Told::Computed(2))),
+        (1, 2, "a", Call::Computes('x', Answer::Computed(2))),
         (0, 2, "a", Call::ShowsFault(1, Some("boom"))),
         (0, 2, "a", Call::ShowsFault(2, None)),
         (0, 2, "a", Call::ShowsFault(0, None)),
@@ -53,14 +53,14 @@ fn removed_fault_lets_a_factory_run(rt: HostRuntime) {
 #[test]
 fn fault_is_shown_to_each_lane_and_is_no_value(rt: HostRuntime) {
     let all = [
-        (0, 1, "a", Call::FailsAs("boom", Told::FaultKept(1))),
+        (0, 1, "a", Call::FailsAs("boom", Answer::FaultKept(1))),
         (1, 1, "b", Call::Puts(plain('x'), 2, Ok(None))),
         (1, 2, "a", Call::ShowsFault(1, Some("boom"))),
         (1, 2, "a", Call::Shows(1, None)),
         (0, 2, "a", Call::Shows(1, None)),
         (0, 2, "b", Call::Shows(2, Some(plain('x')))),
         (0, 2, "b", Call::ShowsFault(2, None)),
-        (1, 1, "a", Call::FailsAs("bang", Told::FaultStands(1, 1))),
+        (1, 1, "a", Call::FailsAs("bang", Answer::FaultStands(1, 1))),
         (0, 1, "a", Call::ShowsFault(1, Some("boom"))),
     ];
     rows_with_faults(&rt, rt.alloc(), 8, &all);
@@ -74,12 +74,12 @@ fn nearest_of_faults_and_values_decides(rt: HostRuntime) {
     let fault = |at, number| Ok(Look::Fault { at, number });
     let value = |at, number| Ok(Look::Found { at, number });
     let all = [
-        (0, 2, "a", Call::FailsAs("low", Told::FaultKept(1))),
-        (0, 0, "a", Call::FailsAs("high", Told::FaultKept(2))),
+        (0, 2, "a", Call::FailsAs("low", Answer::FaultKept(1))),
+        (0, 0, "a", Call::FailsAs("high", Answer::FaultKept(2))),
         (0, 1, "a", Call::Gets(fault(0, 2))),
-        (1, 1, "a", Call::Computes('x', Told::FaultStands(0, 2))),
+        (1, 1, "a", Call::Computes('x', Answer::FaultStands(0, 2))),
         (1, 1, "a", Call::Puts(plain('x'), 3, Ok(None))),
-        (0, 1, "a", Call::Computes('y', Told::Found(1, 3))),
+        (0, 1, "a", Call::Computes('y', Answer::Found(1, 3))),
         (0, 2, "a", Call::Gets(fault(2, 1))),
         (0, 2, "a", Call::Removes(Ok(Some(1)))),
         (1, 2, "a", Call::Gets(value(1, 3))),
@@ -96,18 +96,18 @@ fn nearest_of_faults_and_values_decides(rt: HostRuntime) {
 #[test]
 fn closed_context_passes_over_its_faults(rt: HostRuntime) {
     let all = [
-        (1, 2, "a", Call::FailsAs("boom", Told::FaultKept(1))),
-        (0, 2, "b", Call::Computes('x', Told::Computed(2))),
+        (1, 2, "a", Call::FailsAs("boom", Answer::FaultKept(1))),
+        (0, 2, "b", Call::Computes('x', Answer::Computed(2))),
         (0, 2, "", Call::Closes(Ok(0), [0; 4])),
         (0, 2, "a", Call::Gets(Ok(Look::Closed(2)))),
         (
             0,
             2,
             "a",
-            Call::FailsAs("bang", Told::Refused(Refusal::Closed(2))),
+            Call::FailsAs("bang", Answer::Refused(Refusal::Closed(2))),
         ),
         (0, 2, "a", Call::ShowsFault(1, Some("boom"))),
-        (0, 1, "a", Call::FailsAs("bang", Told::FaultKept(3))),
+        (0, 1, "a", Call::FailsAs("bang", Answer::FaultKept(3))),
     ];
     rows_with_faults(&rt, rt.alloc(), 8, &all);
 }
@@ -123,7 +123,7 @@ fn fault_without_a_number_comes_back(rt: HostRuntime) {
             0,
             2,
             "b",
-            Call::FailsAs("boom", Told::FaultUnkept(KeepFault::NumbersFull)),
+            Call::FailsAs("boom", Answer::FaultUnkept(KeepFault::NumbersFull)),
         ),
         (0, 2, "b", Call::Gets(Ok(Look::Absent))),
         (0, 2, "b", Call::ShowsFault(1, None)),

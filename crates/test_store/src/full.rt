@@ -4,7 +4,7 @@ ghost use Rattle.std.specs.Prelude.{◌≡◌};
 ghost use Rattle.ext_store.specs.Stores.{IsLaneOf};
 
 use crate::asked::key;
-use crate::chain::{Call, Told, rows_when_full};
+use crate::chain::{Answer, Call, rows_when_full};
 use crate::opening::plain;
 use ext_model::Look;
 use ext_store::{Lane, Refusal, Store, StoreValue};
@@ -52,8 +52,8 @@ fn key_without_a_number_is_refused(rt: HostRuntime) {
         (0, 1, "d", Call::Gets(Err(full))),
         (0, 1, "d", Call::Removes(Err(full))),
         (0, 1, "d", Call::Puts(plain('x'), 1, Err(full))),
-        (0, 1, "d", Call::Computes('y', Told::Refused(full))),
-        (1, 0, "e", Call::FailsAs("boom", Told::Refused(full))),
+        (0, 1, "d", Call::Computes('y', Answer::Refused(full))),
+        (1, 0, "e", Call::FailsAs("boom", Answer::Refused(full))),
         (0, 1, "63", Call::Numbers(Ok(63))),
         (0, 1, "63", Call::Puts(plain('z'), 2, Ok(None))),
         (1, 2, "63", Call::Gets(Ok(last))),

@@ -3,7 +3,7 @@ ghost use Rattle.std.specs.Prelude.{◌≡◌, ◌<◌, length};
 ghost use Rattle.ext_store.specs.Stores.{IsLaneOf};
 
 use crate::asked::{Scenario, same, with_chain};
-use crate::chain::{Call, Told, rows};
+use crate::chain::{Answer, Call, rows};
 use crate::full::{name_from, number_key};
 use crate::opening::{Letter, closeable, plain};
 use ext_model::Look;
@@ -42,7 +42,7 @@ fn look_up_and_remove_take_a_number(rt: HostRuntime) {
     let all = [
         (0, 2, "a", Call::Gets(Ok(Look::Absent))),
         (1, 2, "b", Call::Removes(Ok(None))),
-        (0, 2, "c", Call::Computes('x', Told::Computed(1))),
+        (0, 2, "c", Call::Computes('x', Answer::Computed(1))),
         (1, 0, "d", Call::Numbers(Ok(3))),
         (1, 0, "a", Call::Numbers(Ok(0))),
         (0, 0, "b", Call::Numbers(Ok(1))),
@@ -62,9 +62,9 @@ fn closed_to_keys_named_later(rt: HostRuntime) {
         (0, 2, "q", Call::PutsInstead(closeable('x'), 1, closed, 1)),
         (0, 2, "q", Call::Gets(Ok(Look::Closed(2)))),
         (0, 1, "q", Call::Gets(Ok(found))),
-        (1, 2, "r", Call::Computes('y', Told::Refused(closed))),
+        (1, 2, "r", Call::Computes('y', Answer::Refused(closed))),
         (1, 2, "s", Call::Removes(Err(closed))),
-        (1, 2, "t", Call::FailsAs("boom", Told::Refused(closed))),
+        (1, 2, "t", Call::FailsAs("boom", Answer::Refused(closed))),
         (1, 2, "u", Call::Gets(Ok(Look::Closed(2)))),
         (1, 1, "r", Call::Gets(Ok(Look::Absent))),
         (0, 2, "v", Call::Puts(plain('z'), 2, Err(closed))),

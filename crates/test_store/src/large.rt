@@ -4,7 +4,7 @@ ghost use Rattle.ext_store.specs.Stores.{IsCloserOf, IsLaneOf};
 
 use crate::Log;
 use crate::asked::{key, same, with_made};
-use crate::chain::{Call, Told, rows_by_last_lanes};
+use crate::chain::{Answer, Call, rows_by_last_lanes};
 use crate::opening::{Letter, Opened, closeable, contexts, open_store, plain};
 use crate::wide::{engine_ids, lanes_and_closers};
 use ext_closing::{CloseFault, close};
@@ -126,9 +126,9 @@ fn last_of_32_lanes_makes_all_calls(rt: HostRuntime) {
         (1, 1, "a", Call::Shows(2, Some(value))),
         (1, 1, "a", Call::Removes(Ok(Some(2)))),
         (1, 2, "b", Call::Fails("f")),
-        (1, 2, "b", Call::ComputesToClose('y', Told::Computed(3))),
-        (1, 2, "b", Call::Computes('z', Told::Found(2, 3))),
-        (0, 2, "b", Call::Computes('z', Told::Found(2, 3))),
+        (1, 2, "b", Call::ComputesToClose('y', Answer::Computed(3))),
+        (1, 2, "b", Call::Computes('z', Answer::Found(2, 3))),
+        (0, 2, "b", Call::Computes('z', Answer::Found(2, 3))),
         (0, 2, "", Call::Closes(Err(CloseFault::Unjoined(3)), [0; 4])),
         (1, 2, "", Call::Closes(Ok(1), [3, 0, 0, 0])),
         (1, 2, "b", Call::Gets(closed)),

@@ -26,9 +26,9 @@ struct Signs {
     was_busy: AtomicU64,
 }
 
-/// What a lane was told.
+/// What a lane was answered.
 #[derive(Clone, Copy, Debug, PartialEq, Eq)]
-enum Told {
+enum Answer {
     /// The fault of its own factory was kept under this number.
     Kept(u32),
     /// The fault of this number stands there.
@@ -59,7 +59,7 @@ fn fail_or_meet<R: Wait + Clock>(
     key: &Key,
     signs: &Signs,
     text: &str,
-) -> Told
+) -> Answer
     requires lane { IsLaneOf store.now.id lane.old }
     requires context { 2 < length store.now.tree }
     ensures { IsLaneOf store.now.id lane.new }
@@ -69,8 +69,8 @@ fn fail_or_meet<R: Wait + Clock>(
             Err(fault_of(rt, alloc, signs, text))
         };
         match store.compute(lane, 1, key, factory) {
-            Compute::FaultKept { number } => return Told::Kept(number),
-            Compute::FaultStands { at: 1, number, .. } => return Told::Stands(number),
+            Compute::FaultKept { number } => return Answer::Kept(number),
+            Compute::FaultStands { at: 1, number, .. } => return Answer::Stands(number),
             Compute::Refused {
                 refusal: Refusal::Busy(1),
                 ..
@@ -79,13 +79,13 @@ fn fail_or_meet<R: Wait + Clock>(
                 refusal: Refusal::Contended,
                 ..
             } => {}
-            _ => return Told::Otherwise,
+            _ => return Answer::Otherwise,
         }
     }
-    Told::Otherwise
+    Answer::Otherwise
 }
 
-/// What both lanes are told, whose factories fail with texts of their own, each in a thread, and
+/// What both lanes are answered, whose factories fail with texts of their own, each in a thread, and
 /// their lanes.
 fn fail_in_two_threads<R: Threads + Wait + Clock + Sync>(
     rt: &R,
@@ -95,7 +95,7 @@ fn fail_in_two_threads<R: Threads + Wait + Clock + Sync>(
     second: Lane<Letter>,
     key: &Key,
     signs: &Signs,
-) -> ((Lane<Letter>, Told), (Lane<Letter>, Told))
+) -> ((Lane<Letter>, Answer), (Lane<Letter>, Answer))
     requires first { IsLaneOf store.now.id first }
     requires second { IsLaneOf store.now.id second }
     requires contexts { 2 < length store.now.tree }
@@ -104,33 +104,33 @@ fn fail_in_two_threads<R: Threads + Wait + Clock + Sync>(
 {
     join(
         rt,
-        move || -> (Lane<Letter>, Told)
+        move || -> (Lane<Letter>, Answer)
             requires lane { IsLaneOf store.now.id first }
             requires contexts { 2 < length store.now.tree }
             ensures { IsLaneOf store.entry.now.id result.0 }
         {
             let mut lane = first;
-            let told = fail_or_meet(rt, alloc, store, &mut lane, key, signs, "zero");
-            (lane, told)
+            let answer = fail_or_meet(rt, alloc, store, &mut lane, key, signs, "zero");
+            (lane, answer)
         },
-        move || -> (Lane<Letter>, Told)
+        move || -> (Lane<Letter>, Answer)
             requires lane { IsLaneOf store.now.id second }
             requires contexts { 2 < length store.now.tree }
             ensures { IsLaneOf store.entry.now.id result.0 }
         {
             let mut lane = second;
-            let told = fail_or_meet(rt, alloc, store, &mut lane, key, signs, "one");
-            (lane, told)
+            let answer = fail_or_meet(rt, alloc, store, &mut lane, key, signs, "one");
+            (lane, answer)
         },
     )
 }
 
 /// The text of the factory that ran, where one lane kept its fault under number 1 and the other met
 /// that.
-fn text_kept(first: Told, second: Told) -> Option<&'static str> {
+fn text_kept(first: Answer, second: Answer) -> Option<&'static str> {
     match (first, second) {
-        (Told::Kept(1), Told::Stands(1)) => Some("zero"),
-        (Told::Stands(1), Told::Kept(1)) => Some("one"),
+        (Answer::Kept(1), Answer::Stands(1)) => Some("zero"),
+        (Answer::Stands(1), Answer::Kept(1)) => Some("one"),
         _ => None,
     }
 }

@@ -10,7 +10,7 @@ use crate::opening::{
     COMPUTED, CONTEXTS, ENGINE, KEYS, LATE, MANY_LATE, MOVED, Payload, Place, STANDING, Shared,
     late_key,
 };
-use crate::told::{Log, Told};
+use crate::replies::{Log, Reply};
 use ext_model::{ContextNo, Fault, Look};
 use ext_store::{Compute, KeepFault, Lane, Refusal};
 use ext_tree::Key;
@@ -90,7 +90,7 @@ fn ask_late(
         _ => false,
     };
     log.wrong_unless(right, SoakFault::Answer);
-    log.tell(Told::Named {
+    log.add(Reply::Named {
         key: KEYS + late,
         number: number.ok(),
     });
@@ -104,7 +104,7 @@ pub(crate) fn tell_numbers(shared: &Shared, lane: &mut Lane<Payload>, log: &mut 
     for key in 0..KEYS {
         let number = shared.store.number(lane, shared.name(key));
         log.wrong_unless(number.is_ok(), SoakFault::Answer);
-        log.tell(Told::Named {
+        log.add(Reply::Named {
             key,
             number: number.ok(),
         });
@@ -195,7 +195,7 @@ pub(crate) fn look<R: Wait>(
     match seen {
         Ok(Look::Found { at, number }) => found(shared, lane, place, at, number, log),
         Ok(Look::Fault { at, number }) => met_fault(shared, lane, key, at, number, log),
-        Ok(Look::Absent) => log.tell(Told::Absent { key, from }),
+        Ok(Look::Absent) => log.add(Reply::Absent { key, from }),
         Ok(Look::Closed(_)) => {}
         Ok(Look::Busy(_)) => log.wrong_unless(!waits, SoakFault::Answer),
         Err(refusal) => log.wrong_unless(may_refuse(refusal, waits), SoakFault::Answer),
@@ -215,7 +215,7 @@ fn found(
     ensures { IsLaneOf shared.now.store.id lane.new }
 {
     let (from, key) = (place.context, place.key);
-    log.tell(Told::Found {
+    log.add(Reply::Found {
         key,
         from,
         at,
@@ -250,7 +250,7 @@ fn met_fault(
     };
     let no_value = shared.store.show(lane, number).is_none();
     match mark {
-        Some(mark) if no_value => log.tell(Told::FaultMet {
+        Some(mark) if no_value => log.add(Reply::FaultMet {
             key,
             at,
             number,
@@ -282,7 +282,7 @@ pub(crate) fn put<R: Wait>(
         }
     };
     let number = kept.number();
-    log.tell(Told::Kept(number));
+    log.add(Reply::Kept(number));
     let name = shared.name(place.key);
     let put = if waits {
         shared.store.put_wait(rt, lane, place.context, name, kept)
@@ -291,7 +291,7 @@ pub(crate) fn put<R: Wait>(
     };
     match put {
         Ok(stood) => {
-            log.tell(Told::Put {
+            log.add(Reply::Put {
                 place,
                 number,
                 closeable,
@@ -328,7 +328,7 @@ pub(crate) fn remove<R: Wait>(
     };
     match removed {
         Ok(Some(number)) => {
-            log.tell(Told::Removed { place, number });
+            log.add(Reply::Removed { place, number });
             true
         }
         Ok(None) => false,
@@ -464,7 +464,7 @@ fn computed_as<F: Drop>(
     match computed {
         Compute::Computed { number } => {
             log.wrong_unless(asked.manner != Manner::Fails, SoakFault::Answer);
-            log.tell(Told::Computed {
+            log.add(Reply::Computed {
                 place,
                 number,
                 closeable: asked.manner == Manner::GivesCloseable,
@@ -499,7 +499,7 @@ fn kept_fault(shared: &Shared, lane: &mut Lane<Payload>, asked: Asked, number: u
         None => false,
     };
     log.wrong_unless(may_be && shown, SoakFault::Answer);
-    log.tell(Told::FaultKept {
+    log.add(Reply::FaultKept {
         place: asked.place,
         number,
         mark: asked.mark,

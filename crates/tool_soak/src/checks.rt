@@ -5,7 +5,7 @@ use crate::mark::Mark;
 use crate::opening::{
     CLASS, CONTEXTS, KEYS, LAST_IN_CLASS, MANY_LATE, MOVED, NUMBERS, Place, STANDING,
 };
-use crate::told::{Log, Told};
+use crate::replies::{Log, Reply};
 use ext_model::KeyNo;
 use std::alloc::{AllocError, Global};
 
@@ -138,17 +138,17 @@ impl Checks {
     pub(crate) fn read_stored(&mut self, log: &Log) {
         self.wrong_unless(log.whole, SoakFault::Memory);
         let mut last = 0;
-        for told in &log.replies {
-            last = self.stored_by(*told, last);
+        for reply in &log.replies {
+            last = self.stored_by(*reply, last);
         }
     }
 
     /// Reads one reply of a lane that drew this number last. Answers the number that it has drawn
     /// last then.
-    fn stored_by(&mut self, told: Told, last: u32) -> u32 {
-        match told {
-            Told::Kept(number) => self.draw(number, last),
-            Told::Put {
+    fn stored_by(&mut self, reply: Reply, last: u32) -> u32 {
+        match reply {
+            Reply::Kept(number) => self.draw(number, last),
+            Reply::Put {
                 place,
                 number,
                 closeable,
@@ -160,7 +160,7 @@ impl Checks {
                 }
                 last
             }
-            Told::Computed {
+            Reply::Computed {
                 place,
                 number,
                 closeable,
@@ -169,7 +169,7 @@ impl Checks {
                 count(self.standing.as_mut_slice(), place, 1);
                 self.draw(number, last)
             }
-            Told::FaultKept {
+            Reply::FaultKept {
                 place,
                 number,
                 mark,
@@ -178,11 +178,11 @@ impl Checks {
                 count(self.standing.as_mut_slice(), place, 1);
                 self.draw(number, last)
             }
-            Told::Named { key, number } => {
+            Reply::Named { key, number } => {
                 self.name(key, number);
                 last
             }
-            Told::Wrong(fault) => {
+            Reply::Wrong(fault) => {
                 self.wrong_unless(false, fault);
                 last
             }
@@ -238,30 +238,30 @@ impl Checks {
     /// value that is moved never falls.
     pub(crate) fn read_left(&mut self, log: &Log) {
         let mut last = 0;
-        for told in &log.replies {
-            last = self.left_by(*told, last);
+        for reply in &log.replies {
+            last = self.left_by(*reply, last);
         }
     }
 
     /// Reads one reply of a lane that found this number last, of the value that is moved. Answers
     /// the one found last then.
-    fn left_by(&mut self, told: Told, last: u32) -> u32 {
-        match told {
-            Told::Put {
+    fn left_by(&mut self, reply: Reply, last: u32) -> u32 {
+        match reply {
+            Reply::Put {
                 place,
                 stood: Some(number),
                 ..
             } => self.leave(place, number),
-            Told::Removed { place, number } => {
+            Reply::Removed { place, number } => {
                 self.leave(place, number);
                 count(self.standing.as_mut_slice(), place, u32::MAX);
             }
-            Told::Closed { place, number } => {
+            Reply::Closed { place, number } => {
                 self.leave(place, number);
                 let is_fault = self.fault_of(number).is_some();
                 self.wrong_unless(!is_fault, SoakFault::Closed);
             }
-            Told::Found {
+            Reply::Found {
                 key,
                 from,
                 at,
@@ -273,7 +273,7 @@ impl Checks {
                     return number;
                 }
             }
-            Told::FaultMet {
+            Reply::FaultMet {
                 key,
                 at,
                 number,
@@ -282,7 +282,7 @@ impl Checks {
                 self.meet(Place { context: at, key }, number, mark);
                 self.wrong_unless(key != STANDING, SoakFault::Missed);
             }
-            Told::Absent { key, from } => {
+            Reply::Absent { key, from } => {
                 let always = key == STANDING
                     || (key == MOVED && (CLASS..=LAST_IN_CLASS).contains(&from));
                 self.wrong_unless(!always, SoakFault::Missed);

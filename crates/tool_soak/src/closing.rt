@@ -6,7 +6,7 @@ use crate::calls::look;
 use crate::chance::{below, once_in};
 use crate::fault::SoakFault;
 use crate::opening::{CONTEXTS, KEYS, Payload, Place, Shared};
-use crate::told::{Log, Told};
+use crate::replies::{Log, Reply};
 use ext_closing::{CloseAction, Closed, close};
 use ext_model::{ContextNo, Fault, Look};
 use ext_store::{Closer, Lane};
@@ -44,7 +44,7 @@ impl CloseAction<Payload> for Closing {
         let right = falls && value.closeable && value.place.context == self.context;
         self.log.wrong_unless(right, SoakFault::Closed);
         let place = value.place;
-        self.log.tell(Told::Closed { place, number });
+        self.log.add(Reply::Closed { place, number });
         self.last = number;
         self.calls = self.calls.wrapping_add(1);
         if number % 3 == 0 {

@@ -15,8 +15,8 @@ mod mark;
 mod moving;
 mod opening;
 mod race;
+mod replies;
 mod round;
-mod told;
 mod words;
 
 use fault::SoakFault;

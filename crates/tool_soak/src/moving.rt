@@ -6,7 +6,7 @@ ghost use Rattle.ext_store.specs.Stores.{IsLaneOf};
 use crate::calls::{make_call, put, remove};
 use crate::chance::once_in;
 use crate::opening::{CLASS, ENGINE, MOVED, Payload, Place, Shared};
-use crate::told::Log;
+use crate::replies::Log;
 use ext_model::ContextNo;
 use ext_store::Lane;
 use rand_pcg::Pcg32;

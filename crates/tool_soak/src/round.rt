@@ -9,7 +9,7 @@ use crate::closing::{Closing, are_closed, close_all, close_some};
 use crate::fault::SoakFault;
 use crate::moving::move_often;
 use crate::opening::{ENGINE, MOVED, Opened, Payload, Place, STANDING, Shared, open};
-use crate::told::Log;
+use crate::replies::Log;
 use crate::words::Soak;
 use ext_store::{Closer, Lane};
 use rand_pcg::Pcg32;

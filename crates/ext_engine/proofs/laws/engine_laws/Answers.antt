@@ -1,7 +1,7 @@
 use Rattle.ext_engine.specs.TreeRun.{setting_of}
 use Rattle.ext_engine.proofs.Early.{ends_by_fault, unknown_to_all}
 use Rattle.ext_engine.proofs.Lanes.{keeps_lanes}
-use Rattle.ext_engine.proofs.Told.{grown}
+use Rattle.ext_engine.proofs.GrownRuns.{grown}
 use Rattle.ext_engine.proofs.RunLaws.{one_result_each, runs_once, skipped_below, skips_exactly}
 use Rattle.ext_engine.proofs.laws.engine_laws.Goals as goal
 

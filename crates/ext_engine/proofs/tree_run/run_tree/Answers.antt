@@ -6,7 +6,7 @@ use Rattle.ext_engine.specs.TreeRun.{setting_of, all_results, all_skipped, place
 use Rattle.ext_engine.proofs.InTree.{results_within}
 use Rattle.ext_engine.proofs.Roots.{root-item, ran-placed, skipped-count}
 use Rattle.ext_engine.proofs.RunLaws.{ran_within}
-use Rattle.ext_engine.proofs.Told.{grown}
+use Rattle.ext_engine.proofs.GrownRuns.{grown}
 use Rattle.ext_engine.proofs.tree_run.run_tree.Goals as goal
 
 pub run_node-requires-clause-item : goal.run_node-requires-clause-item

@@ -6,7 +6,7 @@ use Rattle.ext_cells.proofs.cell_steps.CellSteps.mark.Given as goal
 abbrev pub invariant-loop-cells : goal.invariant-loop-cells
 invariant-loop-cells g l = record {
   table : l.seat.table_id ≡ l.fn.seat.table_id;
-  state : Marking l.fn.seat.me.0 l.seat.me.0 l.place l.cell l.block (standing_in l.block l.cell);
+  state : Marking l.fn.seat.me.0 l.seat.me.0 l.index l.cell l.block (standing_in l.block l.cell);
 }
 
 -- blocks' words only grow

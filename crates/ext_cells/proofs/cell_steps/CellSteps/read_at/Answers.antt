@@ -1,18 +1,18 @@
 use Rattle.std.proofs.Common.{ap, sym, ◌∙◌, arith, refl}
-use Rattle.ext_cells.specs.InnerTableSteps.{by_place}
+use Rattle.ext_cells.specs.InnerTableSteps.{by_index}
 use Rattle.ext_cells.proofs.MarkedBlocks.{when_open}
 use Rattle.ext_cells.proofs.Passing.{not_both}
-use Rattle.ext_cells.proofs.MarkSteps.{may_lead, led_marked, led_ended, led_open, ended_left, knows_place, found_after}
+use Rattle.ext_cells.proofs.MarkSteps.{may_lead, led_marked, led_ended, led_open, ended_left, knows_index, found_after}
 use Rattle.ext_cells.proofs.cell_steps.CellSteps.read_at.Goals as goal
 
 pub load-marks-requires : goal.load-marks-requires
 load-marks-requires g c =
     let is = c.requires.cells in
-    let place = c.requires.block in
+    let index = c.requires.block in
     let words = is.words_are in
     let less = c.requires.cell in (
       c.requires.table,
-      omega (arith, place, words, less),
+      omega (arith, index, words, less),
       may_lead c.args.self.now.table.shared.key _ _ c.args.seat.now.me _ c.requires.lane.0 c.requires.lane.1 is.limits_are g.A.Aim.cell c.args.cell c.requires.aim less,
     )
 
@@ -24,7 +24,7 @@ load-requires-clause-lane g c =
 pub load-requires-clause-known : goal.load-requires-clause-known
 load-requires-clause-known g c =
     let e = led_marked c.args.self.now.table.shared.table_id.slots _ c.args.seat.now.me.0.limits.cells c.args.block g.A.Aim.cell c.args.cell c.load-marks.result c.args.seat.now.me c.load-marks.new.seat.me refl c.requires.block c.requires.aim c.load-marks.ensures.2 (sym (c.is_marked.ensures.mark c.args.cell c.requires.bits) ∙ c.if-is_marked.true) in
-    by_place (knows_place c.args.seat.now.me.0 c.load-marks.new.seat.me.0 c.args.cell e)
+    by_index (knows_index c.args.seat.now.me.0 c.load-marks.new.seat.me.0 c.args.cell e)
 
 pub returns-then-is_marked-clause-found : goal.returns-then-is_marked-clause-found
 returns-then-is_marked-clause-found g c =

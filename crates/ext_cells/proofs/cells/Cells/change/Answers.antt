@@ -2,7 +2,7 @@ use Rattle.std.proofs.Common.{◌≡◌, ◌<◌, ◌^◌, sym, ap, ◌∙◌, s
 use Rattle.ext_cells.specs.Lanes.{Lane}
 use Rattle.ext_cells.proofs.Tries.{first_on, next_on, overtaken, steps_next}
 use Rattle.ext_cells.proofs.Rising.{own_cell}
-use Rattle.ext_cells.proofs.Changing.{place_is, place_in_is, word_now, act_now, may_change, changed, done, would_happen, settled_otherwise}
+use Rattle.ext_cells.proofs.Changing.{place_is, index_in_is, word_now, act_now, may_change, changed, done, would_happen, settled_otherwise}
 use Rattle.ext_cells.proofs.cells.Cells.change.Goals as goal
 
 pub loop-init : goal.loop-init
@@ -35,8 +35,8 @@ returns-in-Done-clause-contended c e =
     let less : c.args.cell < c.args.lane.now.cells.limits.cells = subst (λ z. c.args.cell < z.limits.cells) (sym c.requires.lane) c.requires.cell in
     absurd (settled_otherwise c.args.lane.now c.loop.lane c.loop.word c.loop.counter c.args.cell c.args.act few less c.requires.act c.requires.number c.loop.invariant c.in-Done.reply c.in-Done.ensures e)
 
-pub exchange-requires-clause-place : goal.exchange-requires-clause-place
-exchange-requires-clause-place c = place_in_is c.args.self.now.id.limits c.args.cell c.args.act (place_is c.args.cell c.args.act c.requires.act)
+pub exchange-requires-clause-index : goal.exchange-requires-clause-index
+exchange-requires-clause-index c = index_in_is c.args.self.now.id.limits c.args.cell c.args.act (place_is c.args.cell c.args.act c.requires.act)
 
 pub exchange-requires-clause-may : goal.exchange-requires-clause-may
 exchange-requires-clause-may c =
@@ -102,8 +102,8 @@ exchange-requires-clause-lane c = c.loop.invariant.cells ∙ c.requires.lane
 pub exchange-requires-clause-within : goal.exchange-requires-clause-within
 exchange-requires-clause-within c = let less = c.requires.cell in omega (arith, less)
 
-pub read-word-requires-clause-place : goal.read-word-requires-clause-place
-read-word-requires-clause-place c = let less = c.requires.cell in omega (arith, less)
+pub read-word-requires-clause-index : goal.read-word-requires-clause-index
+read-word-requires-clause-index c = let less = c.requires.cell in omega (arith, less)
 
 pub returns-in-Done-clause-lane : goal.returns-in-Done-clause-lane
 returns-in-Done-clause-lane c = c.loop.invariant.cells

@@ -5,12 +5,12 @@ use Rattle.ext_history.specs.Histories.{seen_by}
 use Rattle.ext_cells.specs.InnerTableSteps.{IsWordAt}
 use Rattle.ext_cells.specs.Lanes.{Lane}
 use Rattle.ext_cells.proofs.Tries.{TriesOn, first_on, steps_next}
-use Rattle.ext_cells.proofs.Changing.{place_in_is}
+use Rattle.ext_cells.proofs.Changing.{index_in_is}
 use Rattle.ext_cells.proofs.Ending.{held_within, place_is, word_now, room, suits_now, never_missed, may_now, ended}
 use Rattle.ext_cells.proofs.cells.Cells.end_claim.Goals as goal
 
-pub read-word-requires-clause-place : goal.read-word-requires-clause-place
-read-word-requires-clause-place c =
+pub read-word-requires-clause-index : goal.read-word-requires-clause-index
+read-word-requires-clause-index c =
     let less = held_within c.args.lane.now.cells.limits c.args.lane.now.view c.args.cell c.tell_proof.ensures.legal c.requires.held in
     let cells : c.args.lane.now.cells.limits.cells ≡ c.args.self.now.id.limits.cells = ap (λ z. z.limits.cells) c.requires.lane in omega (arith, less, cells)
 
@@ -42,8 +42,8 @@ next_word-next-requires-clause-act c =
     let p = c.parts-state.ensures.only Computing 0 _ (omega arith) word.is in
     subst (λ z. Suits c.args.act z.0 z.2) (sym p) (suits_now c.args.lane.now c.read-word.new.lane c.read-word.result c.args.cell c.args.act few c.requires.held c.requires.act c.requires.number on)
 
-pub exchange-requires-clause-place : goal.exchange-requires-clause-place
-exchange-requires-clause-place c = place_in_is c.args.self.now.id.limits c.args.cell c.args.act (place_is c.args.cell c.args.act c.requires.act)
+pub exchange-requires-clause-index : goal.exchange-requires-clause-index
+exchange-requires-clause-index c = index_in_is c.args.self.now.id.limits c.args.cell c.args.act (place_is c.args.cell c.args.act c.requires.act)
 
 pub exchange-requires-clause-within : goal.exchange-requires-clause-within
 exchange-requires-clause-within c =

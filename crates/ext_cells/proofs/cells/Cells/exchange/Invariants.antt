@@ -1,4 +1,4 @@
 use Rattle.ext_cells.proofs.cells.Cells.exchange.Given as goal
 
 abbrev pub ghosts-exchange : goal.ghosts-exchange
-ghosts-exchange a = record { cell = a.place }
+ghosts-exchange a = record { cell = a.index }

@@ -1,5 +1,5 @@
 use Rattle.std.proofs.Common.{◌≡◌, ◌≤◌, sym, subst, arith}
-use Rattle.ext_cells.specs.InnerTableSteps.{place_in}
+use Rattle.ext_cells.specs.InnerTableSteps.{index_in}
 use Rattle.ext_cells.proofs.Lanes.{may_exchange, made_stays, missed_stays}
 use Rattle.ext_cells.proofs.cells.Cells.exchange_count.Goals as goal
 
@@ -7,15 +7,15 @@ pub exchange_count-found-requires-clause-may : goal.exchange_count-found-require
 exchange_count-found-requires-clause-may c = (
   c.lane.inside.number,
   may_exchange c.lane.inside.seat.table_id _ _ _ _ _ _ _ c.lane.view_is c.lane.invariant
-      (subst (λ z. c.args.place ≡ place_in z.limits c.args.act) (sym c.requires.lane) c.requires.place)
-      (let within = c.requires.count in subst (λ z. c.args.place ≤ z.limits.cells) (sym c.requires.lane) (omega (arith, within)))
+      (subst (λ z. c.args.index ≡ index_in z.limits c.args.act) (sym c.requires.lane) c.requires.index)
+      (let within = c.requires.count in subst (λ z. c.args.index ≤ z.limits.cells) (sym c.requires.lane) (omega (arith, within)))
       c.requires.may,
 )
 
 pub invariant_of-lane : goal.invariant_of-lane
 invariant_of-lane c = let did = c.exchange_count-found.ensures in
-    made_stays c.lane.inside.seat.table_id _ c.lane.inside.seat.me.0 c.exchange_count-found.new.seat.me.0 c.lane.inside.number c.args.place c.args.old c.args.new c.exchange_count-found.result c.args.act _ c.lane.view_is c.lane.invariant did.table (did.made c.if-found-old.true)
+    made_stays c.lane.inside.seat.table_id _ c.lane.inside.seat.me.0 c.exchange_count-found.new.seat.me.0 c.lane.inside.number c.args.index c.args.old c.args.new c.exchange_count-found.result c.args.act _ c.lane.view_is c.lane.invariant did.table (did.made c.if-found-old.true)
 
 pub invariant_of-lane-2 : goal.invariant_of-lane-2
 invariant_of-lane-2 c = let did = c.exchange_count-found.ensures in
-    missed_stays c.lane.inside.seat.table_id _ c.lane.inside.seat.me.0 c.exchange_count-found.new.seat.me.0 c.lane.inside.number c.args.place c.args.old c.args.new c.exchange_count-found.result c.args.act _ c.lane.view_is c.lane.invariant did.table (did.missed c.if-found-old.false)
+    missed_stays c.lane.inside.seat.table_id _ c.lane.inside.seat.me.0 c.exchange_count-found.new.seat.me.0 c.lane.inside.number c.args.index c.args.old c.args.new c.exchange_count-found.result c.args.act _ c.lane.view_is c.lane.invariant did.table (did.missed c.if-found-old.false)

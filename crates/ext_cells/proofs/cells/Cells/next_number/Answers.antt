@@ -10,9 +10,9 @@ use Rattle.ext_cells.proofs.cells.Cells.next_number.Goals as goal
 
 pub loop-init : goal.loop-init
 loop-init c =
-    let place : c.self.inside.limits.cells ≡ c.args.lane.now.cells.limits.cells = ap (λ z. z.id.limits.cells) c.self.view_is ∙ ap (λ z. z.limits.cells) (sym c.requires.lane) in
+    let index : c.self.inside.limits.cells ≡ c.args.lane.now.cells.limits.cells = ap (λ z. z.id.limits.cells) c.self.view_is ∙ ap (λ z. z.limits.cells) (sym c.requires.lane) in
     let f = c.read-count.ensures.found in
-    first_on _ _ _ _ f.0 (omega arith) (subst (λ p. Finds c.args.lane.now.cells.limits c.args.lane.now.view p c.read-count.result f.0) place f.1) f.2
+    first_on _ _ _ _ f.0 (omega arith) (subst (λ p. Finds c.args.lane.now.cells.limits c.args.lane.now.view p c.read-count.result f.0) index f.1) f.2
 
 pub returns-then-count-most-clause-reply : goal.returns-then-count-most-clause-reply
 returns-then-count-most-clause-reply c =
@@ -24,32 +24,32 @@ returns-then-count-most-clause-reply c =
 pub exchange_count-requires-clause-may : goal.exchange_count-requires-clause-may
 exchange_count-requires-clause-may c =
     let limit : c.args.lane.now.cells.limits.numbers ≡ c.self.inside.limits.numbers = ap (λ z. z.limits.numbers) c.requires.lane ∙ ap (λ z. z.id.limits.numbers) (sym c.self.view_is) in
-    let place : c.self.inside.limits.cells ≡ c.args.lane.now.cells.limits.cells = ap (λ z. z.id.limits.cells) c.self.view_is ∙ ap (λ z. z.limits.cells) (sym c.requires.lane) in
+    let index : c.self.inside.limits.cells ≡ c.args.lane.now.cells.limits.cells = ap (λ z. z.id.limits.cells) c.self.view_is ∙ ap (λ z. z.limits.cells) (sym c.requires.lane) in
     let from = c.from-most.ensures in
     let less = c.if-count-most.false in
-    subst (λ p. (h : History) → Finds c.loop.lane.cells.limits c.loop.lane.view p c.loop.count h → MayGoOn c.loop.lane.cells.limits c.loop.lane.view h p (c.loop.count + 1) (Keep (c.loop.count + 1))) (sym place)
+    subst (λ p. (h : History) → Finds c.loop.lane.cells.limits c.loop.lane.view p c.loop.count h → MayGoOn c.loop.lane.cells.limits c.loop.lane.view h p (c.loop.count + 1) (Keep (c.loop.count + 1))) (sym index)
     (may_draw c.args.lane.now c.loop.lane c.loop.count c.loop.counter c.loop.invariant _ (omega (arith, limit, from, less)) refl)
 
 pub returns-in-Ok-clause-reply : goal.returns-in-Ok-clause-reply
 returns-in-Ok-clause-reply c =
     let limit : c.args.lane.now.cells.limits.numbers ≡ c.self.inside.limits.numbers = ap (λ z. z.limits.numbers) c.requires.lane ∙ ap (λ z. z.id.limits.numbers) (sym c.self.view_is) in
-    let place : c.self.inside.limits.cells ≡ c.args.lane.now.cells.limits.cells = ap (λ z. z.id.limits.cells) c.self.view_is ∙ ap (λ z. z.limits.cells) (sym c.requires.lane) in
+    let index : c.self.inside.limits.cells ≡ c.args.lane.now.cells.limits.cells = ap (λ z. z.id.limits.cells) c.self.view_is ∙ ap (λ z. z.limits.cells) (sym c.requires.lane) in
     let from = c.from-most.ensures in
     let less = c.if-count-most.false in
     let room : c.loop.count < c.args.lane.now.cells.limits.numbers = omega (arith, limit, from, less) in
     let m = c.in-Ok.ensures.made in
-    drew c.args.lane.now c.loop.lane c.loop.count c.loop.counter c.loop.invariant _ room refl c.args.self.now.tries c.exchange_count.new.lane m.0 (subst (λ p. Finds c.loop.lane.cells.limits c.loop.lane.view p c.loop.count m.0) place m.1) (ap (λ (l : Lane). l.view) m.3)
+    drew c.args.lane.now c.loop.lane c.loop.count c.loop.counter c.loop.invariant _ room refl c.args.self.now.tries c.exchange_count.new.lane m.0 (subst (λ p. Finds c.loop.lane.cells.limits c.loop.lane.view p c.loop.count m.0) index m.1) (ap (λ (l : Lane). l.view) m.3)
 
 pub returns-in-Ok-clause-storable : goal.returns-in-Ok-clause-storable
 returns-in-Ok-clause-storable c =
     let limit : c.args.lane.now.cells.limits.numbers ≡ c.self.inside.limits.numbers = ap (λ z. z.limits.numbers) c.requires.lane ∙ ap (λ z. z.id.limits.numbers) (sym c.self.view_is) in
-    let place : c.self.inside.limits.cells ≡ c.args.lane.now.cells.limits.cells = ap (λ z. z.id.limits.cells) c.self.view_is ∙ ap (λ z. z.limits.cells) (sym c.requires.lane) in
+    let index : c.self.inside.limits.cells ≡ c.args.lane.now.cells.limits.cells = ap (λ z. z.id.limits.cells) c.self.view_is ∙ ap (λ z. z.limits.cells) (sym c.requires.lane) in
     let from = c.from-most.ensures in
     let less = c.if-count-most.false in
     let room : c.loop.count < c.args.lane.now.cells.limits.numbers = omega (arith, limit, from, less) in
     let m = c.in-Ok.ensures.made in
     drew_storable c.args.self.now.tries c.args.lane.now c.exchange_count.new.lane _ (made_legal c.args.lane.now c.loop.lane c.exchange_count.new.lane c.args.lane.now.cells.limits.cells c.loop.count c.loop.counter m.0 (Keep (c.loop.count + 1)) c.loop.invariant m.1.on.legal m.2.allowed (ap (λ (l : Lane). l.view) m.3))
-    (drew c.args.lane.now c.loop.lane c.loop.count c.loop.counter c.loop.invariant _ room refl c.args.self.now.tries c.exchange_count.new.lane m.0 (subst (λ p. Finds c.loop.lane.cells.limits c.loop.lane.view p c.loop.count m.0) place m.1) (ap (λ (l : Lane). l.view) m.3))
+    (drew c.args.lane.now c.loop.lane c.loop.count c.loop.counter c.loop.invariant _ room refl c.args.self.now.tries c.exchange_count.new.lane m.0 (subst (λ p. Finds c.loop.lane.cells.limits c.loop.lane.view p c.loop.count m.0) index m.1) (ap (λ (l : Lane). l.view) m.3))
 
 pub returns-in-Ok-clause-within : goal.returns-in-Ok-clause-within
 returns-in-Ok-clause-within c =
@@ -63,9 +63,9 @@ returns-in-Ok-clause-fresh c other there = not_drawn c.args.lane.now c.loop.lane
 
 pub loop-preserved : goal.loop-preserved
 loop-preserved c =
-    let place : c.self.inside.limits.cells ≡ c.args.lane.now.cells.limits.cells = ap (λ z. z.id.limits.cells) c.self.view_is ∙ ap (λ z. z.limits.cells) (sym c.requires.lane) in
+    let index : c.self.inside.limits.cells ≡ c.args.lane.now.cells.limits.cells = ap (λ z. z.id.limits.cells) c.self.view_is ∙ ap (λ z. z.limits.cells) (sym c.requires.lane) in
     let m = c.in-Err.ensures.missed in
-    next_on _ _ _ _ _ _ _ m.1.0 c.loop.invariant m.0 (subst (λ p. Finds c.loop.lane.cells.limits c.loop.lane.view p c.in-Err.found m.1.0) place m.1.1) m.1.2
+    next_on _ _ _ _ _ _ _ m.1.0 c.loop.invariant m.0 (subst (λ p. Finds c.loop.lane.cells.limits c.loop.lane.view p c.in-Err.found m.1.0) index m.1.1) m.1.2
 
 pub returns-clause-reply : goal.returns-clause-reply
 returns-clause-reply c =
@@ -95,8 +95,8 @@ returns-then-count-most-2-clause-reply c =
 pub exchange_count-requires-clause-lane : goal.exchange_count-requires-clause-lane
 exchange_count-requires-clause-lane c = c.loop.invariant.cells ∙ c.requires.lane
 
-pub exchange_count-requires-clause-place : goal.exchange_count-requires-clause-place
-exchange_count-requires-clause-place c = ap (λ z. z.id.limits.cells) c.self.view_is
+pub exchange_count-requires-clause-index : goal.exchange_count-requires-clause-index
+exchange_count-requires-clause-index c = ap (λ z. z.id.limits.cells) c.self.view_is
 
 pub exchange_count-requires-clause-count : goal.exchange_count-requires-clause-count
 exchange_count-requires-clause-count c = ap (λ z. z.id.limits.cells) c.self.view_is
@@ -132,10 +132,10 @@ returns-in-Ok-clause-lane c = ap (λ (l : Lane). l.cells) c.in-Ok.ensures.made.3
 
 pub returns-in-Ok-clause-steps : goal.returns-in-Ok-clause-steps
 returns-in-Ok-clause-steps c =
-    let place : c.self.inside.limits.cells ≡ c.args.lane.now.cells.limits.cells = ap (λ z. z.id.limits.cells) c.self.view_is ∙ ap (λ z. z.limits.cells) (sym c.requires.lane) in
+    let index : c.self.inside.limits.cells ≡ c.args.lane.now.cells.limits.cells = ap (λ z. z.id.limits.cells) c.self.view_is ∙ ap (λ z. z.limits.cells) (sym c.requires.lane) in
     let tries : c.self.inside.tries ≡ c.args.self.now.tries = ap (λ z. z.tries) c.self.view_is in
     let m = c.in-Ok.ensures.made in
-    let steps = steps_next c.args.lane.now c.loop.lane c.exchange_count.new.lane c.args.lane.now.cells.limits.cells c.loop.count c.loop.counter m.0 (Keep (c.loop.count + 1)) c.loop.invariant (subst (λ p. Finds c.loop.lane.cells.limits c.loop.lane.view p c.loop.count m.0) place m.1) m.3 in
+    let steps = steps_next c.args.lane.now c.loop.lane c.exchange_count.new.lane c.args.lane.now.cells.limits.cells c.loop.count c.loop.counter m.0 (Keep (c.loop.count + 1)) c.loop.invariant (subst (λ p. Finds c.loop.lane.cells.limits c.loop.lane.view p c.loop.count m.0) index m.1) m.3 in
     let less = c.loop-test.true in omega (arith, tries, steps, less)
 
 pub returns-clause-contended : goal.returns-clause-contended

@@ -5,8 +5,8 @@ use Rattle.ext_cells.specs.InnerSteps.{Finds}
 use Rattle.ext_cells.proofs.Collecting.{known_at, take_next, read_length, pass_more}
 use Rattle.ext_cells.proofs.cells.Cells.pass.Goals as goal
 
-pub read-word-requires-clause-place : goal.read-word-requires-clause-place
-read-word-requires-clause-place c = let i = known_at _ _ c.loop-cell.cell-index c.requires.known c.loop-cell-test.true in omega (arith, i)
+pub read-word-requires-clause-index : goal.read-word-requires-clause-index
+read-word-requires-clause-index c = let i = known_at _ _ c.loop-cell.cell-index c.requires.known c.loop-cell-test.true in omega (arith, i)
 
 pub push-requires : goal.push-requires
 push-requires c =

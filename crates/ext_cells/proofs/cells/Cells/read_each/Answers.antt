@@ -19,7 +19,7 @@ loop-row-init c =
     }
 
 pub read_at-word-requires-clause-cell : goal.read_at-word-requires-clause-cell
-read_at-word-requires-clause-cell c = row_known _ c.args.rows.now (c.args.column.blocks * 32) c.args.column.place c.loop-row.row-index c.requires.known c.loop-row-test.true
+read_at-word-requires-clause-cell c = row_known _ c.args.rows.now (c.args.column.blocks * 32) c.args.column.index c.loop-row.row-index c.requires.known c.loop-row-test.true
 
 pub loop-row-preserved : goal.loop-row-preserved
 loop-row-preserved c =
@@ -28,16 +28,16 @@ loop-row-preserved c =
     let old = c.loop-row.invariant in
     let counted = old.count in
     let once = c.with-reading.ensures.count in
-    let known = subst (λ z. All (λ cell. cell < z.limits.cells) (cells_in c.args.rows.now (c.args.column.blocks * 32) c.args.column.place)) (sym c.requires.lane) c.requires.known in
-    let found : Finds c.args.lane.now.cells.limits c.loop-row.lane.view (cell_at (c.args.column.blocks * 32) c.args.column.place (get_or c.args.rows.now i 0)) c.read_at-word.result f.0 =
-    subst (λ z. Finds z.limits c.loop-row.lane.view (cell_at (c.args.column.blocks * 32) c.args.column.place (get_or c.args.rows.now i 0)) c.read_at-word.result f.0) old.cells f.1 in
+    let known = subst (λ z. All (λ cell. cell < z.limits.cells) (cells_in c.args.rows.now (c.args.column.blocks * 32) c.args.column.index)) (sym c.requires.lane) c.requires.known in
+    let found : Finds c.args.lane.now.cells.limits c.loop-row.lane.view (cell_at (c.args.column.blocks * 32) c.args.column.index (get_or c.args.rows.now i 0)) c.read_at-word.result f.0 =
+    subst (λ z. Finds z.limits c.loop-row.lane.view (cell_at (c.args.column.blocks * 32) c.args.column.index (get_or c.args.rows.now i 0)) c.read_at-word.result f.0) old.cells f.1 in
     record {
       cells = ap (λ (l : Lane). l.cells) f.2 ∙ old.cells;
       count = omega (arith, counted, once);
       versions = c.with-reading.ensures.versions;
       read = (
         old.read.0 ++ c.read_at-word.result ∷ [],
-        row_more _ _ _ _ c.args.rows.now old.read.0 (c.args.column.blocks * 32) c.args.column.place i _ f.0 known c.loop-row-test.true old.read.1 found (ap (λ (l : Lane). l.view) f.2),
+        row_more _ _ _ _ c.args.rows.now old.read.0 (c.args.column.blocks * 32) c.args.column.index i _ f.0 known c.loop-row-test.true old.read.1 found (ap (λ (l : Lane). l.view) f.2),
         c.with-reading.ensures.reading old.read.0 old.read.2,
       );
     }
@@ -64,8 +64,8 @@ pub returns-clause-read : goal.returns-clause-read
 returns-clause-read c =
     let read = c.loop-row.invariant.read in
     let end = c.loop-row-test.false in
-    let long = cells_length c.args.rows.now (c.args.column.blocks * 32) c.args.column.place in (
+    let long = cells_length c.args.rows.now (c.args.column.blocks * 32) c.args.column.index in (
       read.0,
-      subst (λ z. ReadPass c.args.lane.now.cells.limits c.args.lane.now.view c.loop-row.lane.view z read.0) (take_all c.loop-row.row-index (cells_in c.args.rows.now (c.args.column.blocks * 32) c.args.column.place) (omega (arith, end, long))) read.1,
+      subst (λ z. ReadPass c.args.lane.now.cells.limits c.args.lane.now.view c.loop-row.lane.view z read.0) (take_all c.loop-row.row-index (cells_in c.args.rows.now (c.args.column.blocks * 32) c.args.column.index) (omega (arith, end, long))) read.1,
       read.2,
     )

@@ -12,7 +12,7 @@ returns-clause-reading c words is =
       | in-None w ↦
           let fresh = w.nearest_at-nearest.ensures in
           let empty = subst (IsFirstSaid words) w.in-None.is is.nearest in
-          let placed = subst (λ at. IfSome w.nearest_at-nearest.result (λ n. (n.place ≡ at) × Says c.args.word (Some n.standing))) is.count fresh.some in
-          subst (IsFirstSaid (words ++ c.args.word ∷ [])) (sym w.nearest-is) (now_said words c.args.word w.nearest_at-nearest.result empty fresh.none placed)
+          let indexed = subst (λ at. IfSome w.nearest_at-nearest.result (λ n. (n.index ≡ at) × Says c.args.word (Some n.standing))) is.count fresh.some in
+          subst (IsFirstSaid (words ++ c.args.word ∷ [])) (sym w.nearest-is) (now_said words c.args.word w.nearest_at-nearest.result empty fresh.none indexed)
     ] in
     one_more words c.args.word c.args.self _ _ c.match-self.nearest is refl (ap (λ v. c.args.self.versions + v) c.version.ensures.version) first

@@ -1,7 +1,7 @@
 use Rattle.std.proofs.Common.{◌∙◌, ap, subst}
 use Rattle.ext_cells.specs.Lanes.{CellsId, Lane}
 use Rattle.ext_store.specs.Stores.{StoreView, StoreLane}
-use Rattle.ext_store.specs.InnerKeeping.{PlacesDrawn}
+use Rattle.ext_store.specs.InnerKeeping.{SlotsDrawn}
 use Rattle.ext_store.proofs.Placing.{kept_by_drawn, drawn_fits, no_memory}
 use Rattle.ext_model.specs.declared.event.Act.TheVariants.{Keep}
 use Rattle.ext_cells.specs.CellCalls.{ComesLast}
@@ -10,52 +10,52 @@ use Rattle.ext_store.proofs.Contended.{keep_last, unkept_last}
 use Rattle.std.specs.Prelude.{ℕ}
 use Rattle.ext_store.proofs.store.Store.keep.Goals as goal
 
-pub place_drawn-requires-clause-drawn : goal.place_drawn-requires-clause-drawn
-place_drawn-requires-clause-drawn g c =
+pub slot_drawn-requires-clause-drawn : goal.slot_drawn-requires-clause-drawn
+slot_drawn-requires-clause-drawn g c =
     drawn_fits c.args.self.now c.self.inside.shared.tries (ap (λ (s : StoreView). s.tries) c.self.view_is) c.lane.inside.cells c.keep-drawn.new.lane c.keep-drawn.result c.keep-drawn.ensures.reply _
     (ap (λ (l : StoreLane g.row.V.Denot). l.cells.cells.limits.numbers) c.lane.view_is ∙ (ap (λ (i : CellsId). i.limits.numbers) c.requires.lane.cells ∙ c.tell_proof.ensures.numbers))
 
 pub returns-clause-answer : goal.returns-clause-answer
 returns-clause-answer g c =
     (kept_by_drawn c.args.self.now c.self.inside.shared.tries (ap (λ (s : StoreView). s.tries) c.self.view_is) c.args.value (record { cells = c.lane.inside.cells; known = c.lane.inside.notes; faults = c.lane.inside.faults; keys = c.lane.inside.keys }) c.args.lane.now c.lane.view_is c.requires.lane
-    c.keep-drawn.new.lane c.keep-drawn.ensures.lane c.tell_proof-2.ensures.legal c.place_drawn.new.notes c.keep-drawn.result c.keep-drawn.ensures.reply c.keep-drawn.ensures.storable c.place_drawn.result
-    (subst (λ v. PlacesDrawn v c.keep-drawn.result c.lane.inside.notes c.place_drawn.new.notes c.place_drawn.result) c.in-Ok.ensures.ok c.place_drawn.ensures)).answer
+    c.keep-drawn.new.lane c.keep-drawn.ensures.lane c.tell_proof-2.ensures.legal c.slot_drawn.new.notes c.keep-drawn.result c.keep-drawn.ensures.reply c.keep-drawn.ensures.storable c.slot_drawn.result
+    (subst (λ v. SlotsDrawn v c.keep-drawn.result c.lane.inside.notes c.slot_drawn.new.notes c.slot_drawn.result) c.in-Ok.ensures.ok c.slot_drawn.ensures)).answer
 
 pub returns-clause-lane : goal.returns-clause-lane
 returns-clause-lane g c =
     (kept_by_drawn c.args.self.now c.self.inside.shared.tries (ap (λ (s : StoreView). s.tries) c.self.view_is) c.args.value (record { cells = c.lane.inside.cells; known = c.lane.inside.notes; faults = c.lane.inside.faults; keys = c.lane.inside.keys }) c.args.lane.now c.lane.view_is c.requires.lane
-    c.keep-drawn.new.lane c.keep-drawn.ensures.lane c.tell_proof-2.ensures.legal c.place_drawn.new.notes c.keep-drawn.result c.keep-drawn.ensures.reply c.keep-drawn.ensures.storable c.place_drawn.result
-    (subst (λ v. PlacesDrawn v c.keep-drawn.result c.lane.inside.notes c.place_drawn.new.notes c.place_drawn.result) c.in-Ok.ensures.ok c.place_drawn.ensures)).lane
+    c.keep-drawn.new.lane c.keep-drawn.ensures.lane c.tell_proof-2.ensures.legal c.slot_drawn.new.notes c.keep-drawn.result c.keep-drawn.ensures.reply c.keep-drawn.ensures.storable c.slot_drawn.result
+    (subst (λ v. SlotsDrawn v c.keep-drawn.result c.lane.inside.notes c.slot_drawn.new.notes c.slot_drawn.result) c.in-Ok.ensures.ok c.slot_drawn.ensures)).lane
 
 pub returns-clause-known : goal.returns-clause-known
 returns-clause-known g c =
     (kept_by_drawn c.args.self.now c.self.inside.shared.tries (ap (λ (s : StoreView). s.tries) c.self.view_is) c.args.value (record { cells = c.lane.inside.cells; known = c.lane.inside.notes; faults = c.lane.inside.faults; keys = c.lane.inside.keys }) c.args.lane.now c.lane.view_is c.requires.lane
-    c.keep-drawn.new.lane c.keep-drawn.ensures.lane c.tell_proof-2.ensures.legal c.place_drawn.new.notes c.keep-drawn.result c.keep-drawn.ensures.reply c.keep-drawn.ensures.storable c.place_drawn.result
-    (subst (λ v. PlacesDrawn v c.keep-drawn.result c.lane.inside.notes c.place_drawn.new.notes c.place_drawn.result) c.in-Ok.ensures.ok c.place_drawn.ensures)).known
+    c.keep-drawn.new.lane c.keep-drawn.ensures.lane c.tell_proof-2.ensures.legal c.slot_drawn.new.notes c.keep-drawn.result c.keep-drawn.ensures.reply c.keep-drawn.ensures.storable c.slot_drawn.result
+    (subst (λ v. SlotsDrawn v c.keep-drawn.result c.lane.inside.notes c.slot_drawn.new.notes c.slot_drawn.result) c.in-Ok.ensures.ok c.slot_drawn.ensures)).known
 
 pub returns-clause-faults : goal.returns-clause-faults
 returns-clause-faults g c =
     (kept_by_drawn c.args.self.now c.self.inside.shared.tries (ap (λ (s : StoreView). s.tries) c.self.view_is) c.args.value (record { cells = c.lane.inside.cells; known = c.lane.inside.notes; faults = c.lane.inside.faults; keys = c.lane.inside.keys }) c.args.lane.now c.lane.view_is c.requires.lane
-    c.keep-drawn.new.lane c.keep-drawn.ensures.lane c.tell_proof-2.ensures.legal c.place_drawn.new.notes c.keep-drawn.result c.keep-drawn.ensures.reply c.keep-drawn.ensures.storable c.place_drawn.result
-    (subst (λ v. PlacesDrawn v c.keep-drawn.result c.lane.inside.notes c.place_drawn.new.notes c.place_drawn.result) c.in-Ok.ensures.ok c.place_drawn.ensures)).faults
+    c.keep-drawn.new.lane c.keep-drawn.ensures.lane c.tell_proof-2.ensures.legal c.slot_drawn.new.notes c.keep-drawn.result c.keep-drawn.ensures.reply c.keep-drawn.ensures.storable c.slot_drawn.result
+    (subst (λ v. SlotsDrawn v c.keep-drawn.result c.lane.inside.notes c.slot_drawn.new.notes c.slot_drawn.result) c.in-Ok.ensures.ok c.slot_drawn.ensures)).faults
 
 pub returns-clause-kept : goal.returns-clause-kept
 returns-clause-kept g c =
     (kept_by_drawn c.args.self.now c.self.inside.shared.tries (ap (λ (s : StoreView). s.tries) c.self.view_is) c.args.value (record { cells = c.lane.inside.cells; known = c.lane.inside.notes; faults = c.lane.inside.faults; keys = c.lane.inside.keys }) c.args.lane.now c.lane.view_is c.requires.lane
-    c.keep-drawn.new.lane c.keep-drawn.ensures.lane c.tell_proof-2.ensures.legal c.place_drawn.new.notes c.keep-drawn.result c.keep-drawn.ensures.reply c.keep-drawn.ensures.storable c.place_drawn.result
-    (subst (λ v. PlacesDrawn v c.keep-drawn.result c.lane.inside.notes c.place_drawn.new.notes c.place_drawn.result) c.in-Ok.ensures.ok c.place_drawn.ensures)).kept
+    c.keep-drawn.new.lane c.keep-drawn.ensures.lane c.tell_proof-2.ensures.legal c.slot_drawn.new.notes c.keep-drawn.result c.keep-drawn.ensures.reply c.keep-drawn.ensures.storable c.slot_drawn.result
+    (subst (λ v. SlotsDrawn v c.keep-drawn.result c.lane.inside.notes c.slot_drawn.new.notes c.slot_drawn.result) c.in-Ok.ensures.ok c.slot_drawn.ensures)).kept
 
 pub returns-clause-apart : goal.returns-clause-apart
 returns-clause-apart g c =
     (kept_by_drawn c.args.self.now c.self.inside.shared.tries (ap (λ (s : StoreView). s.tries) c.self.view_is) c.args.value (record { cells = c.lane.inside.cells; known = c.lane.inside.notes; faults = c.lane.inside.faults; keys = c.lane.inside.keys }) c.args.lane.now c.lane.view_is c.requires.lane
-    c.keep-drawn.new.lane c.keep-drawn.ensures.lane c.tell_proof-2.ensures.legal c.place_drawn.new.notes c.keep-drawn.result c.keep-drawn.ensures.reply c.keep-drawn.ensures.storable c.place_drawn.result
-    (subst (λ v. PlacesDrawn v c.keep-drawn.result c.lane.inside.notes c.place_drawn.new.notes c.place_drawn.result) c.in-Ok.ensures.ok c.place_drawn.ensures)).apart
+    c.keep-drawn.new.lane c.keep-drawn.ensures.lane c.tell_proof-2.ensures.legal c.slot_drawn.new.notes c.keep-drawn.result c.keep-drawn.ensures.reply c.keep-drawn.ensures.storable c.slot_drawn.result
+    (subst (λ v. SlotsDrawn v c.keep-drawn.result c.lane.inside.notes c.slot_drawn.new.notes c.slot_drawn.result) c.in-Ok.ensures.ok c.slot_drawn.ensures)).apart
 
 pub returns-clause-frame : goal.returns-clause-frame
 returns-clause-frame g c =
     (kept_by_drawn c.args.self.now c.self.inside.shared.tries (ap (λ (s : StoreView). s.tries) c.self.view_is) c.args.value (record { cells = c.lane.inside.cells; known = c.lane.inside.notes; faults = c.lane.inside.faults; keys = c.lane.inside.keys }) c.args.lane.now c.lane.view_is c.requires.lane
-    c.keep-drawn.new.lane c.keep-drawn.ensures.lane c.tell_proof-2.ensures.legal c.place_drawn.new.notes c.keep-drawn.result c.keep-drawn.ensures.reply c.keep-drawn.ensures.storable c.place_drawn.result
-    (subst (λ v. PlacesDrawn v c.keep-drawn.result c.lane.inside.notes c.place_drawn.new.notes c.place_drawn.result) c.in-Ok.ensures.ok c.place_drawn.ensures)).frame
+    c.keep-drawn.new.lane c.keep-drawn.ensures.lane c.tell_proof-2.ensures.legal c.slot_drawn.new.notes c.keep-drawn.result c.keep-drawn.ensures.reply c.keep-drawn.ensures.storable c.slot_drawn.result
+    (subst (λ v. SlotsDrawn v c.keep-drawn.result c.lane.inside.notes c.slot_drawn.new.notes c.slot_drawn.result) c.in-Ok.ensures.ok c.slot_drawn.ensures)).frame
 
 -- ---- where there is no memory
 
@@ -84,11 +84,11 @@ returns-in-Err-clause-frame g c = (no_memory c.args.self.now c.args.value c.in-E
 
 pub returns-clause-contended : goal.returns-clause-contended
 returns-clause-contended g c =
-    subst (λ (z : ℕ × Lane). ComesLast (c.args.value, fault.Contended) z.0 z.1 c.keep-drawn.new.lane (Keep 0) c.place_drawn.result) (λ i. (ap (λ (s : StoreView). s.tries) c.self.view_is i, (c.lane.view_is i).cells))
-    (keep_last c.self.inside.shared.tries c.lane.inside.cells c.keep-drawn.new.lane (Keep 0) _ c.args.value c.lane.inside.notes c.place_drawn.new.notes c.keep-drawn.result c.place_drawn.result
+    subst (λ (z : ℕ × Lane). ComesLast (c.args.value, fault.Contended) z.0 z.1 c.keep-drawn.new.lane (Keep 0) c.slot_drawn.result) (λ i. (ap (λ (s : StoreView). s.tries) c.self.view_is i, (c.lane.view_is i).cells))
+    (keep_last c.self.inside.shared.tries c.lane.inside.cells c.keep-drawn.new.lane (Keep 0) _ c.args.value c.lane.inside.notes c.slot_drawn.new.notes c.keep-drawn.result c.slot_drawn.result
     (drawn_fits c.args.self.now c.self.inside.shared.tries (ap (λ (s : StoreView). s.tries) c.self.view_is) c.lane.inside.cells c.keep-drawn.new.lane c.keep-drawn.result c.keep-drawn.ensures.reply _
     (ap (λ (l : StoreLane g.row.V.Denot). l.cells.cells.limits.numbers) c.lane.view_is ∙ (ap (λ (i : CellsId). i.limits.numbers) c.requires.lane.cells ∙ c.tell_proof.ensures.numbers)))
-    (subst (λ v. PlacesDrawn v c.keep-drawn.result c.lane.inside.notes c.place_drawn.new.notes c.place_drawn.result) c.in-Ok.ensures.ok c.place_drawn.ensures)
+    (subst (λ v. SlotsDrawn v c.keep-drawn.result c.lane.inside.notes c.slot_drawn.new.notes c.slot_drawn.result) c.in-Ok.ensures.ok c.slot_drawn.ensures)
     c.keep-drawn.ensures.contended)
 
 pub returns-in-Err-clause-contended : goal.returns-in-Err-clause-contended

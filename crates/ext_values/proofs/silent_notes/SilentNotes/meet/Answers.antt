@@ -1,5 +1,5 @@
 use Rattle.std.proofs.Common.{◌<◌, ◌≤◌, ap, arith, length}
-use Rattle.ext_values.proofs.Agreeing.{same_place, agree_more, agree_all, written_back}
+use Rattle.ext_values.proofs.Agreeing.{same_slot, agree_more, agree_all, written_back}
 use Rattle.ext_values.proofs.silent_notes.SilentNotes.meet.Goals as goal
 
 pub agree-requires : goal.agree-requires
@@ -7,7 +7,7 @@ agree-requires g c =
     let own = ap length c.self.view_is in
     let still = ap length c.loop-index.invariant.notes in
     let below : c.loop-index.index < length c.loop-index.self-inside.entries.items = omega arith in
-    same_place c.loop-index.self-inside.entries.items c.args.self.now c.loop-index.invariant.notes c.loop-index.other-inside.entries.items c.args.other.now c.loop-index.invariant.others c.requires c.loop-index.index below
+    same_slot c.loop-index.self-inside.entries.items c.args.self.now c.loop-index.invariant.notes c.loop-index.other-inside.entries.items c.args.other.now c.loop-index.invariant.others c.requires c.loop-index.index below
     c.index_mut.result.now c.index_mut-in-loop-index.result.now c.index_mut.ensures.value c.index_mut-in-loop-index.ensures.value
 
 pub loop-index-preserved : goal.loop-index-preserved

@@ -7,7 +7,7 @@ use std::alloc::Global;
 
 /// A reply that is checked once all lanes have ended.
 #[derive(Clone, Copy)]
-pub(crate) enum Told {
+pub(crate) enum Reply {
     /// The number was drawn for a value.
     Kept(u32),
     /// It was put in the place, over this one.
@@ -72,7 +72,7 @@ pub(crate) enum Told {
 /// All replies of a lane.
 #[derive(Drop)]
 pub(crate) struct Log {
-    pub(crate) replies: Vec<Told>,
+    pub(crate) replies: Vec<Reply>,
     /// Whether each of them found memory.
     pub(crate) whole: bool,
 }
@@ -86,15 +86,15 @@ impl Log {
     }
 
     /// One more reply.
-    pub(crate) fn tell(&mut self, told: Told) {
-        let kept = self.replies.push(told).is_ok();
+    pub(crate) fn add(&mut self, reply: Reply) {
+        let kept = self.replies.push(reply).is_ok();
         self.whole = self.whole && kept;
     }
 
     /// One more reply, where it is wrong.
     pub(crate) fn wrong_unless(&mut self, right: bool, fault: SoakFault) {
         if !right {
-            self.tell(Told::Wrong(fault));
+            self.add(Reply::Wrong(fault));
         }
     }
 }

@@ -14,15 +14,15 @@ use Rattle.ext_engine.specs.TreeRun.{Ran}
 use Rattle.ext_plain.specs.NodeCalls.{CallsEnd}
 use Rattle.ext_plain.specs.PlainRun.{outcome_of, with_result}
 use Rattle.ext_plain.proofs.Reached.{set-elsewhere}
-use Rattle.ext_one_report.specs.Shares.{SharesNothing, AreToldNear}
-use Rattle.ext_one_report.proofs.SharedNodesWords.{AllToldNear}
-use Rattle.ext_one_report.proofs.NodeTold.{ran_as, ran_first, ran_second, set-long, set-there}
+use Rattle.ext_one_report.specs.Shares.{SharesNothing, AreNearResults}
+use Rattle.ext_one_report.proofs.SharedNodesWords.{AllResultsNear}
+use Rattle.ext_one_report.proofs.ResultLists.{ran_as, ran_first, ran_second, set-long, set-there}
 
-pub near_none : (shares : ℕ → Open) (results : List NodeOutcome) → AllToldNear shares [] results results
+pub near_none : (shares : ℕ → Open) (results : List NodeOutcome) → AllResultsNear shares [] results results
 near_none shares results = record { count = refl; each = λ one there. absurd (contains_none one there); others = λ node none. refl }
 
 -- first these, and then others
-pub near_then : (shares : ℕ → Open) (xs ys : List Ran) (a b c : List NodeOutcome) → ((node : ℕ) → HasRun xs node → HasRun ys node → ⊥) → AllToldNear shares xs a b → AllToldNear shares ys b c → AllToldNear shares (xs ++ ys) a c
+pub near_then : (shares : ℕ → Open) (xs ys : List Ran) (a b c : List NodeOutcome) → ((node : ℕ) → HasRun xs node → HasRun ys node → ⊥) → AllResultsNear shares xs a b → AllResultsNear shares ys b c → AllResultsNear shares (xs ++ ys) a c
 near_then shares xs ys a b c apart one two = record {
   count = two.count ∙ one.count;
   each = λ r there. elim (Contains-append_cases xs ys r there) [
@@ -33,8 +33,8 @@ near_then shares xs ys a b c apart one two = record {
 }
 
 -- those below a node, and then the node
-pub near_own : (shares : ℕ → Open) (own : Ran) (below : List Ran) (a b : List NodeOutcome) (outcome : NodeOutcome) → AreToldNear (values_of (shares own.result.node)) (with_fault_told fault_text own.result) outcome → own.result.node < length a
-    → (HasRun below own.result.node → ⊥) → AllToldNear shares below a b → AllToldNear shares (own ∷ below) a (with_result outcome b)
+pub near_own : (shares : ℕ → Open) (own : Ran) (below : List Ran) (a b : List NodeOutcome) (outcome : NodeOutcome) → AreNearResults (values_of (shares own.result.node)) (with_fault_told fault_text own.result) outcome → own.result.node < length a
+    → (HasRun below own.result.node → ⊥) → AllResultsNear shares below a b → AllResultsNear shares (own ∷ below) a (with_result outcome b)
 near_own shares own below a b outcome told within apart under =
     let at : own.result.node ≡ outcome.node = ap (λ (o : NodeOutcome). o.node) told.same in
     let here : slice_get (with_result outcome b) own.result.node ≡ Some outcome =
@@ -43,7 +43,7 @@ near_own shares own below a b outcome told within apart under =
       count = set-long b outcome.node outcome ∙ under.count;
       each = λ r there. elim (contains_cons own below r there) [
         | inl same ↦
-            subst (λ (x : Ran). (one : NodeOutcome) × (slice_get (with_result outcome b) x.result.node ≡ Some one) × AreToldNear (values_of (shares x.result.node)) (with_fault_told fault_text x.result) one) same (outcome, here, told)
+            subst (λ (x : Ran). (one : NodeOutcome) × (slice_get (with_result outcome b) x.result.node ≡ Some one) × AreNearResults (values_of (shares x.result.node)) (with_fault_told fault_text x.result) one) same (outcome, here, told)
         | inr later ↦
             let one = under.each r later in (
               one.0,
@@ -68,7 +68,7 @@ pub told_as : (shared : Open) (node : ℕ) (is_test : Bool) (outcomes : List Out
     → with_fault_told fault_text (result_of node is_test (endings_of outcomes) (computed_in outcomes) (found_in outcomes) faults)
     ≡ outcome_of node is_test (record end { computed = computed_in outcomes; found = found_in outcomes }) closes
     → computed_in outcomes + found_in outcomes ≡ end.computed + end.found → (SharesNothing (values_of shared) → AreCounted outcomes end)
-    → AreToldNear (values_of shared) (with_fault_told fault_text (result_of node is_test (endings_of outcomes) (computed_in outcomes) (found_in outcomes) faults)) (outcome_of node is_test end closes)
+    → AreNearResults (values_of shared) (with_fault_told fault_text (result_of node is_test (endings_of outcomes) (computed_in outcomes) (found_in outcomes) faults)) (outcome_of node is_test end closes)
 told_as shared node is_test outcomes faults end closes told counts counted = record {
   same = ap (λ (o : NodeOutcome). record o { computed = 0; found = 0 }) told;
   counts = counts;

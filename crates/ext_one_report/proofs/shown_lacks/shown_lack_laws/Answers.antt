@@ -1,6 +1,6 @@
 use Rattle.ext_one_report.proofs.Near.{one_report}
-use Rattle.ext_one_report.proofs.ToldLacks.{tells_lacks}
-use Rattle.ext_one_report.proofs.told_lacks.told_lack_laws.Goals as goal
+use Rattle.ext_one_report.proofs.ShownLacks.{tells_lacks}
+use Rattle.ext_one_report.proofs.shown_lacks.shown_lack_laws.Goals as goal
 
 pub returns : goal.returns
 returns c = record {

@@ -22,8 +22,8 @@ TellsLacks =
     → may_have_lacked (map (with_fault_told fault_text) results) ≡ false → LacksNothing plan lanes results run
 
 -- Such a run of a plan that has one report reports of each node what the plain run does.
-abbrev pub OneReportTold : Type 0
-OneReportTold =
+abbrev pub OneReportWithoutLack : Type 0
+OneReportWithoutLack =
     (plan : PlanText) (lanes : ℕ) (results : List (ResultOf Fault)) → IsReadPlan plan → HasOneReport plan
     → ParallelRun plan lanes results
     → may_have_lacked (map (with_fault_told fault_text) results) ≡ false

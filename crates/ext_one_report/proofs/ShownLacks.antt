@@ -27,7 +27,7 @@ use Rattle.ext_engine.specs.RunLaws.{IsOneEach}
 use Rattle.ext_engine.specs.TreeRun.{BodyRun, ClosesNode, ContainerRun, Lanes, MakesOn, OnFirst, Ran, TestRun, TreeRun, TreeSetting, all_results, concurrent_children, with_lanes}
 use Rattle.ext_engine.proofs.Grown.{Entry}
 use Rattle.ext_engine.proofs.RunLaws.{one_result_each}
-use Rattle.ext_engine.proofs.Told.{grown}
+use Rattle.ext_engine.proofs.GrownRuns.{grown}
 use Rattle.ext_parallel.specs.declared.steps.stored_value.StoredValue.{StoredValue}
 use Rattle.ext_parallel.specs.Lacking.{may_have_lacked}
 use Rattle.ext_parallel.specs.ParallelRun.{ClosesValue, ParallelRun, setting_of_plan}
@@ -36,8 +36,8 @@ use Rattle.ext_parallel.specs.StoreCalls.{PlanLane, stored_view}
 use Rattle.ext_parallel.proofs.Runnable.{tree_runnable}
 use Rattle.ext_plan.specs.Values.{close_fault}
 use Rattle.ext_one_report.specs.FullRuns.{CallsFully, ClosesFully, full_setting}
-use Rattle.ext_one_report.specs.ToldLacks.{TellsLacks}
-use Rattle.ext_one_report.proofs.ToldLacksOfNode.{AllSpared, AnswerSpared, NodeSpared, answers-spared, call-fully, close-answers, endings-spared}
+use Rattle.ext_one_report.specs.ShownLacks.{TellsLacks}
+use Rattle.ext_one_report.proofs.ShownLacksOfNode.{AllSpared, AnswerSpared, NodeSpared, answers-spared, call-fully, close-answers, endings-spared}
 
 -- ---- lists
 
