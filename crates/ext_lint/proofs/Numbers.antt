@@ -12,6 +12,6 @@ past_at first key more false e next missing =
     let rest = next (sym (ap (λ b. b || is_there more key) (key_eq_equiv.symm key first ∙ e)) ∙ missing) in
     rw e (omega (arith, rest))
 
-pub place_past : (keys : List KeyValue) (key : KeyValue) → is_there keys key ≡ false → place_of_key keys key ≡ length keys
-place_past [] key missing = refl
-place_past (first ∷ more) key missing = past_at first key more (key_eq first key) refl (place_past more key) missing
+pub number_past : (keys : List KeyValue) (key : KeyValue) → is_there keys key ≡ false → place_of_key keys key ≡ length keys
+number_past [] key missing = refl
+number_past (first ∷ more) key missing = past_at first key more (key_eq first key) refl (number_past more key) missing

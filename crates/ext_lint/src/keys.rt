@@ -6,16 +6,16 @@ ghost use Rattle.ext_plan.specs.StepCalls.{keys_in};
 ghost use Rattle.ext_plan.specs.StoreKeys.{key_of_step, place_of_key, with_key};
 ghost use Rattle.ext_races.specs.Acts.{act_of};
 ghost use Rattle.ext_races.specs.Touches.{key_of_act, with_key_of};
-ghost use Rattle.ext_lint.specs.Places.{place_view};
+ghost use Rattle.ext_lint.specs.NodeSteps.{node_step_view};
 ghost use Rattle.ext_lint.specs.Said.{keys_with};
 
-use crate::place::Place;
+use crate::node_step::NodeStep;
 use ext_model::KeyNo;
 use ext_plan::{Step, StepKey, StepKeys};
 use ext_tree::{Directory, Key, TreeFault};
 use std::alloc::{AllocError, Global};
 
-/// The greatest number of keys that are told apart: a directory has no more.
+/// The greatest number of different keys: a directory has no more.
 const KEYS: usize = 1_024;
 
 /// The different keys that the steps name, in the order in which they are first named. Takes memory
@@ -25,15 +25,15 @@ const KEYS: usize = 1_024;
 pub(crate) fn keys_of(
     alloc: Global,
     keys: &StepKeys<'_>,
-    places: &[Place<'_>],
+    node_steps: &[NodeStep<'_>],
 ) -> Result<Directory, TreeFault>
-    ensures keys { IfOk result (λ named. named ≡ keys_with (keys_in keys.now) [] (map place_view places.now)) }
+    ensures keys { IfOk result (λ named. named ≡ keys_with (keys_in keys.now) [] (map node_step_view node_steps.now)) }
     ensures few { IfOk result (λ named. length named ≤ 1024) }
-    ensures full { result ≡ Err fault.TooMany → 1024 < length (keys_with (keys_in keys.now) [] (map place_view places.now)) }
+    ensures full { result ≡ Err fault.TooMany → 1024 < length (keys_with (keys_in keys.now) [] (map node_step_view node_steps.now)) }
 {
     let mut directory = Directory::new(alloc);
-    for place in places {
-        name(alloc, keys, place.step, &mut directory)?;
+    for node_step in node_steps {
+        name(alloc, keys, node_step.step, &mut directory)?;
     }
     Ok(directory)
 }

@@ -3,7 +3,7 @@ use Rattle.std.specs.Option.{unwrap_or}
 use Rattle.std.proofs.lemmas.Bool.{cases_Bool}
 use Rattle.ext_plan.specs.StoreKeys.{is_there, place_of_key}
 use Rattle.ext_plan.proofs.KeyLists.{has_place, not_contained}
-use Rattle.ext_lint.proofs.Numbers.{place_past}
+use Rattle.ext_lint.proofs.Numbers.{number_past}
 use Rattle.ext_lint.proofs.keys.number_of.Goals as goal
 
 pub returns-in-Some : goal.returns-in-Some
@@ -21,5 +21,5 @@ returns-in-None c =
     let key = c.args.key.now in
     elim (cases_Bool (is_there directory key)) [
       | inl there ↦ absurd (let some = c.number_of.ensures.found (place_of_key directory key) (has_place directory key there) in let both : None ≡ Some (place_of_key directory key) = sym c.in-None.is ∙ some in cc)
-      | inr missing ↦ c.len.ensures.count ∙ sym (place_past directory key missing)
+      | inr missing ↦ c.len.ensures.count ∙ sym (number_past directory key missing)
     ]
