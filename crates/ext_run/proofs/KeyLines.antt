@@ -14,8 +14,8 @@ no_line : (fault : PlanFault) (read : Result PlanText RunFault) → fault ≢ pl
 no_line plan.Memory read other h = absurd (other refl)
 no_line plan.NotUtf8 read other h = rw h refl
 no_line plan.NotToml read other h = rw h refl
-no_line (plan.UnknownField place) read other h = rw h refl
-no_line (plan.BadField place) read other h = rw h refl
+no_line (plan.UnknownField part) read other h = rw h refl
+no_line (plan.BadField part) read other h = rw h refl
 no_line (plan.BadLabel key) read other h = rw h refl
 no_line (plan.BadId node) read other h = rw h refl
 no_line plan.BadTree read other h = rw h refl

@@ -38,8 +38,8 @@ refused_with : (fault : PlanFault) (read : Result PlanText PlanFault) → Fails 
 refused_with plan.Memory read h = tt
 refused_with plan.NotUtf8 read h = rw h refl
 refused_with plan.NotToml read h = rw h refl
-refused_with (plan.UnknownField place) read h = rw h refl
-refused_with (plan.BadField place) read h = rw h refl
+refused_with (plan.UnknownField part) read h = rw h refl
+refused_with (plan.BadField part) read h = rw h refl
 refused_with (plan.BadLabel key) read h = rw h refl
 refused_with (plan.BadId node) read h = rw h refl
 refused_with plan.BadTree read h = rw h refl

@@ -40,7 +40,7 @@ pub use ext_model::Size;
 pub use ext_parallel::EngineFault;
 pub use ext_plain::plain_run_laws;
 pub use ext_plan_reading::{
-    LabelNo, Place, Plan, PlanFault, PlanKey, PlanLock, PlanNode, Step, explain, explain_id,
+    LabelNo, Plan, PlanFault, PlanKey, PlanLock, PlanNode, PlanPart, Step, explain, explain_id,
     read_plan_within,
 };
 pub use ext_report::ReportForm;

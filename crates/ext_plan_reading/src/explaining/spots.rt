@@ -1,6 +1,6 @@
 //! Where in the text of a table its fields stand, and the texts in their arrays.
 
-/// A place in a table: a field, or a text in the field's array, by its number.
+/// A spot in a table: a field, or a text in the field's array, by its number.
 #[derive(Debug, Drop)]
 pub(crate) struct Spot {
     pub(crate) field: String,
@@ -16,7 +16,7 @@ pub(crate) enum TextNo {
     InList(usize, usize),
 }
 
-/// The byte of `text` at which the place of a table stands, if that is found. The table's fields
+/// The byte of `text` at which the spot of a table stands, if that is found. The table's fields
 /// begin behind the byte `from`, and end with the next header.
 pub(crate) fn byte_of(text: &str, from: usize, spot: &Spot) -> Option<usize> {
     let mut search = Search::new(text, from, spot);
@@ -162,7 +162,7 @@ fn text_in(quote: u8, is_long: bool, is_escaped: bool, quotes: u8) -> Inside {
     }
 }
 
-/// What the search for a place comes to.
+/// What the search for a spot comes to.
 enum Step {
     Further,
     Found,
@@ -170,7 +170,7 @@ enum Step {
     End,
 }
 
-/// A search for a place in a table.
+/// A search for a spot in a table.
 #[derive(Drop)]
 struct Search<'a> {
     text: &'a str,
