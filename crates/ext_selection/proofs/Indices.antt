@@ -10,7 +10,7 @@ use Rattle.std.proofs.lemmas.List.Kept.{AllPairs-filter}
 use Rattle.std.proofs.lemmas.List.Sorted.{All-permutation}
 use Rattle.std.proofs.lemmas.Map.Keys.{IsDistinct-IsPermutation}
 use Rattle.std.proofs.lemmas.Map.Made.{AllPairs-from_IsDistinct, IsDistinct-from_AllPairs}
-use Rattle.ext_selection.specs.Nodes.{ArePlaces, AreClosed}
+use Rattle.ext_selection.specs.Nodes.{AreClosed, AreIndices}
 use Rattle.ext_selection.specs.Selection.{AreChosen}
 use Rattle.ext_selection.specs.declared.nodes.Node.{Node}
 
@@ -25,9 +25,9 @@ range_once n = λ i j d less below same.
     let first = get_or-range_with_len 0 n i d (omega arith) in
     let second = get_or-range_with_len 0 n j d (omega arith) in omega (arith, first, second, same, less)
 
-pub chosen_places : (nodes : List Node) (wanted : List Bool) (indices : List ℕ) → AreChosen nodes wanted indices → ArePlaces (length nodes) indices
-chosen_places nodes wanted indices h =
-    subst (ArePlaces (length nodes)) (sym h.exact)
+pub chosen_indices : (nodes : List Node) (wanted : List Bool) (indices : List ℕ) → AreChosen nodes wanted indices → AreIndices (length nodes) indices
+chosen_indices nodes wanted indices h =
+    subst (AreIndices (length nodes)) (sym h.exact)
     (record {
       within = All-filter h.kept (λ k. k < length nodes) (range_with_len 0 (length nodes)) (range_within (length nodes));
       once = AllPairs-filter (λ a b. a ≢ b) h.kept (range_with_len 0 (length nodes)) (range_once (length nodes));
@@ -39,8 +39,8 @@ flips x y =
     (λ is. sym ((Decides-eqb y x).0 is), λ e. (Decides-eqb y x).1 (sym e)) in
     one_answer (x == y) (y == x) (Decides-eqb x y) turned
 
-pub moved_places : (count : ℕ) (indices order : List ℕ) → IsPermutation indices order → ArePlaces count indices → ArePlaces count order
-moved_places count indices order moved h = record {
+pub moved_indices : (count : ℕ) (indices order : List ℕ) → IsPermutation indices order → AreIndices count indices → AreIndices count order
+moved_indices count indices order moved h = record {
   within = All-permutation (λ index. index < count) indices order moved h.within;
   once = AllPairs-from_IsDistinct Decides-eqb order
       (IsDistinct-IsPermutation (λ x y. x == y) flips indices order moved (IsDistinct-from_AllPairs Decides-eqb indices h.once));
@@ -61,8 +61,8 @@ contains_filter p [] k x below at is = absurd (omega arith)
 contains_filter p (y ∷ ys) zero x below at is = in_first (p y) y (filter p ys) x (ap p at ∙ is) at
 contains_filter p (y ∷ ys) (suc k) x below at is = in_more (p y) y (filter p ys) x (contains_filter p ys k x (omega arith) at is)
 
-pub closed_places : (nodes : List Node) (wanted : List Bool) (indices : List ℕ) → AreChosen nodes wanted indices → AreClosed nodes indices
-closed_places nodes wanted indices h = record {
+pub closed_indices : (nodes : List Node) (wanted : List Bool) (indices : List ℕ) → AreChosen nodes wanted indices → AreClosed nodes indices
+closed_indices nodes wanted indices h = record {
   each = λ inner outer stands some.
       let range : List ℕ = range_with_len 0 (length nodes) in
       let kept_in : h.kept inner ≡ true =
