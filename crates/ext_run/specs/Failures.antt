@@ -10,7 +10,7 @@ use Rattle.ext_lifecycle.specs.declared.fault_place.FaultPlace.{FaultPlace}
 use Rattle.ext_lifecycle.specs.declared.fault_place.FaultPlace.TheVariants as places
 use Rattle.ext_tree.specs.Trees.{Id, id_at}
 use Rattle.ext_run.specs.declared.failures.NodeFault.{NodeFault}
-use Rattle.ext_run.specs.declared.failures.ToldFaults.{ToldFaults}
+use Rattle.ext_run.specs.declared.failures.ReportedFaults.{ReportedFaults}
 
 -- ---- what is kept
 
@@ -20,7 +20,7 @@ IsAdded old new node place text = (fault : NodeFault) × (new ≡ old ++ fault �
     × (fault.place ≡ place) × (string_bytes fault.text ≡ text)
 
 -- The fault is appended to the others, or it is lost, and that is noted.
-pub data NotesFault (old new : ToldFaults) (node : ℕ) (place : FaultPlace) (text : List ℕ) : Type 0 where
+pub data NotesFault (old new : ReportedFaults) (node : ℕ) (place : FaultPlace) (text : List ℕ) : Type 0 where
   added : IsAdded old.faults.items new.faults.items node place text → new.lost ≡ old.lost
       → NotesFault old new node place text
   lost : new.faults.items ≡ old.faults.items → new.lost ≡ true → NotesFault old new node place text

@@ -45,7 +45,7 @@ pub use ext_plan_reading::{
 };
 pub use ext_report::ReportForm;
 pub use ext_tree::Tree;
-pub use failures::{Failures, NodeFault, ToldFaults, failures_text, lost_line};
+pub use failures::{Failures, NodeFault, ReportedFaults, failures_text, lost_line};
 pub use fault::RunFault;
 pub use id_lines::{id_text, make_id, read_id};
 pub use input::{input_limit, read_input};
