@@ -18,7 +18,7 @@ use Rattle.ext_races.specs.Touches.{TouchText, keys_named, touches_made}
 use Rattle.ext_plan.specs.StepWords.{computes, word_eq}
 use Rattle.ext_races.proofs.Equalities.{word_is}
 use Rattle.ext_races.proofs.Lists.{contains_first, contains_later}
-use Rattle.ext_races.proofs.Sides.{nodes_found, nodes_told}
+use Rattle.ext_races.proofs.Sides.{nodes_found, nodes_tested}
 use Rattle.ext_races.proofs.TouchNodes.{touch_within}
 use Rattle.ext_one_report.specs.Shares.{is_at, is_beside_at, is_shared_at}
 use Rattle.ext_races.specs.OneReports.{SharesValues}
@@ -147,7 +147,7 @@ module _ (plan : PlanText) (read : IsReadPlan plan) where
         let same = same_count plan in
         and_from (nodes_beside plan node t.node && (t.context == context)) (t.key == number)
         (and_from (nodes_beside plan node t.node) (t.context == context)
-        (nodes_told plan node t.node (omega (arith, less, same)) (touch_within plan t is.made) (are_beside plan read node t.node is.beside)) (eq-eqb t.context context is.context_is))
+        (nodes_tested plan node t.node (omega (arith, less, same)) (touch_within plan t is.made) (are_beside plan read node t.node is.beside)) (eq-eqb t.context context is.context_is))
         (eq-eqb t.key number is.key_is)
 
     told_any : (p : TouchText → Bool) (t : TouchText) → Contains (touches_made plan) t → p t ≡ true → list_any p (touches_made plan) ≡ true

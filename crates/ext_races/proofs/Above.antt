@@ -73,8 +73,8 @@ noted_before computes one key is = elim (cases_eq one.key key) [
 -- ---- keys and their numbers
 
 module _ (declared : List KeyText) (directory : List KeyValue) where
-  other_place : (one other : KeyValue) → is_there directory one ≡ true → is_there directory other ≡ true → key_eq one other ≡ false → place_of_key directory one ≢ place_of_key directory other
-  other_place one other there other_there differ same =
+  other_number : (one other : KeyValue) → is_there directory one ≡ true → is_there directory other ≡ true → key_eq one other ≡ false → place_of_key directory one ≢ place_of_key directory other
+  other_number one other there other_there differ same =
       let both : Some one ≡ Some other = sym (has_place directory one there) ∙ ap (slice_get directory) same ∙ has_place directory other other_there in
       let equal : one ≡ other = cc both in
       true≢false (sym ((keys_Decides one other).1 equal) ∙ differ)
@@ -86,10 +86,10 @@ module _ (declared : List KeyText) (directory : List KeyValue) where
     | inr differ ↦ differ
   ]
 
-  same_place : (one other : KeyValue) → is_there directory one ≡ true → is_there directory other ≡ true → (place_of_key directory one == place_of_key directory other) ≡ key_eq one other
-  same_place one other there other_there = elim (cases_Bool (key_eq one other)) [
+  same_number : (one other : KeyValue) → is_there directory one ≡ true → is_there directory other ≡ true → (place_of_key directory one == place_of_key directory other) ≡ key_eq one other
+  same_number one other there other_there = elim (cases_Bool (key_eq one other)) [
     | inl same ↦ eq-eqb (place_of_key directory one) (place_of_key directory other) (ap (place_of_key directory) ((keys_Decides one other).0 same)) ∙ sym same
-    | inr differ ↦ ne_eqb (place_of_key directory one) (place_of_key directory other) (other_place one other there other_there differ) ∙ sym differ
+    | inr differ ↦ ne_eqb (place_of_key directory one) (place_of_key directory other) (other_number one other there other_there differ) ∙ sym differ
   ]
 
   -- ---- one step more
@@ -132,7 +132,7 @@ module _ (declared : List KeyText) (directory : List KeyValue) where
       same : (key : KeyValue) → is_there directory key ≡ true → compute_at (one ∷ []) (place_of_key directory key) ≡ first_compute declared key path (Some act ∷ [])
       same key key_there =
           ap (λ n. option_map compute_view (if n == place_of_key directory key then Some one else None)) number
-          ∙ ap (λ b. option_map compute_view (if b then Some one else None)) (same_place own key there key_there)
+          ∙ ap (λ b. option_map compute_view (if b then Some one else None)) (same_number own key there key_there)
           ∙ by (key_eq own key)
           ∙ ap (λ g. if g && key_eq own key then Some (record { context = start_of (drop act.up path); word = act.word; text = act.text }) else None) (sym gives)
         where
@@ -166,7 +166,7 @@ module _ (declared : List KeyText) (directory : List KeyValue) where
   pub removed_set : (before : List MadeText) (made : MadeText) (act : ActText) (number : ℕ) (removed : List Bool) → act_of made.step ≡ Some act → word_eq act.word words.Remove ≡ true
       → is_there directory (key_of_step declared act.key) ≡ true → number ≡ place_of_key directory (key_of_step declared act.key) → AreRemoved declared directory before removed
       → AreRemoved declared directory (before ++ made ∷ []) (set removed number true)
-  removed_set before made act number removed is word there place are = record {
+  removed_set before made act number removed is word there numbered are = record {
     count = length-set removed number true ∙ are.count;
     each = λ key key_there. one key key_there ∙ sym (any_push (λ m. removes_key declared key (act_of m.step)) before made ∙ ap (λ b. list_any (λ m. removes_key declared key (act_of m.step)) before || b) (removes key));
   }
@@ -184,13 +184,13 @@ module _ (declared : List KeyText) (directory : List KeyValue) where
       one : (key : KeyValue) → is_there directory key ≡ true → removed_at (set removed number true) (place_of_key directory key) ≡ (list_any (λ m. removes_key declared key (act_of m.step)) before || key_eq own key)
       one key key_there = elim (cases_Bool (key_eq own key)) [
         | inl same ↦
-            let at : place_of_key directory key ≡ number = ap (place_of_key directory) (sym ((keys_Decides own key).0 same)) ∙ sym place in
+            let at : place_of_key directory key ≡ number = ap (place_of_key directory) (sym ((keys_Decides own key).0 same)) ∙ sym numbered in
             let within = place_within directory own there in
             let long = are.count in
-            ap (λ n. get_or (set removed number true) n false) at ∙ get_or-set_same removed number true false (omega (arith, within, place, long))
+            ap (λ n. get_or (set removed number true) n false) at ∙ get_or-set_same removed number true false (omega (arith, within, numbered, long))
             ∙ all (list_any (λ m. removes_key declared key (act_of m.step)) before) ∙ ap (λ b. list_any (λ m. removes_key declared key (act_of m.step)) before || b) (sym same)
         | inr differ ↦
-            let far : place_of_key directory key ≢ number = λ at. other_place own key there key_there differ (sym place ∙ sym at) in
+            let far : place_of_key directory key ≢ number = λ at. other_number own key there key_there differ (sym numbered ∙ sym at) in
             get_or-set_other removed number (place_of_key directory key) true false far ∙ are.each key key_there
             ∙ sym (ap (λ b. list_any (λ m. removes_key declared key (act_of m.step)) before || b) differ ∙ or-false _)
       ]

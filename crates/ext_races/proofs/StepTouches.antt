@@ -17,8 +17,8 @@ use Rattle.ext_races.specs.Touches.{ComputeText, below_act, below_computes, foun
 pub touches_are : (ids : List Id) (declared : List KeyText) (keys : List KeyValue) (above : ℕ → KeyValue → Option ComputeText) (made : MadeText) (act : ActText) (number : ℕ) (found : Option ComputeText) (path : List ℕ)
     → act_of made.step ≡ Some act → number ≡ place_of_key keys (key_of_step declared act.key) → found ≡ found_above declared made.before (above made.node) act
     → path ≡ drop act.up (reach declared made.before (path_of ids made.node) act) → touches_along made.node number act found path ≡ touches_of ids declared keys above made
-touches_are ids declared keys above made act number found path is place same along =
-    ap (λ n. touches_along made.node n act found path) place ∙ ap (λ f. touches_along made.node (place_of_key keys (key_of_step declared act.key)) act f path) same
+touches_are ids declared keys above made act number found path is numbered same along =
+    ap (λ n. touches_along made.node n act found path) numbered ∙ ap (λ f. touches_along made.node (place_of_key keys (key_of_step declared act.key)) act f path) same
     ∙ ap (touches_along made.node (place_of_key keys (key_of_step declared act.key)) act (found_above declared made.before (above made.node) act)) along
     ∙ ap (touches_of_act declared keys made.node (path_of ids made.node) made.before (above made.node)) (sym is)
 

@@ -16,11 +16,11 @@ use Rattle.ext_races.proofs.Within.{nodes_within}
 
 look_node : (node key : ℕ) (act : ActText) (found : Option ComputeText) (context : ℕ) → (look_at node key act found context).node ≡ node
 look_node node key act None context = refl
-look_node node key act (Some found) context = by_place (context == found.context)
+look_node node key act (Some found) context = by_context (context == found.context)
   where
-    by_place : (here : Bool) → (if here then record (touch_of node key act false context) { acts = found.word; text = found.text } else touch_of node key act false context).node ≡ node
-    by_place true = refl
-    by_place false = refl
+    by_context : (here : Bool) → (if here then record (touch_of node key act false context) { acts = found.word; text = found.text } else touch_of node key act false context).node ≡ node
+    by_context true = refl
+    by_context false = refl
 
 first_node : (node key : ℕ) (act : ActText) (found : Option ComputeText) (context : ℕ) → (touch_first node key act found context).node ≡ node
 first_node node key act found context = by_word (changes act.word)
@@ -61,11 +61,11 @@ ActsItself t = t.changes ≡ true → t.acts ≡ t.word
 
 look_itself : (node key : ℕ) (act : ActText) (found : Option ComputeText) (context : ℕ) → ActsItself (look_at node key act found context)
 look_itself node key act None context changing = absurd (true≢false (sym changing))
-look_itself node key act (Some found) context changing = by_place (context == found.context) changing
+look_itself node key act (Some found) context changing = by_context (context == found.context) changing
   where
-    by_place : (here : Bool) → ActsItself (if here then record (touch_of node key act false context) { acts = found.word; text = found.text } else touch_of node key act false context)
-    by_place true changing = absurd (true≢false (sym changing))
-    by_place false changing = absurd (true≢false (sym changing))
+    by_context : (here : Bool) → ActsItself (if here then record (touch_of node key act false context) { acts = found.word; text = found.text } else touch_of node key act false context)
+    by_context true changing = absurd (true≢false (sym changing))
+    by_context false changing = absurd (true≢false (sym changing))
 
 first_itself : (node key : ℕ) (act : ActText) (found : Option ComputeText) (context : ℕ) → ActsItself (touch_first node key act found context)
 first_itself node key act found context = by_word (changes act.word)

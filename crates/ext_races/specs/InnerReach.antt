@@ -23,7 +23,7 @@ abbrev pub noted : List ℕ → ℕ → ActText → List ℕ
 noted below key act = if gives_value act.word && nat_lt (min act.up 16) (below_at below key)
     then slice_set below key (min act.up 16) else below
 
--- So it is after these steps. It is also told whether one of them computes the key.
+-- So it is after these steps. It is also noted whether one of them computes the key.
 pub record Tells (declared : List KeyText) (directory : List KeyValue) (before : List StepText) (below : List ℕ)
     : Type 0 where
   pub count : length below ≡ length directory

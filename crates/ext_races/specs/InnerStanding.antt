@@ -43,7 +43,7 @@ abbrev pub stands : Standing → List ℕ → ℕ → Option ComputeText
 stands noted path key = if removed_at noted.removed.items key then None
     else computed_in (computes_view noted.computes.items) key (drop 1 path)
 
--- So it is told what was computed above each node for each key of the directory.
+-- So it is noted what was computed above each node for each key of the directory.
 pub record TellsAbove (ids : List Id) (directory : List KeyValue) (above : ℕ → KeyValue → Option ComputeText)
     (noted : Standing) : Type 0 where
   pub each : (node : ℕ) (path : List ℕ) (key : KeyValue) → node < length ids → IsPathOf ids node path
@@ -62,7 +62,7 @@ module _ (declared : List KeyText) (directory : List KeyValue) where
     pub each : (key : KeyValue) → is_there directory key ≡ true
         → compute_at computes (place_of_key directory key) ≡ first_compute declared key path acts
 
-  -- For each key it is told whether one of these steps removes it.
+  -- For each key it is noted whether one of these steps removes it.
   pub record AreRemoved (steps : List MadeText) (removed : List Bool) : Type 0 where
     pub count : length removed ≡ length directory
     pub each : (key : KeyValue) → is_there directory key ≡ true → removed_at removed (place_of_key directory key)

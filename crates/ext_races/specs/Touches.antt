@@ -36,7 +36,7 @@ key_of_made declared made = key_of_act declared (act_of made.step)
 abbrev pub keys_of_steps : List KeyText → List KeyValue → List MadeText → List KeyValue
 keys_of_steps declared keys steps = fold (λ before made. with_key_of before (key_of_made declared made)) keys steps
 
--- The different keys that a plan's steps name, in the order in which they first do. A key's number is its place here.
+-- The different keys that a plan's steps name, in the order in which they first do. A key's number is its index here.
 abbrev pub keys_named : PlanText → List KeyValue
 keys_named plan = keys_of_steps plan.keys [] (steps_made plan)
 
@@ -71,7 +71,7 @@ touch_view t = record {
 }
 
 abbrev pub text_if : Bool → List ℕ → List ℕ
-text_if told text = if told then text else []
+text_if shown text = if shown then text else []
 
 -- How an act of a node touches a place.
 abbrev pub touch_of : ℕ → ℕ → ActText → Bool → ℕ → TouchText

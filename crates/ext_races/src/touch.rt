@@ -104,7 +104,7 @@ impl Touch<'_> {
     ghost use Rattle.ext_races.specs.Clashes.{agree, clashes, closes_differ, may_fail};
     ghost use Rattle.ext_races.specs.InnerPassing.{alike};
     ghost use Rattle.ext_races.specs.InnerProving.{computes_value, shares_value};
-    ghost use Rattle.ext_races.specs.InnerTold.{touch_eq};
+    ghost use Rattle.ext_races.specs.InnerListed.{touch_eq};
     ghost use Rattle.ext_races.specs.Races.{race_of, side_of};
 
     /// Tests whether the touches are equal.

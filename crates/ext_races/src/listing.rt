@@ -4,7 +4,7 @@ ghost use Rattle.std.specs.List.{list_any};
 ghost use Rattle.ext_plan.specs.Plans.{plan_view};
 ghost use Rattle.ext_plan.specs.ReadPlans.{ids_of_nodes};
 ghost use Rattle.ext_races.specs.InnerGroups.{groups_view};
-ghost use Rattle.ext_races.specs.InnerTold.{group_told, groups_told, pair_told, race_eq, touch_told, with_race};
+ghost use Rattle.ext_races.specs.InnerListed.{group_listed, groups_listed, pair_listed, race_eq, touch_listed, with_race};
 ghost use Rattle.ext_races.specs.Touches.{touch_view};
 
 use crate::Race;
@@ -15,35 +15,35 @@ use ext_plan::Plan;
 use std::alloc::{AllocError, Global};
 
 /// Lists at most `most` races in these groups, without repetition. Takes memory for the list.
-pub(crate) fn races_told<'p>(
+pub(crate) fn races_listed<'p>(
     alloc: Global,
     plan: &Plan,
     groups: &[Vec<Touch<'p>>],
     most: usize,
 ) -> Result<Vec<Race>, AllocError>
-    ensures { IfOk result (λ told. told.items ≡ groups_told (plan_view plan.now) most (groups_view groups.now)) }
+    ensures { IfOk result (λ listed. listed.items ≡ groups_listed (plan_view plan.now) most (groups_view groups.now)) }
 {
-    let mut told = Vec::new(alloc);
+    let mut listed = Vec::new(alloc);
     let mut passed = none_passed(alloc, plan.tree().len())?;
     for group in groups {
         let passed = passed.as_mut_slice();
-        tell_group(plan, group.as_slice(), passed, most, &mut told)?;
+        list_group(plan, group.as_slice(), passed, most, &mut listed)?;
     }
-    Ok(told)
+    Ok(listed)
 }
 
 /// Adds the races in a group. What is noted in `passed` before does not matter.
-fn tell_group<'p>(
+fn list_group<'p>(
     plan: &Plan,
     group: &[Touch<'p>],
     passed: &mut [Option<Passed<'p>>],
     most: usize,
-    told: &mut Vec<Race>,
+    listed: &mut Vec<Race>,
 ) -> Result<(), AllocError>
     requires { length passed.old ≡ length (ids_of_nodes (plan_view plan.now).nodes) }
-    ensures { OnOk result (told.new.items ≡ group_told (plan_view plan.now) most told.old.items (map touch_view group.now)) }
+    ensures { OnOk result (listed.new.items ≡ group_listed (plan_view plan.now) most listed.old.items (map touch_view group.now)) }
 {
-    if told.len() >= most {
+    if listed.len() >= most {
         return Ok(());
     }
     if !changes_any(group) {
@@ -52,7 +52,7 @@ fn tell_group<'p>(
     note_group(plan, group, passed);
     for touch in group {
         if may_meet(plan, passed, touch.node, true) {
-            tell_touch(plan, touch, group, most, told)?;
+            list_touch(plan, touch, group, most, listed)?;
         }
     }
     Ok(())
@@ -66,56 +66,56 @@ fn changes_any(group: &[Touch<'_>]) -> bool
 }
 
 /// Adds the races of a touch with others of its group.
-fn tell_touch(
+fn list_touch(
     plan: &Plan,
     touch: &Touch<'_>,
     group: &[Touch<'_>],
     most: usize,
-    told: &mut Vec<Race>,
+    listed: &mut Vec<Race>,
 ) -> Result<(), AllocError>
-    ensures { OnOk result (told.new.items ≡ touch_told (plan_view plan.now) most (map touch_view group.now) told.old.items (touch_view touch.now)) }
+    ensures { OnOk result (listed.new.items ≡ touch_listed (plan_view plan.now) most (map touch_view group.now) listed.old.items (touch_view touch.now)) }
 {
     if !touch.changes {
         return Ok(());
     }
-    if told.len() >= most {
+    if listed.len() >= most {
         return Ok(());
     }
     for other in group {
-        tell_pair(plan, touch, other, most, told)?;
+        list_pair(plan, touch, other, most, listed)?;
     }
     Ok(())
 }
 
 /// Adds the race of two touches, if there is one.
-fn tell_pair(
+fn list_pair(
     plan: &Plan,
     touch: &Touch<'_>,
     other: &Touch<'_>,
     most: usize,
-    told: &mut Vec<Race>,
+    listed: &mut Vec<Race>,
 ) -> Result<(), AllocError>
-    ensures { OnOk result (told.new.items ≡ pair_told (plan_view plan.now) most (touch_view touch.now) told.old.items (touch_view other.now)) }
+    ensures { OnOk result (listed.new.items ≡ pair_listed (plan_view plan.now) most (touch_view touch.now) listed.old.items (touch_view other.now)) }
 {
     if touch.clashes(other) && nodes_beside(plan, touch.node, other.node) {
-        tell(touch.race_with(other), most, told)?;
+        list_race(touch.race_with(other), most, listed)?;
     }
     Ok(())
 }
 
 /// Adds a race, unless it is listed or the list is full.
-fn tell(race: Race, most: usize, told: &mut Vec<Race>) -> Result<(), AllocError>
-    ensures { OnOk result (told.new.items ≡ with_race most told.old.items race) }
+fn list_race(race: Race, most: usize, listed: &mut Vec<Race>) -> Result<(), AllocError>
+    ensures { OnOk result (listed.new.items ≡ with_race most listed.old.items race) }
 {
-    if told.len() < most && !is_told(told.as_slice(), &race) {
-        told.push(race)?;
+    if listed.len() < most && !is_listed(listed.as_slice(), &race) {
+        listed.push(race)?;
     }
     Ok(())
 }
 
 /// Tests whether the race is listed.
-fn is_told(told: &[Race], race: &Race) -> bool
-    ensures { result ≡ list_any (λ other. race_eq other race.now) told.now }
+fn is_listed(listed: &[Race], race: &Race) -> bool
+    ensures { result ≡ list_any (λ other. race_eq other race.now) listed.now }
 {
-    told.iter().any(|other| other.is_same(race))
+    listed.iter().any(|other| other.is_same(race))
 }

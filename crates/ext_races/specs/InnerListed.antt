@@ -34,19 +34,19 @@ race plan t u = clashes t u && nodes_beside plan t.node u.node
 
 -- Lists one more race, unless it is listed already or the list is full.
 abbrev pub with_race : ℕ → List Race → Race → List Race
-with_race most told race = if nat_lt (length told) most && not (list_any (λ r. race_eq r race) told)
-    then told ++ race ∷ [] else told
+with_race most listed race = if nat_lt (length listed) most && not (list_any (λ r. race_eq r race) listed)
+    then listed ++ race ∷ [] else listed
 
 module _ (plan : PlanText) (most : ℕ) where
-  abbrev pub pair_told : TouchText → List Race → TouchText → List Race
-  pair_told t told u = if race plan t u then with_race most told (race_of t u) else told
+  abbrev pub pair_listed : TouchText → List Race → TouchText → List Race
+  pair_listed t listed u = if race plan t u then with_race most listed (race_of t u) else listed
 
   -- Lists the races of a touch with its whole group.
-  abbrev pub touch_told : List TouchText → List Race → TouchText → List Race
-  touch_told group told t = fold (pair_told t) told group
+  abbrev pub touch_listed : List TouchText → List Race → TouchText → List Race
+  touch_listed group listed t = fold (pair_listed t) listed group
 
-  abbrev pub group_told : List Race → List TouchText → List Race
-  group_told told group = fold (touch_told group) told group
+  abbrev pub group_listed : List Race → List TouchText → List Race
+  group_listed listed group = fold (touch_listed group) listed group
 
-  abbrev pub groups_told : List (List TouchText) → List Race
-  groups_told groups = fold group_told [] groups
+  abbrev pub groups_listed : List (List TouchText) → List Race
+  groups_listed groups = fold group_listed [] groups
