@@ -12,11 +12,11 @@ use std::alloc::{AllocError, Global};
 /// A step of the callback of a node with this kind and index, or of its test, by its number from 0.
 #[derive(Clone, Copy, Debug)]
 pub(crate) struct NodeStep<'p> {
-    pub node: ContextNo,
-    pub kind: Kind,
-    pub index: usize,
-    pub at: usize,
-    pub step: &'p Step,
+    pub(crate) node: ContextNo,
+    pub(crate) kind: Kind,
+    pub(crate) index: usize,
+    pub(crate) at: usize,
+    pub(crate) step: &'p Step,
 }
 
 impl NodeStep<'_> {
