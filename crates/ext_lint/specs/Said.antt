@@ -6,7 +6,7 @@ use Rattle.std.specs.Str.{bytes_eq}
 use Rattle.ext_tree.specs.Keys.{KeyValue}
 use Rattle.ext_plan.specs.Plans.{KeyText, PlanText, StepText, keyed, fail, abort, step_key_view}
 use Rattle.ext_plan.specs.StepCalls.{label_of}
-use Rattle.ext_plan.specs.StoreKeys.{key_of_step, place_of_key}
+use Rattle.ext_plan.specs.StoreKeys.{key_of_step, number_of_key}
 use Rattle.ext_plan.specs.declared.word.Word.{Word}
 use Rattle.ext_plan.specs.declared.word.Word.TheVariants as words
 use Rattle.ext_races.specs.MadeSteps.{MadeText, made_by}
@@ -39,7 +39,7 @@ pub record SaidText : Type 0 where
 abbrev pub said_of : List KeyText → List KeyValue → StepText → Option SaidText
 said_of declared keys (keyed word key text up) = Some (record {
   word = word;
-  key = place_of_key keys (key_of_step declared key);
+  key = number_of_key keys (key_of_step declared key);
   name = label_of declared key;
   text = text;
 })

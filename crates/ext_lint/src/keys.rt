@@ -3,7 +3,7 @@ ghost use Rattle.std.specs.Prelude.{◌≡◌, ◌<◌, ◌≤◌, [], Err, IfOk
 ghost use Rattle.ext_tree.specs.declared.fault.TreeFault.TheVariants as fault;
 ghost use Rattle.ext_plan.specs.Plans.{step_key_view, step_view};
 ghost use Rattle.ext_plan.specs.StepCalls.{keys_in};
-ghost use Rattle.ext_plan.specs.StoreKeys.{key_of_step, place_of_key, with_key};
+ghost use Rattle.ext_plan.specs.StoreKeys.{key_of_step, number_of_key, with_key};
 ghost use Rattle.ext_races.specs.Acts.{act_of};
 ghost use Rattle.ext_races.specs.Touches.{key_of_act, with_key_of};
 ghost use Rattle.ext_lint.specs.NodeSteps.{node_step_view};
@@ -84,7 +84,7 @@ pub(crate) fn key_number(
     directory: &Directory,
     key: &StepKey,
 ) -> Result<KeyNo, AllocError>
-    ensures { IfOk result (λ n. n ≡ place_of_key directory.now (key_of_step (keys_in keys.now) (step_key_view key.now))) }
+    ensures { IfOk result (λ n. n ≡ number_of_key directory.now (key_of_step (keys_in keys.now) (step_key_view key.now))) }
 {
     let called = keys.key_of(alloc, key)?;
     Ok(number_of(directory, called.key()))
@@ -92,7 +92,7 @@ pub(crate) fn key_number(
 
 /// The number of a key; one past the last if the directory does not have it.
 fn number_of(directory: &Directory, key: &Key) -> KeyNo
-    ensures { result ≡ place_of_key directory.now key.now }
+    ensures { result ≡ number_of_key directory.now key.now }
 {
     match directory.number_of(key) {
         Some(number) => number,

@@ -10,7 +10,7 @@ use Rattle.std.proofs.lemmas.List.Folds.{Any-from_list_any, list_any-from_Any}
 use Rattle.ext_tree.specs.Keys.{KeyValue}
 use Rattle.ext_plan.specs.Plans.{PlanText}
 use Rattle.ext_plan.specs.ReadPlans.{IsReadPlan, ids_of_nodes}
-use Rattle.ext_plan.specs.StoreKeys.{place_of_key}
+use Rattle.ext_plan.specs.StoreKeys.{number_of_key}
 use Rattle.ext_races.specs.Clashes.{agree}
 use Rattle.ext_races.specs.Beside.{nodes_beside}
 use Rattle.ext_races.specs.MadeSteps.{plan_path}
@@ -65,7 +65,7 @@ pub record IsTouchedAt (plan : PlanText) (context : ℕ) (key : KeyValue) : Type
   pub touch : TouchText
   pub made : Contains (touches_made plan) touch
   pub context_is : touch.context ≡ context
-  pub key_is : touch.key ≡ place_of_key (keys_named plan) key
+  pub key_is : touch.key ≡ number_of_key (keys_named plan) key
 
 -- such a touch by a node that may run beside this one
 pub record IsTouchedBeside (plan : PlanText) (node context : ℕ) (key : KeyValue) : Type 0 where
@@ -73,7 +73,7 @@ pub record IsTouchedBeside (plan : PlanText) (node context : ℕ) (key : KeyValu
   pub made : Contains (touches_made plan) touch
   pub beside : AreBelow plan node touch.node
   pub context_is : touch.context ≡ context
-  pub key_is : touch.key ≡ place_of_key (keys_named plan) key
+  pub key_is : touch.key ≡ number_of_key (keys_named plan) key
 
 abbrev pub below_at : (plan : PlanText) (node context : ℕ) (key : KeyValue) (told : Bool) → IsTouchedBelow plan node context key told → IsTouchedAt plan context key
 below_at plan node context key told is = record { touch = is.touch; made = is.made; context_is = is.context_is; key_is = is.key_is }
@@ -108,7 +108,7 @@ module _ (plan : PlanText) (read : IsReadPlan plan) where
 
   module _ (node context : ℕ) (key : KeyValue) where
     abbrev number : ℕ
-    number = place_of_key (keys_named plan) key
+    number = number_of_key (keys_named plan) key
 
     below_found : (t : TouchText) → Contains (touches_made plan) t → is_at plan node context key t ≡ true → IsTouchedBelow plan node context key false
     below_found t made is =

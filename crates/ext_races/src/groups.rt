@@ -4,7 +4,7 @@ ghost use Rattle.std.specs.List.{flat_map, list_any};
 ghost use Rattle.ext_plan.specs.StepCalls.{keys_in};
 ghost use Rattle.ext_plan.specs.Plans.{StepText, step_key_view};
 ghost use Rattle.ext_plan.specs.StepWords.{changes};
-ghost use Rattle.ext_plan.specs.StoreKeys.{is_there, key_of_step, place_of_key};
+ghost use Rattle.ext_plan.specs.StoreKeys.{is_there, key_of_step, number_of_key};
 ghost use Rattle.ext_tree.specs.Keys.{KeyValue};
 ghost use Rattle.ext_races.specs.Acts.{act_view};
 ghost use Rattle.ext_races.specs.InnerGroups.{AreEmpty, HasGroups, IsAdded, IsGrouped, IsPushed, groups_view};
@@ -125,7 +125,7 @@ fn key_number(
     key: &StepKey,
 ) -> Result<KeyNo, AllocError>
     requires { is_there directory.now (key_of_step (keys_in keys.now) (step_key_view key.now)) ≡ true }
-    ensures number { IfOk result (λ n. n ≡ place_of_key directory.now (key_of_step (keys_in keys.now) (step_key_view key.now))) }
+    ensures number { IfOk result (λ n. n ≡ number_of_key directory.now (key_of_step (keys_in keys.now) (step_key_view key.now))) }
     ensures few { IfOk result (λ n. n < length directory.now) }
 {
     let called = store_key(alloc, keys, key)?;
