@@ -24,11 +24,11 @@ lines_of_none plan stored (note ∷ more) none = absurd (omega (arith, none))
 
 -- ---- the first of them, and whether there are more
 
-more_told : (count : ℕ) → line_limit < count → (if nat_lt line_limit count then codes "and more\n" else []) ≡ codes "and more\n"
-more_told count many = let more : nat_lt line_limit count ≡ true = grind (arith, common_steps, many) in rw more refl
+more_shown : (count : ℕ) → line_limit < count → (if nat_lt line_limit count then codes "and more\n" else []) ≡ codes "and more\n"
+more_shown count many = let more : nat_lt line_limit count ≡ true = grind (arith, common_steps, many) in rw more refl
 
-none_told : (count : ℕ) → count ≤ line_limit → (if nat_lt line_limit count then codes "and more\n" else []) ≡ []
-none_told count few = let none : nat_lt line_limit count ≡ false = grind (arith, common_steps, few) in rw none refl
+none_shown : (count : ℕ) → count ≤ line_limit → (if nat_lt line_limit count then codes "and more\n" else []) ≡ []
+none_shown count few = let none : nat_lt line_limit count ≡ false = grind (arith, common_steps, few) in rw none refl
 
 pub first_and_more : (line : NoteText → List ℕ) (notes : List Note) → line_limit < length notes
     → flat_map line (map note_view (take line_limit notes)) ++ codes "and more\n"
@@ -36,7 +36,7 @@ pub first_and_more : (line : NoteText → List ℕ) (notes : List Note) → line
 first_and_more line notes many =
     let same = length-map notes note_view in
     ap (λ ns. flat_map line ns ++ codes "and more\n") (sym (take-map note_view line_limit notes))
-    ∙ ap (λ end. flat_map line (take line_limit (map note_view notes)) ++ end) (sym (more_told (length (map note_view notes)) (omega (arith, same, many))))
+    ∙ ap (λ end. flat_map line (take line_limit (map note_view notes)) ++ end) (sym (more_shown (length (map note_view notes)) (omega (arith, same, many))))
 
 pub first_alone : (line : NoteText → List ℕ) (notes : List Note) → length notes ≤ line_limit
     → flat_map line (map note_view notes)
@@ -45,7 +45,7 @@ first_alone line notes few =
     let same = length-map notes note_view in
     let all : length (map note_view notes) ≤ line_limit = omega (arith, same, few) in
     ap (flat_map line) (sym (take_all line_limit (map note_view notes) all)) ∙ sym (append-nil (flat_map line (take line_limit (map note_view notes))))
-    ∙ ap (λ end. flat_map line (take line_limit (map note_view notes)) ++ end) (sym (none_told (length (map note_view notes)) all))
+    ∙ ap (λ end. flat_map line (take line_limit (map note_view notes)) ++ end) (sym (none_shown (length (map note_view notes)) all))
 
 -- ---- why a text is missing
 

@@ -17,7 +17,7 @@ use Rattle.ext_plan.proofs.Lists.{map-drop}
 use Rattle.ext_tree.specs.Trees.{Id}
 use Rattle.ext_lint.specs.InnerLists.{has, has_node, said_view}
 use Rattle.ext_lint.specs.Live.{is_among, path_of_test}
-use Rattle.ext_lint.specs.Places.{numbered}
+use Rattle.ext_lint.specs.NodeSteps.{numbered}
 use Rattle.ext_lint.specs.Said.{is_said}
 use Rattle.ext_lint.specs.declared.said.Said.{Said}
 use Rattle.ext_lint.specs.declared.said_set.SaidSet.{SaidSet}

@@ -11,7 +11,7 @@ use Rattle.ext_lint.specs.declared.said.Said.{Said}
 use Rattle.ext_lint.specs.declared.said_set.SaidSet.{SaidSet}
 use Rattle.ext_lint.specs.declared.speech.Speech.{Speech}
 use Rattle.ext_lint.specs.Notes.{NoteText, idle, missing, empty, unnamed, crowded, lone}
-use Rattle.ext_lint.specs.Places.{place_view}
+use Rattle.ext_lint.specs.NodeSteps.{node_step_view}
 use Rattle.ext_lint.specs.Said.{SaidText}
 
 -- ---- views
@@ -20,8 +20,8 @@ abbrev pub said_view : Said → SaidText
 said_view s = record { word = s.word; key = s.key; name = s.name.now; text = s.text.now }
 
 abbrev pub note_view : Note → NoteText
-note_view (variants.Idle p) = idle (place_view p)
-note_view (variants.Missing p s) = missing (place_view p) (said_view s)
+note_view (variants.Idle p) = idle (node_step_view p)
+note_view (variants.Missing p s) = missing (node_step_view p) (said_view s)
 note_view (variants.Empty call) = empty call
 note_view (variants.Unnamed label) = unnamed label.now
 note_view variants.Crowded = crowded

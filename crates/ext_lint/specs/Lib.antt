@@ -1,6 +1,6 @@
 pub mod InnerLists
 pub mod Live
+pub mod NodeSteps
 pub mod NoteLines
 pub mod Notes
-pub mod Places
 pub mod Said

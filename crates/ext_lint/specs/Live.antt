@@ -5,7 +5,7 @@ use Rattle.ext_tree.specs.Trees.{Id}
 use Rattle.ext_plan.specs.Plans.{NodeText, PlanText}
 use Rattle.ext_plan.specs.ReadPlans.{ids_of_nodes}
 use Rattle.ext_races.specs.MadeSteps.{path_of}
-use Rattle.ext_lint.specs.Places.{numbered}
+use Rattle.ext_lint.specs.NodeSteps.{numbered}
 
 -- The path of the node with this number, if it is a test.
 abbrev pub path_of_test : List Id → ℕ → NodeText → List ℕ

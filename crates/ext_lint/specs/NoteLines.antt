@@ -9,7 +9,7 @@
 --     the steps name more than 64 keys
 --     lock db: one test alone takes it
 --
--- A place is told as in the explanation of a refused step. Texts are bytes and stand as they are.
+-- Node, call and step are written as in the explanation of a refused step. Texts are bytes and stand as they are.
 use Rattle.std.specs.Prelude.{ℕ, ◌==◌, codes, Bool, not, List, [], ◌∷◌, ◌++◌, length, nat_lt, map, filter, take, Option, Some, None, if◌then◌else◌}
 use Rattle.std.specs.Fmt.{decimal}
 use Rattle.std.specs.List.{flat_map}
@@ -21,7 +21,7 @@ use Rattle.ext_plan_reading.specs.Nearest.{nearest}
 use Rattle.ext_races.specs.RaceLines.{found_text, id_of_node, line_limit}
 use Rattle.ext_races.specs.declared.found.Found.TheVariants as found
 use Rattle.ext_lint.specs.Notes.{NoteText, idle, missing, empty, unnamed, crowded, lone, notes, stored_by}
-use Rattle.ext_lint.specs.Places.{PlaceText, call_at, places}
+use Rattle.ext_lint.specs.NodeSteps.{NodeStepText, call_at, node_steps}
 use Rattle.ext_lint.specs.Said.{SaidText}
 
 -- A callback by its kind and its number, or the test.
@@ -48,13 +48,13 @@ missing_words s (text ∷ texts) names =
     codes "no step stores " ++ s.text ++ codes " under " ++ s.name ++ hint (nearest (text ∷ texts) s.text)
 
 module _ (plan : PlanText) where
-  unfoldable pub place_words : PlaceText → List ℕ
-  place_words p =
+  unfoldable pub node_step_words : NodeStepText → List ℕ
+  node_step_words p =
       id_of_node plan p.node ++ codes ": step " ++ decimal p.at ++ codes " of its " ++ call_words p.kind p.index
 
-  unfoldable pub missing_line : List SaidText → PlaceText → SaidText → List ℕ
+  unfoldable pub missing_line : List SaidText → NodeStepText → SaidText → List ℕ
   missing_line stored p s =
-      place_words p ++ codes ", want " ++ s.name ++ codes " " ++ s.text ++ codes ": "
+      node_step_words p ++ codes ", want " ++ s.name ++ codes " " ++ s.text ++ codes ": "
       ++ missing_words s (texts_of s.key stored) (map (λ other. other.name) stored) ++ codes "\n"
 
   -- The line of a callback that ends in these words.
@@ -79,7 +79,7 @@ module _ (plan : PlanText) where
       ++ (if nat_lt line_limit (length (note ∷ more)) then codes "and more\n" else [])
 
   abbrev pub lint_text : List ℕ
-  lint_text = note_lines (stored_by plan (places plan)) (notes plan)
+  lint_text = note_lines (stored_by plan (node_steps plan)) (notes plan)
 
   -- Whether there is a note.
   abbrev pub has_notes : Bool

@@ -10,14 +10,14 @@ use Rattle.ext_plan.specs.Plans.{KeyText, NodeText, PlanText, StepText}
 use Rattle.ext_plan.specs.LockNames.{lock_name, lock_names}
 use Rattle.ext_plan.specs.StoreKeys.{is_there, named_key}
 use Rattle.ext_lint.specs.Live.{has_test}
-use Rattle.ext_lint.specs.Places.{PlaceText, numbered, places}
+use Rattle.ext_lint.specs.NodeSteps.{NodeStepText, numbered, node_steps}
 use Rattle.ext_lint.specs.Said.{SaidText, is_said, keys_said, said_by, said_of, stores, wants}
 
 pub data NoteText : Type 0 where
   -- The callback that begins with this step has no test at or below its node.
-  idle : PlaceText → NoteText
+  idle : NodeStepText → NoteText
   -- This step wants a text that no step of the plan stores under its key.
-  missing : PlaceText → SaidText → NoteText
+  missing : NodeStepText → SaidText → NoteText
   -- This callback has no steps.
   empty : Call → NoteText
   -- No step names the key with this label.
@@ -30,37 +30,37 @@ pub data NoteText : Type 0 where
 -- ---- of one step
 
 module _ (plan : PlanText) where
-  abbrev pub is_idle : PlaceText → Bool
+  abbrev pub is_idle : NodeStepText → Bool
   is_idle p = (p.at == 0) && not (has_test plan p.node)
 
   -- What these steps store, and what they want.
-  abbrev pub stored_by : List PlaceText → List SaidText
+  abbrev pub stored_by : List NodeStepText → List SaidText
   stored_by steps = said_by plan.keys (keys_said plan) stores steps
 
-  abbrev pub wanted_by : List PlaceText → List SaidText
+  abbrev pub wanted_by : List NodeStepText → List SaidText
   wanted_by steps = said_by plan.keys (keys_said plan) wants steps
 
   -- What a step wants was noted already, if a step before it wanted it; or a step of the plan stores it.
   abbrev pub is_known : (ℕ → List ℕ → Bool) → SaidText → Bool
-  is_known wanted s = wanted s.key s.text || is_said (stored_by (places plan)) s.key s.text
+  is_known wanted s = wanted s.key s.text || is_said (stored_by (node_steps plan)) s.key s.text
 
-  abbrev pub idle_if : PlaceText → List NoteText
+  abbrev pub idle_if : NodeStepText → List NoteText
   idle_if p = if is_idle p then idle p ∷ [] else []
 
-  abbrev pub missing_if : (ℕ → List ℕ → Bool) → PlaceText → Option SaidText → List NoteText
+  abbrev pub missing_if : (ℕ → List ℕ → Bool) → NodeStepText → Option SaidText → List NoteText
   missing_if wanted p None = []
   missing_if wanted p (Some s) = if wants s.word && not (is_known wanted s) then missing p s ∷ [] else []
 
   -- The notes of a step, where this was wanted before.
-  abbrev pub notes_of_step : (ℕ → List ℕ → Bool) → PlaceText → List NoteText
+  abbrev pub notes_of_step : (ℕ → List ℕ → Bool) → NodeStepText → List NoteText
   notes_of_step wanted p = idle_if p ++ missing_if wanted p (said_of plan.keys (keys_said plan) p.step)
 
   -- The notes of the step with this number among all steps.
-  abbrev pub notes_at : ℕ → PlaceText → List NoteText
-  notes_at at p = notes_of_step (is_said (wanted_by (take at (places plan)))) p
+  abbrev pub notes_at : ℕ → NodeStepText → List NoteText
+  notes_at at p = notes_of_step (is_said (wanted_by (take at (node_steps plan)))) p
 
   abbrev pub step_notes : List NoteText
-  step_notes = numbered notes_at 0 (places plan)
+  step_notes = numbered notes_at 0 (node_steps plan)
 
 -- ---- of callbacks without steps
 
@@ -111,7 +111,7 @@ lock_notes nodes = flat_map (lock_note nodes) (lock_names nodes)
 
 -- ---- of the plan
 
--- More keys than a plan can have places for are told alone.
+-- More keys than a plan can have places for are the only note.
 abbrev pub notes : PlanText → List NoteText
 notes plan = if nat_lt 1024 (length (keys_said plan)) then crowded ∷ []
     else step_notes plan ++ callback_notes plan ++ key_notes (keys_said plan) plan.keys

@@ -3,19 +3,19 @@ ghost use Rattle.std.specs.Prelude.{◌≡◌, ◌<◌, ◌≤◌, [], Err, IfOk
 ghost use Rattle.ext_tree.specs.declared.fault.TreeFault.TheVariants as fault;
 ghost use Rattle.ext_plan.specs.Plans.{step_key_view, step_view};
 ghost use Rattle.ext_plan.specs.StepCalls.{keys_in};
-ghost use Rattle.ext_plan.specs.StoreKeys.{key_of_step, place_of_key, with_key};
+ghost use Rattle.ext_plan.specs.StoreKeys.{key_of_step, number_of_key, with_key};
 ghost use Rattle.ext_races.specs.Acts.{act_of};
 ghost use Rattle.ext_races.specs.Touches.{key_of_act, with_key_of};
-ghost use Rattle.ext_lint.specs.Places.{place_view};
+ghost use Rattle.ext_lint.specs.NodeSteps.{node_step_view};
 ghost use Rattle.ext_lint.specs.Said.{keys_with};
 
-use crate::place::Place;
+use crate::node_step::NodeStep;
 use ext_model::KeyNo;
 use ext_plan::{Step, StepKey, StepKeys};
 use ext_tree::{Directory, Key, TreeFault};
 use std::alloc::{AllocError, Global};
 
-/// The greatest number of keys that are told apart: a directory has no more.
+/// The greatest number of different keys: a directory has no more.
 const KEYS: usize = 1_024;
 
 /// The different keys that the steps name, in the order in which they are first named. Takes memory
@@ -25,15 +25,15 @@ const KEYS: usize = 1_024;
 pub(crate) fn keys_of(
     alloc: Global,
     keys: &StepKeys<'_>,
-    places: &[Place<'_>],
+    node_steps: &[NodeStep<'_>],
 ) -> Result<Directory, TreeFault>
-    ensures keys { IfOk result (λ named. named ≡ keys_with (keys_in keys.now) [] (map place_view places.now)) }
+    ensures keys { IfOk result (λ named. named ≡ keys_with (keys_in keys.now) [] (map node_step_view node_steps.now)) }
     ensures few { IfOk result (λ named. length named ≤ 1024) }
-    ensures full { result ≡ Err fault.TooMany → 1024 < length (keys_with (keys_in keys.now) [] (map place_view places.now)) }
+    ensures full { result ≡ Err fault.TooMany → 1024 < length (keys_with (keys_in keys.now) [] (map node_step_view node_steps.now)) }
 {
     let mut directory = Directory::new(alloc);
-    for place in places {
-        name(alloc, keys, place.step, &mut directory)?;
+    for node_step in node_steps {
+        name(alloc, keys, node_step.step, &mut directory)?;
     }
     Ok(directory)
 }
@@ -84,7 +84,7 @@ pub(crate) fn key_number(
     directory: &Directory,
     key: &StepKey,
 ) -> Result<KeyNo, AllocError>
-    ensures { IfOk result (λ n. n ≡ place_of_key directory.now (key_of_step (keys_in keys.now) (step_key_view key.now))) }
+    ensures { IfOk result (λ n. n ≡ number_of_key directory.now (key_of_step (keys_in keys.now) (step_key_view key.now))) }
 {
     let called = keys.key_of(alloc, key)?;
     Ok(number_of(directory, called.key()))
@@ -92,7 +92,7 @@ pub(crate) fn key_number(
 
 /// The number of a key; one past the last if the directory does not have it.
 fn number_of(directory: &Directory, key: &Key) -> KeyNo
-    ensures { result ≡ place_of_key directory.now key.now }
+    ensures { result ≡ number_of_key directory.now key.now }
 {
     match directory.number_of(key) {
         Some(number) => number,

@@ -2,9 +2,9 @@
 //! never stored, callbacks that run for no test or have no steps, keys that no step names, and locks
 //! that one test alone takes.
 //!
-//! `lint` tells the notes of a plan in lines. In `specs/`, `Places` lists a plan's steps, `Said` what
-//! they say of keys, `Live` which nodes have tests, `Notes` defines the notes, and `NoteLines` their
-//! lines.
+//! `lint` gives the notes of a plan in lines. In `specs/`, `NodeSteps` lists a plan's steps, `Said`
+//! what they say of keys, `Live` which nodes have tests, `Notes` defines the notes, and `NoteLines`
+//! their lines.
 //!
 //! JUnit has no such checker.
 #![tactic(auto)]
@@ -13,9 +13,9 @@ mod callbacks;
 mod keys;
 mod linting;
 mod live;
+mod node_step;
 mod note;
 mod noting;
-mod place;
 mod said;
 mod said_set;
 mod speech;

@@ -1,4 +1,4 @@
-//! The notes of a plan, told in lines.
+//! The notes of a plan, in lines.
 ghost use Rattle.std.specs.Prelude.{◌≡◌, ◌∷◌, [], true, string_bytes, IfOk};
 ghost use Rattle.ext_plan.specs.Plans.{plan_view};
 ghost use Rattle.ext_plan.specs.ReadPlans.{IsRunnablePlan};
@@ -8,9 +8,9 @@ ghost use Rattle.ext_lint.specs.Notes.{crowded};
 use crate::callbacks::note_callbacks;
 use crate::keys::keys_of;
 use crate::live::nodes_with_tests;
+use crate::node_step::node_steps_of;
 use crate::note::Note;
 use crate::noting::{StepRules, note_crowd, note_keys, note_locks};
-use crate::place::places_of;
 use crate::said_set::SaidSet;
 use crate::speech::Speech;
 use crate::text::text_of;
@@ -46,24 +46,24 @@ pub struct PlanNotes {
 /// logarithm.
 pub fn lint(alloc: Global, plan: &Plan) -> Result<PlanNotes, AllocError>
     requires { IsRunnablePlan (plan_view plan.now) }
-    ensures text { IfOk result (λ told. string_bytes told.text ≡ lint_text (plan_view plan.now)) }
-    ensures found { IfOk result (λ told. told.found ≡ has_notes (plan_view plan.now)) }
+    ensures text { IfOk result (λ notes. string_bytes notes.text ≡ lint_text (plan_view plan.now)) }
+    ensures found { IfOk result (λ notes. notes.found ≡ has_notes (plan_view plan.now)) }
 {
-    let places = places_of(alloc, plan)?;
+    let node_steps = node_steps_of(alloc, plan)?;
     let made = plan.store_keys(alloc)?;
     let keys = StepKeys::of(plan.keys.as_slice(), made.as_slice());
-    let directory = match keys_of(alloc, &keys, places.as_slice()) {
+    let directory = match keys_of(alloc, &keys, node_steps.as_slice()) {
         Ok(directory) => directory,
         Err(TreeFault::TooMany) => return crowded(alloc, plan),
         Err(_) => return Err(AllocError),
     };
     let live = nodes_with_tests(alloc, plan)?;
     let speech = Speech::of(plan.keys.as_slice(), keys, &directory);
-    let stored = speech.stored(alloc, places.as_slice())?;
+    let stored = speech.stored(alloc, node_steps.as_slice())?;
     let set = SaidSet::of(alloc, stored.as_slice())?;
     let rules = StepRules::of(plan, speech, live, set);
     let mut notes = Vec::new(alloc);
-    rules.note_steps(alloc, places.as_slice(), &mut notes)?;
+    rules.note_steps(alloc, node_steps.as_slice(), &mut notes)?;
     note_callbacks(plan, &mut notes)?;
     note_keys(alloc, plan.keys.as_slice(), &directory, &mut notes)?;
     note_crowd(plan.key_places, &directory, &mut notes)?;
@@ -76,8 +76,8 @@ pub fn lint(alloc: Global, plan: &Plan) -> Result<PlanNotes, AllocError>
 
 /// The only note of a plan whose steps name more than 1,024 keys.
 fn crowded(alloc: Global, plan: &Plan) -> Result<PlanNotes, AllocError>
-    ensures text { IfOk result (λ told. string_bytes told.text ≡ note_lines (plan_view plan.now) [] (crowded ∷ [])) }
-    ensures found { IfOk result (λ told. told.found ≡ true) }
+    ensures text { IfOk result (λ notes. string_bytes notes.text ≡ note_lines (plan_view plan.now) [] (crowded ∷ [])) }
+    ensures found { IfOk result (λ notes. notes.found ≡ true) }
 {
     Ok(PlanNotes {
         text: text_of(alloc, plan, &[], &[Note::Crowded])?,

@@ -1,5 +1,5 @@
 //! The notes of a plan.
-use crate::place::Place;
+use crate::node_step::NodeStep;
 use crate::said::Said;
 use ext_lifecycle::Call;
 
@@ -7,9 +7,9 @@ use ext_lifecycle::Call;
 #[derive(Clone, Copy, Debug)]
 pub(crate) enum Note<'p> {
     /// The callback that begins with this step has no test at or below its node.
-    Idle(Place<'p>),
+    Idle(NodeStep<'p>),
     /// The step wants a text that no step stores under its key.
-    Missing(Place<'p>, Said<'p>),
+    Missing(NodeStep<'p>, Said<'p>),
     /// The callback has no steps.
     Empty(Call),
     /// No step names the key with this label.

@@ -8,11 +8,11 @@ ghost use Rattle.ext_plan.specs.StoreKeys.{HasParts, is_there};
 ghost use Rattle.ext_lint.specs.InnerLists.{declared_in, has, has_node, note_view, said_view};
 ghost use Rattle.ext_lint.specs.Live.{has_test};
 ghost use Rattle.ext_lint.specs.Notes.{crowd_notes, is_idle, is_lone, key_note, key_notes, lock_note, lock_notes, missing_if, names_lock, notes_of_step, stored_by};
-ghost use Rattle.ext_lint.specs.Places.{place_view, places};
+ghost use Rattle.ext_lint.specs.NodeSteps.{node_step_view, node_steps};
 ghost use Rattle.ext_lint.specs.Said.{is_said, keys_said, said_of};
 
+use crate::node_step::NodeStep;
 use crate::note::Note;
-use crate::place::Place;
 use crate::said::{Said, wants};
 use crate::said_set::SaidSet;
 use crate::speech::Speech;
@@ -33,7 +33,7 @@ pub(crate) struct StepRules<'p> {
     ghost declared: { declared_in speech ≡ (plan_view plan.now).keys },
     ghost keys: { speech.directory.now ≡ keys_said (plan_view plan.now) },
     ghost tests: { (node : ℕ) → has_node live node ≡ has_test (plan_view plan.now) node },
-    ghost known: { (key : ℕ) (text : List ℕ) → has stored key text ≡ is_said (stored_by (plan_view plan.now) (places (plan_view plan.now))) key text },
+    ghost known: { (key : ℕ) (text : List ℕ) → has stored key text ≡ is_said (stored_by (plan_view plan.now) (node_steps (plan_view plan.now))) key text },
 }
 
 impl<'p> StepRules<'p> {
@@ -51,7 +51,7 @@ impl<'p> StepRules<'p> {
         requires declared { declared_in speech ≡ (plan_view plan.now).keys }
         requires keys { speech.directory.now ≡ keys_said (plan_view plan.now) }
         requires tests { (node : ℕ) → has_node live node ≡ has_test (plan_view plan.now) node }
-        requires known { (key : ℕ) (text : List ℕ) → has stored key text ≡ is_said (stored_by (plan_view plan.now) (places (plan_view plan.now))) key text }
+        requires known { (key : ℕ) (text : List ℕ) → has stored key text ≡ is_said (stored_by (plan_view plan.now) (node_steps (plan_view plan.now))) key text }
         ensures { result.plan.now ≡ plan.now }
     {
         StepRules {
@@ -67,15 +67,15 @@ impl<'p> StepRules<'p> {
     pub(crate) fn note_steps(
         &self,
         alloc: Global,
-        steps: &[Place<'p>],
+        steps: &[NodeStep<'p>],
         notes: &mut Vec<Note<'p>>,
     ) -> Result<(), AllocError>
-        requires { map place_view steps.now ≡ places (plan_view self.now.plan.now) }
+        requires { map node_step_view steps.now ≡ node_steps (plan_view self.now.plan.now) }
         ensures { OnOk result (map note_view notes.new.items ≡ map note_view notes.old.items ++ step_notes (plan_view self.now.plan.now)) }
     {
         let mut wanted = SaidSet::new(alloc);
-        for place in steps {
-            self.note_step(alloc, place, &mut wanted, notes)?;
+        for node_step in steps {
+            self.note_step(alloc, node_step, &mut wanted, notes)?;
         }
         Ok(())
     }
@@ -84,54 +84,58 @@ impl<'p> StepRules<'p> {
     fn note_step(
         &self,
         alloc: Global,
-        place: &Place<'p>,
+        node_step: &NodeStep<'p>,
         wanted: &mut SaidSet<'p>,
         notes: &mut Vec<Note<'p>>,
     ) -> Result<(), AllocError>
-        ensures notes { OnOk result (map note_view notes.new.items ≡ map note_view notes.old.items ++ notes_of_step (plan_view self.now.plan.now) (has wanted.old) (place_view place.now)) }
-        ensures wanted { OnOk result ((key : ℕ) (text : List ℕ) → has wanted.new key text ≡ (is_said (said_if wants (said_of (plan_view self.now.plan.now).keys (keys_said (plan_view self.now.plan.now)) (step_view place.now.step.now))) key text || has wanted.old key text)) }
+        ensures notes { OnOk result (map note_view notes.new.items ≡ map note_view notes.old.items ++ notes_of_step (plan_view self.now.plan.now) (has wanted.old) (node_step_view node_step.now)) }
+        ensures wanted { OnOk result ((key : ℕ) (text : List ℕ) → has wanted.new key text ≡ (is_said (said_if wants (said_of (plan_view self.now.plan.now).keys (keys_said (plan_view self.now.plan.now)) (step_view node_step.now.step.now))) key text || has wanted.old key text)) }
     {
-        self.note_idle(place, notes)?;
-        match self.speech.said_of(alloc, place.step)? {
+        self.note_idle(node_step, notes)?;
+        match self.speech.said_of(alloc, node_step.step)? {
             None => Ok(()),
-            Some(said) => self.note_said(place, said, wanted, notes),
+            Some(said) => self.note_said(node_step, said, wanted, notes),
         }
     }
 
     /// Adds the note of a callback that begins with this step and runs for no test.
-    fn note_idle(&self, place: &Place<'p>, notes: &mut Vec<Note<'p>>) -> Result<(), AllocError>
-        ensures { OnOk result (map note_view notes.new.items ≡ map note_view notes.old.items ++ idle_if (plan_view self.now.plan.now) (place_view place.now)) }
+    fn note_idle(
+        &self,
+        node_step: &NodeStep<'p>,
+        notes: &mut Vec<Note<'p>>,
+    ) -> Result<(), AllocError>
+        ensures { OnOk result (map note_view notes.new.items ≡ map note_view notes.old.items ++ idle_if (plan_view self.now.plan.now) (node_step_view node_step.now)) }
     {
-        if self.is_idle(place) {
-            notes.push(Note::Idle(*place))?;
+        if self.is_idle(node_step) {
+            notes.push(Note::Idle(*node_step))?;
         }
         Ok(())
     }
 
     /// Tests whether the step begins a callback without a test at or below its node.
-    fn is_idle(&self, place: &Place<'_>) -> bool
-        ensures { result ≡ is_idle (plan_view self.now.plan.now) (place_view place.now) }
+    fn is_idle(&self, node_step: &NodeStep<'_>) -> bool
+        ensures { result ≡ is_idle (plan_view self.now.plan.now) (node_step_view node_step.now) }
     {
-        place.at == 0 && !self.live.contains(&place.node)
+        node_step.at == 0 && !self.live.contains(&node_step.node)
     }
 
     /// Adds the note of a step that wants what no step stores, for the first time, and what it
     /// wants.
     fn note_said(
         &self,
-        place: &Place<'p>,
+        node_step: &NodeStep<'p>,
         said: Said<'p>,
         wanted: &mut SaidSet<'p>,
         notes: &mut Vec<Note<'p>>,
     ) -> Result<(), AllocError>
-        ensures notes { OnOk result (map note_view notes.new.items ≡ map note_view notes.old.items ++ missing_if (plan_view self.now.plan.now) (has wanted.old) (place_view place.now) (Some (said_view said.entry))) }
+        ensures notes { OnOk result (map note_view notes.new.items ≡ map note_view notes.old.items ++ missing_if (plan_view self.now.plan.now) (has wanted.old) (node_step_view node_step.now) (Some (said_view said.entry))) }
         ensures wanted { OnOk result ((key : ℕ) (text : List ℕ) → has wanted.new key text ≡ (is_said (said_if wants (Some (said_view said.entry))) key text || has wanted.old key text)) }
     {
         if !wants(said.word) {
             return Ok(());
         }
         if !self.is_known(&said, wanted) {
-            notes.push(Note::Missing(*place, said))?;
+            notes.push(Note::Missing(*node_step, said))?;
         }
         wanted.add(said.key, said.text)
     }
@@ -189,13 +193,13 @@ fn is_there(directory: &Directory, key: &Key) -> bool
 
 /// Adds a note where the steps name more keys than there are places.
 pub(crate) fn note_crowd(
-    places: usize,
+    node_steps: usize,
     directory: &Directory,
     notes: &mut Vec<Note<'_>>,
 ) -> Result<(), AllocError>
-    ensures { OnOk result (map note_view notes.new.items ≡ map note_view notes.old.items ++ crowd_notes places directory.now) }
+    ensures { OnOk result (map note_view notes.new.items ≡ map note_view notes.old.items ++ crowd_notes node_steps directory.now) }
 {
-    if directory.len() > places {
+    if directory.len() > node_steps {
         notes.push(Note::Crowded)?;
     }
     Ok(())

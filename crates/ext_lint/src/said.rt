@@ -9,10 +9,10 @@ use ext_plan::Word;
 /// it, and its text.
 #[derive(Clone, Copy, Debug)]
 pub(crate) struct Said<'p> {
-    pub word: Word,
-    pub key: KeyNo,
-    pub name: &'p str,
-    pub text: &'p str,
+    pub(crate) word: Word,
+    pub(crate) key: KeyNo,
+    pub(crate) name: &'p str,
+    pub(crate) text: &'p str,
 }
 
 /// Tests whether a step of this word may store its text.

@@ -4,7 +4,7 @@ ghost use Rattle.ext_plan.specs.Plans.{keys_view, step_key_view};
 ghost use Rattle.ext_plan.specs.StepCalls.{keys_in, label_of};
 
 use crate::keys::key_number;
-use crate::place::Place;
+use crate::node_step::NodeStep;
 use crate::said::{Said, stores};
 use ext_plan::{PlanKey, Step, StepKey, StepKeys, StepParts};
 use ext_tree::Directory;
@@ -23,7 +23,7 @@ impl<'p> Speech<'p> {
     ghost use Rattle.std.specs.Prelude.{map, option_map, IfOk};
     ghost use Rattle.ext_plan.specs.Plans.{step_view};
     ghost use Rattle.ext_lint.specs.InnerLists.{declared_in, said_view};
-    ghost use Rattle.ext_lint.specs.Places.{place_view};
+    ghost use Rattle.ext_lint.specs.NodeSteps.{node_step_view};
     ghost use Rattle.ext_lint.specs.Said.{said_by, said_of, stores};
 
     /// Joins the declared keys, the keys of the store that they name, and the numbers of keys.
@@ -66,13 +66,13 @@ impl<'p> Speech<'p> {
     pub(crate) fn stored(
         &self,
         alloc: Global,
-        places: &[Place<'p>],
+        node_steps: &[NodeStep<'p>],
     ) -> Result<Vec<Said<'p>>, AllocError>
-        ensures { IfOk result (λ v. map said_view v.items ≡ said_by (declared_in self.now) self.now.directory.now stores (map place_view places.now)) }
+        ensures { IfOk result (λ v. map said_view v.items ≡ said_by (declared_in self.now) self.now.directory.now stores (map node_step_view node_steps.now)) }
     {
         let mut stored = Vec::new(alloc);
-        for place in places {
-            if let Some(said) = self.said_of(alloc, place.step)?
+        for node_step in node_steps {
+            if let Some(said) = self.said_of(alloc, node_step.step)?
                 && stores(said.word)
             {
                 stored.push(said)?;

@@ -5,11 +5,11 @@ ghost use Rattle.std.specs.List.{flat_map};
 ghost use Rattle.ext_plan.specs.Plans.{plan_view};
 ghost use Rattle.ext_races.specs.RaceLines.{found_text, id_of_node, line_limit};
 ghost use Rattle.ext_lint.specs.InnerLists.{note_view, said_view};
-ghost use Rattle.ext_lint.specs.NoteLines.{call_words, callback_line, hint, missing_line, missing_words, note_line, note_lines, place_words, texts_of};
-ghost use Rattle.ext_lint.specs.Places.{place_view};
+ghost use Rattle.ext_lint.specs.NoteLines.{call_words, callback_line, hint, missing_line, missing_words, note_line, note_lines, node_step_words, texts_of};
+ghost use Rattle.ext_lint.specs.NodeSteps.{node_step_view};
 
+use crate::node_step::NodeStep;
 use crate::note::Note;
-use crate::place::Place;
 use crate::said::Said;
 use ext_lifecycle::{Call, Kind};
 use ext_model::{ContextNo, KeyNo};
@@ -82,8 +82,8 @@ fn push_note(
     ensures { OnOk result (string_bytes text.new ≡ string_bytes text.old ++ note_line (plan_view plan.now) (map said_view stored.now) (note_view note.now)) }
 {
     match note {
-        Note::Idle(place) => push_callback(text, plan, place.call(), "no test is below"),
-        Note::Missing(place, said) => push_missing(alloc, text, plan, stored, place, said),
+        Note::Idle(node_step) => push_callback(text, plan, node_step.call(), "no test is below"),
+        Note::Missing(node_step, said) => push_missing(alloc, text, plan, stored, node_step, said),
         Note::Empty(call) => push_callback(text, plan, *call, "it has no steps"),
         Note::Unnamed(label) => push_named(text, "key ", label, ": no step names it\n"),
         Note::Crowded => push_crowded(alloc, text, plan),
@@ -124,12 +124,12 @@ fn push_missing(
     text: &mut String,
     plan: &Plan,
     stored: &[Said<'_>],
-    place: &Place<'_>,
+    node_step: &NodeStep<'_>,
     said: &Said<'_>,
 ) -> Result<(), AllocError>
-    ensures { OnOk result (string_bytes text.new ≡ string_bytes text.old ++ missing_line (plan_view plan.now) (map said_view stored.now) (place_view place.now) (said_view said.now)) }
+    ensures { OnOk result (string_bytes text.new ≡ string_bytes text.old ++ missing_line (plan_view plan.now) (map said_view stored.now) (node_step_view node_step.now) (said_view said.now)) }
 {
-    push_place(text, plan, place)?;
+    push_node_step(text, plan, node_step)?;
     push_named(text, ", want ", said.name, " ")?;
     text.push_str(said.text)?;
     text.push_str(": ")?;
@@ -138,12 +138,16 @@ fn push_missing(
 }
 
 /// Adds the words for a step of a callback or of a test.
-fn push_place(text: &mut String, plan: &Plan, place: &Place<'_>) -> Result<(), AllocError>
-    ensures { OnOk result (string_bytes text.new ≡ string_bytes text.old ++ place_words (plan_view plan.now) (place_view place.now)) }
+fn push_node_step(
+    text: &mut String,
+    plan: &Plan,
+    node_step: &NodeStep<'_>,
+) -> Result<(), AllocError>
+    ensures { OnOk result (string_bytes text.new ≡ string_bytes text.old ++ node_step_words (plan_view plan.now) (node_step_view node_step.now)) }
 {
-    push_id(text, plan, place.node)?;
-    push_step(text, place.at)?;
-    push_call(text, place.kind, place.index)
+    push_id(text, plan, node_step.node)?;
+    push_step(text, node_step.at)?;
+    push_call(text, node_step.kind, node_step.index)
 }
 
 /// Adds the words for the number of a step.

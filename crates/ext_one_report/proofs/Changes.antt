@@ -24,7 +24,7 @@ use Rattle.ext_plan.specs.declared.reason.Reason.TheVariants as reasons
 use Rattle.ext_plan.specs.declared.word.Word.TheVariants as words
 use Rattle.ext_plan.specs.Plans.{KeyText, StepKeyText, fail, abort}
 use Rattle.ext_plan.specs.StepCalls.{call_of, label_of, start_of}
-use Rattle.ext_plan.specs.StoreKeys.{is_there, key_of_step, place_of_key}
+use Rattle.ext_plan.specs.StoreKeys.{is_there, key_of_step, number_of_key}
 use Rattle.ext_plan.specs.Values.{ValueText}
 use Rattle.ext_plan.specs.Verdicts.{refused, unless_refused}
 use Rattle.ext_store_core.specs.ContextCalls as store_core
@@ -124,7 +124,7 @@ module _ (run : RunView) (places : Places) (view : IsRunView run) (name label : 
   })
 
   -- what stands at a point where it matches
-  matched_there : (p : History) → Matches run places p t → AreMatched run.meaning (plain_meaning t.values) ((state_after p).slots (cell_of run number context)) (t.store.slots (context, place_of_key t.keys key))
+  matched_there : (p : History) → Matches run places p t → AreMatched run.meaning (plain_meaning t.values) ((state_after p).slots (cell_of run number context)) (t.store.slots (context, number_of_key t.keys key))
   matched_there p here = subst (λ x. AreMatched run.meaning (plain_meaning t.values) ((state_after p).slots (cell_of run number context)) x) (plain_there t context key there) (here.slots context key number within has)
 
   -- ---- a remove
@@ -133,16 +133,16 @@ module _ (run : RunView) (places : Places) (view : IsRunView run) (name label : 
   remove_decided result ends is = subst (λ r. EndsChange name label r o) is ends
 
   pub removes_alike : (result : Result (Option ℕ) Refusal) → Removes run.store context number a.cells b.cells result → EndsChange name label result o
-      → EndAlike run places o b (act_ends name label (Remove (context, place_of_key t.keys key)) t)
+      → EndAlike run places o b (act_ends name label (Remove (context, number_of_key t.keys key)) t)
   unfolding store_core.Removes
   removes_alike result removed ends =
       let cell : ℕ = cell_of run number context in
-      let act' : Act Place = Remove (context, place_of_key t.keys key) in
+      let act' : Act Place = Remove (context, number_of_key t.keys key) in
       let met = removed.replied (remove_decided result ends) in
       let p : History = met.point.0 in
       let here : Matches run places p t = matches_to run places a.cells.view b.cells.view alone p t (answer_first met.calls p met.point.1) matches in
       let old : Bool = is_worn (version_of p cell) in
-      elim (remove_change run.meaning (plain_meaning t.values) ((state_after p).slots cell) (t.store.slots (context, place_of_key t.keys key)) old (matched_there p here)) [
+      elim (remove_change run.meaning (plain_meaning t.values) ((state_after p).slots cell) (t.store.slots (context, number_of_key t.keys key)) old (matched_there p here)) [
         | both_remove m n x y ↦
             let is : result ≡ Ok (Some m) = met.point.2 ∙ ap (result_at context) x in
             let at = subst (λ r. IsAnswerPoint a.cells.view b.cells.view (remove_acts cell r) p) is met.point.1 in
@@ -176,17 +176,17 @@ module _ (run : RunView) (places : Places) (view : IsRunView run) (name label : 
   put_decided kept result ends is = subst (λ r. EndsPut name label r o) is ends
 
   pub puts_alike : (kept : ℕ) (v : ValueText) → run.meaning.values kept ≡ Some v → value_of t.values t.store.drawn ≡ Some v → (result : Result (Option ℕ) (ℕ × Refusal))
-      → Puts run.store context number kept a.cells b.cells result → EndsPut name label result o → EndAlike run places o b (act_ends name label (Put (context, place_of_key t.keys key) t.store.drawn) t)
+      → Puts run.store context number kept a.cells b.cells result → EndsPut name label result o → EndAlike run places o b (act_ends name label (Put (context, number_of_key t.keys key) t.store.drawn) t)
   unfolding store_core.Puts
   puts_alike kept v ours theirs result made ends =
       let cell : ℕ = cell_of run number context in
-      let act' : Act Place = Put (context, place_of_key t.keys key) t.store.drawn in
+      let act' : Act Place = Put (context, number_of_key t.keys key) t.store.drawn in
       let met = made.replied (put_decided kept result ends) in
       let p : History = met.point.0 in
       let here : Matches run places p t = matches_to run places a.cells.view b.cells.view alone p t (answer_first met.calls p met.point.1) matches in
       let old : Bool = is_worn (version_of p cell) in
       let result_of : Reply → Result (Option ℕ) (ℕ × Refusal) = λ r. with_kept kept (result_at context r) in
-      elim (put_change run.meaning (plain_meaning t.values) ((state_after p).slots cell) (t.store.slots (context, place_of_key t.keys key)) old (matched_there p here)) [
+      elim (put_change run.meaning (plain_meaning t.values) ((state_after p).slots cell) (t.store.slots (context, number_of_key t.keys key)) old (matched_there p here)) [
         | both_happen m n x y ↦
             let is : result ≡ Ok m = met.point.2 ∙ ap result_of x in
             let at = subst (λ r. IsAnswerPoint a.cells.view b.cells.view (put_acts cell kept r) p) is met.point.1 in
@@ -214,20 +214,20 @@ module _ (run : RunView) (places : Places) (view : IsRunView run) (name label : 
   abbrev pub PutLeaves : ℕ → Type 0
   PutLeaves kept =
       ((p : History) × (seen_by b.cells.view ≡ p ++ by a.cells.view.number (Put (cell_of run number context) kept) ∷ [])
-      × ((act_ends name label (Put (context, place_of_key t.keys key) t.store.drawn) t).state ≡ after_event any_lane (Put (context, place_of_key t.keys key) t.store.drawn) t))
-      ⊎ (Calls a.cells.cells.limits a.cells.view b.cells.view [] × ((act_ends name label (Put (context, place_of_key t.keys key) t.store.drawn) t).state ≡ t))
+      × ((act_ends name label (Put (context, number_of_key t.keys key) t.store.drawn) t).state ≡ after_event any_lane (Put (context, number_of_key t.keys key) t.store.drawn) t))
+      ⊎ (Calls a.cells.cells.limits a.cells.view b.cells.view [] × ((act_ends name label (Put (context, number_of_key t.keys key) t.store.drawn) t).state ≡ t))
 
   pub puts_leave : (kept : ℕ) (result : Result (Option ℕ) (ℕ × Refusal)) → Puts run.store context number kept a.cells b.cells result → EndsPut name label result o → PutLeaves kept
   unfolding store_core.Puts
   puts_leave kept result made ends =
       let cell : ℕ = cell_of run number context in
-      let act' : Act Place = Put (context, place_of_key t.keys key) t.store.drawn in
+      let act' : Act Place = Put (context, number_of_key t.keys key) t.store.drawn in
       let met = made.replied (put_decided kept result ends) in
       let p : History = met.point.0 in
       let here : Matches run places p t = matches_to run places a.cells.view b.cells.view alone p t (answer_first met.calls p met.point.1) matches in
       let old : Bool = is_worn (version_of p cell) in
       let result_of : Reply → Result (Option ℕ) (ℕ × Refusal) = λ r. with_kept kept (result_at context r) in
-      elim (put_change run.meaning (plain_meaning t.values) ((state_after p).slots cell) (t.store.slots (context, place_of_key t.keys key)) old (matched_there p here)) [
+      elim (put_change run.meaning (plain_meaning t.values) ((state_after p).slots cell) (t.store.slots (context, number_of_key t.keys key)) old (matched_there p here)) [
         | both_happen m n x y ↦
             let is : result ≡ Ok m = met.point.2 ∙ ap result_of x in
             let at = subst (λ r. IsAnswerPoint a.cells.view b.cells.view (put_acts cell kept r) p) is met.point.1 in
@@ -277,7 +277,7 @@ module _ (run : RunView) (keys : List KeyText) (path : List ℕ) (places : Place
   it : IsNamed places (key_of_step keys key) (keep_value v s)
   it = named places (key_of_step keys key) (keep_value v s) both.room.keys (values_keep_numbered places v s both.room.numbers both.numbered)
 
-  goes : put_end ≡ act_ends name (label_of keys key) (Put (start_of (drop up path), place_of_key it.state.keys (key_of_step keys key)) it.state.store.drawn) it.state
+  goes : put_end ≡ act_ends name (label_of keys key) (Put (start_of (drop up path), number_of_key it.state.keys (key_of_step keys key)) it.state.store.drawn) it.state
   goes =
       let then : StepEnd = numbered_by enough name (label_of keys key) (key_of_step keys key) (λ number. put_in enough name (label_of keys key) (start_of (drop up path), number)) (keep_value v s) in
       ap (λ r. kept_or_refused enough name (label_of keys key) (plain_refusal r) s then) (draw_happens s both.room.numbers)
@@ -329,7 +329,7 @@ module _ (run : RunView) (keys : List KeyText) (path : List ℕ) (places : Place
     pub has : HasNumberIn run (key_of_step keys key) number
     pub named : IsNamed places (key_of_step keys key) (keep_value v s)
     pub leaves : ((p : History) × (seen_by b.cells.view ≡ p ++ by between.cells.view.number (Put (cell_of run number (start_of (drop up path))) kept) ∷ [])
-        × (put_end.state ≡ after_event any_lane (Put (start_of (drop up path), place_of_key named.state.keys (key_of_step keys key)) named.state.store.drawn) named.state))
+        × (put_end.state ≡ after_event any_lane (Put (start_of (drop up path), number_of_key named.state.keys (key_of_step keys key)) named.state.store.drawn) named.state))
         ⊎ (Calls between.cells.cells.limits between.cells.view b.cells.view [] × (put_end.state ≡ named.state))
 
   stored_left : (made : PutsKept run.store (call_of keys path name key up) v a o b) (number : ℕ) → IsKeyNumber b.keys (key_of_step keys key) number
@@ -346,7 +346,7 @@ module _ (run : RunView) (keys : List KeyText) (path : List ℕ) (places : Place
       matches_after run places a.cells.view m.cells.view first (by a.cells.view.number (Keep made.kept) ∷ []) (seen_by m.cells.view) it.state (seen_goes_on drew) ([], append-nil (seen_by m.cells.view)) drew.own_events
       (record { quiet = λ context other n here is. refl }) before in
       let has_in : HasNumberIn run (key_of_step keys key) number = number_stays b.keys run.numbering (key_of_step keys key) number both.lane.keys has in
-      let end_is : put_end.state ≡ (act_ends name (label_of keys key) (Put (start_of (drop up path), place_of_key it.state.keys (key_of_step keys key)) it.state.store.drawn) it.state).state = ap (λ (end : StepEnd). end.state) goes in
+      let end_is : put_end.state ≡ (act_ends name (label_of keys key) (Put (start_of (drop up path), number_of_key it.state.keys (key_of_step keys key)) it.state.store.drawn) it.state).state = ap (λ (end : StepEnd). end.state) goes in
       record {
         kept = made.kept;
         between = m;

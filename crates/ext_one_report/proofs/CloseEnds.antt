@@ -23,7 +23,7 @@ use Rattle.ext_closing.specs.Closing.{Answer, fault_in}
 use Rattle.ext_closing.specs.Lanes.{first_lane}
 use Rattle.ext_closing.specs.Sealing.{AreSealed, MakesSeals, numbers_left}
 use Rattle.ext_plan.specs.Plans.{NodeText, PlanText}
-use Rattle.ext_plan.specs.StoreKeys.{is_there, place_of_key}
+use Rattle.ext_plan.specs.StoreKeys.{is_there, number_of_key}
 use Rattle.ext_plan.specs.Values.{close_fault}
 use Rattle.ext_engine.specs.Meeting.{HasSeenWithin, first_seen}
 use Rattle.ext_engine.specs.TreeRun.{ClosesNode}
@@ -73,8 +73,8 @@ other_cell run view context node number k key other has less same = other (cell_
 -- in the plain run the seals of a context leave what stands in another
 pub sealed_slot : (node : ℕ) (s t : ValueState) → SealsPlaces node s t → (context : ℕ) (key : KeyValue) → context ≢ node → plain_slot t context key ≡ plain_slot s context key
 sealed_slot node s t plain context key other =
-    ap (λ keys. if is_there keys key then t.store.slots (context, place_of_key keys key) else None) plain.keys
-    ∙ ap (λ x. if is_there s.keys key then x else None) (plain.others context (place_of_key s.keys key) other)
+    ap (λ keys. if is_there keys key then t.store.slots (context, number_of_key keys key) else None) plain.keys
+    ∙ ap (λ x. if is_there s.keys key then x else None) (plain.others context (number_of_key s.keys key) other)
 
 module _ (plan : PlanText) (run : RunView) (locks : LocksView) (h : History) (touched changes : ℕ → Places) (changed : ℕ → List ℕ) (shares : ℕ → Open) where
   -- ---- the lanes

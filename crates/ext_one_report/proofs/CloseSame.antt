@@ -16,10 +16,10 @@ use Rattle.ext_tree.specs.Traits.{key_eq}
 use Rattle.ext_tree.proofs.Equalities.{keys_Decides}
 use Rattle.ext_tree.proofs.KeyPlacing.{key_within, one_key, one_number}
 use Rattle.ext_tree.proofs.Numbers.{contains_at, one_place}
-use Rattle.ext_plan.specs.StoreKeys.{is_there, place_of_key}
+use Rattle.ext_plan.specs.StoreKeys.{is_there, number_of_key}
 use Rattle.ext_plan.specs.StepTexts.{close_text}
 use Rattle.ext_plan.specs.Values.{ValueText, close_fault}
-use Rattle.ext_plan.proofs.KeyLists.{has_place, place_within}
+use Rattle.ext_plan.proofs.KeyLists.{has_key_number, key_number_within}
 use Rattle.ext_plain.specs.ValueStates.{ValueState, value_of}
 use Rattle.ext_plain.proofs.Numberings.{there_by}
 use Rattle.ext_one_report.proofs.StoredWords.{number_in}
@@ -223,7 +223,7 @@ module _ (run : RunView) (view : IsRunView run) (node : ℕ) (inside : node < le
   plain_there_is : (key : KeyValue) (i : ℕ) → HasNumber s.keys key i → plain_slot s node key ≡ s.store.slots (node, i)
   plain_there_is key i has =
       let there = there_of_number key i has in
-      plain_there s node key there ∙ ap (λ k. s.store.slots (node, k)) (one_place s.keys gave.keys.different key (place_of_key s.keys key) i (has_place s.keys key there) has)
+      plain_there s node key there ∙ ap (λ k. s.store.slots (node, k)) (one_place s.keys gave.keys.different key (number_of_key s.keys key) i (has_key_number s.keys key there) has)
 
   -- what the seals of one key keep
   same_seals : (i n : ℕ) → i < s.places → OneKeys i n → kept_in run.meaning.values (cells n) ≡ kept_in (λ number. value_of s.values number) (places i)
@@ -261,9 +261,9 @@ module _ (run : RunView) (view : IsRunView run) (node : ℕ) (inside : node < le
         let m = matches key n one.1 in
         elim (bools (is_there s.keys key)) [
           | inl there ↦
-              let below = place_within s.keys key there in
+              let below = key_number_within s.keys key there in
               let few = gave.keys.few in
-              (place_of_key s.keys key, omega (arith, below, few), (key, has_place s.keys key there, one.1))
+              (number_of_key s.keys key, omega (arith, below, few), (key, has_key_number s.keys key there, one.1))
           | inr absent ↦
               let nothing_is : x ≡ None =
               nothing_there run.meaning (plain_meaning s.values) x (subst (λ y. AreMatched run.meaning (plain_meaning s.values) x y) (plain_none s node key absent) m) in

@@ -28,7 +28,7 @@ use Rattle.ext_plan.specs.declared.reason.Reason.TheVariants as reasons
 use Rattle.ext_plan.specs.declared.word.Word.TheVariants as words
 use Rattle.ext_plan.specs.Plans.{KeyText, StepKeyText}
 use Rattle.ext_plan.specs.StepCalls.{call_of, label_of, start_of}
-use Rattle.ext_plan.specs.StoreKeys.{is_there, key_of_step, place_of_key}
+use Rattle.ext_plan.specs.StoreKeys.{is_there, key_of_step, number_of_key}
 use Rattle.ext_plan.specs.Values.{ValueText}
 use Rattle.ext_plan.specs.Verdicts.{SeenText, refused, none_verdict}
 use Rattle.ext_store_core.specs.Claiming as claiming
@@ -179,11 +179,11 @@ module _ (run : RunView) (places : Places) (view : IsRunView run) (tree : IsTree
   abbrev cell : ℕ
   cell = cell_of run number context
 
-  looks : (p : History) → Matches run places p t → ShowTheSame run.meaning (plain_meaning t.values) (look_after (cell_of run number) (context ∷ ancestors) p) (found_along (place_of_key t.keys key) (context ∷ ancestors) t)
+  looks : (p : History) → Matches run places p t → ShowTheSame run.meaning (plain_meaning t.values) (look_after (cell_of run number) (context ∷ ancestors) p) (found_along (number_of_key t.keys key) (context ∷ ancestors) t)
   looks p matches = looks_same run places p t key number (context ∷ ancestors) matches has there within
 
   -- where a look-up of the lane finds nothing, that of the plain run finds nothing
-  pub plain_absent : (p : History) → Matches run places p t → look_after (cell_of run number) (context ∷ ancestors) p ≡ look.Absent → found_along (place_of_key t.keys key) (context ∷ ancestors) t ≡ look.Absent
+  pub plain_absent : (p : History) → Matches run places p t → look_after (cell_of run number) (context ∷ ancestors) p ≡ look.Absent → found_along (number_of_key t.keys key) (context ∷ ancestors) t ≡ look.Absent
   plain_absent p matches missing =
       let same = looks p matches in
       let shown_is : absent ≡ same.shown = some_is absent same.shown (sym (ap (shown_of run.meaning) missing) ∙ same.here) in
@@ -194,8 +194,8 @@ module _ (run : RunView) (places : Places) (view : IsRunView run) (tree : IsTree
     claimed_shows_nothing : (what : Look) → claiming.ClaimsAndLooks limits (context_cells run.store) context ancestors number a b what → shown_of run.meaning what ≡ Some absent
     claimed_shows_nothing what looked =
         let first = looked.claims.looked_first in
-        let none : found_along (place_of_key t.keys key) (context ∷ ancestors) t ≡ look.Absent = plain_absent first.at (matches_to run places a b alone first.at t first.point matches) first.missing in
-        let above : found_along (place_of_key t.keys key) ancestors t ≡ look.Absent = absent_rest (under t.store (place_of_key t.keys key)) context ancestors none in
+        let none : found_along (number_of_key t.keys key) (context ∷ ancestors) t ≡ look.Absent = plain_absent first.at (matches_to run places a b alone first.at t first.point matches) first.missing in
+        let above : found_along (number_of_key t.keys key) ancestors t ≡ look.Absent = absent_rest (under t.store (number_of_key t.keys key)) context ancestors none in
         let p : History = looked.looked.0 in
         let at = looked.looked.1 in
         let others : Matches run (but places context key) p t =
@@ -206,7 +206,7 @@ module _ (run : RunView) (places : Places) (view : IsRunView run) (tree : IsTree
 
     -- what a compute meets is what the plain run finds
     pub meets_alike : (what : Look) → (shown_of run.meaning what ≡ Some absent → ⊥) → Meets limits run.store context ancestors number a b what
-        → ShowTheSame run.meaning (plain_meaning t.values) what (found_along (place_of_key t.keys key) (context ∷ ancestors) t) × Matches run places (seen_by b) t
+        → ShowTheSame run.meaning (plain_meaning t.values) what (found_along (number_of_key t.keys key) (context ∷ ancestors) t) × Matches run places (seen_by b) t
     unfolding claiming.Meets
     meets_alike what some (inr given_up) = absurd (some (claimed_shows_nothing what given_up.1))
     meets_alike what some (inl holds) =
@@ -220,8 +220,8 @@ module _ (run : RunView) (places : Places) (view : IsRunView run) (tree : IsTree
     pub given_up_leaves : Calls limits a b (given_up_events run.store context number) → claiming.Claims limits (context_cells run.store) context ancestors number a b → Matches run places (seen_by b) t
     given_up_leaves calls claims =
         let first = claims.looked_first in
-        let none : found_along (place_of_key t.keys key) (context ∷ ancestors) t ≡ look.Absent = plain_absent first.at (matches_to run places a b alone first.at t first.point matches) first.missing in
-        let empty : plain_slot t context key ≡ None = plain_there t context key there ∙ absent_first (under t.store (place_of_key t.keys key)) context ancestors none in
+        let none : found_along (number_of_key t.keys key) (context ∷ ancestors) t ≡ look.Absent = plain_absent first.at (matches_to run places a b alone first.at t first.point matches) first.missing in
+        let empty : plain_slot t context key ≡ None = plain_there t context key there ∙ absent_first (under t.store (number_of_key t.keys key)) context ancestors none in
         let mine : History = by a.number (Claim cell) ∷ by a.number (Abandon cell) ∷ [] in
         let others : Matches run (but places context key) (seen_by b) t =
         others_after run places view context key number here_within has a b alone mine (seen_by b) (only_given_up cell a.number) (seen_goes_on calls) (prefix_refl (seen_by b)) calls.own_events t matches in
@@ -291,7 +291,7 @@ module _ (run : RunView) (places : Places) (view : IsRunView run) (tree : IsTree
     (there : is_there t.keys key ≡ true) (left : t.store.drawn < t.numbers) (numbered : IsNumbered places t) (v : ValueText) (a b : PlanLane) (o : Outcome) (lane : IsLaneIn run b)
     (finds : FindsAll name label o) (alone : IsAlone run places a.cells.view b.cells.view) (matches : Matches run places (seen_by a.cells.view) t) where
   abbrev its_end : StepEnd
-  its_end = compute_looked name label (context, place_of_key t.keys key) v t (found_along (place_of_key t.keys key) (context ∷ ancestors) t)
+  its_end = compute_looked name label (context, number_of_key t.keys key) v t (found_along (number_of_key t.keys key) (context ∷ ancestors) t)
 
   value_unkept : (why : KeepFault) → EndsUnkept name label why o → ⊥
   value_unkept keep_fault.Memory ends = finds.memory ends.0
@@ -313,7 +313,7 @@ module _ (run : RunView) (places : Places) (view : IsRunView run) (tree : IsTree
     meets_goes what (inr given_up) = seen_goes_on given_up.0
 
     met_alike : (what : Look) → (shown_of run.meaning what ≡ Some absent → ⊥) → Meets limits run.store context ancestors number mid b.cells.view what
-        → ShowTheSame run.meaning (plain_meaning t.values) what (found_along (place_of_key t.keys key) (context ∷ ancestors) t) × Matches run places (seen_by b.cells.view) t
+        → ShowTheSame run.meaning (plain_meaning t.values) what (found_along (number_of_key t.keys key) (context ∷ ancestors) t) × Matches run places (seen_by b.cells.view) t
     met_alike what some meets =
         let goes = meets_goes what meets in
         meets_alike run places view tree context ancestors key number is_path has within t there limits mid b.cells.view (last_alone goes) (vain_end goes).matches what some meets
@@ -327,9 +327,9 @@ module _ (run : RunView) (places : Places) (view : IsRunView run) (tree : IsTree
         let vain = vain_end goes in
         let alone_last = last_alone goes in
         let first = looked.claims.looked_first in
-        let none : found_along (place_of_key t.keys key) (context ∷ ancestors) t ≡ look.Absent =
+        let none : found_along (number_of_key t.keys key) (context ∷ ancestors) t ≡ look.Absent =
         plain_absent run places view tree context ancestors key number is_path has within t there limits first.at (matches_to run places mid b.cells.view alone_last first.at t first.point vain.matches) first.missing in
-        let empty : t.store.slots (context, place_of_key t.keys key) ≡ None = absent_first (under t.store (place_of_key t.keys key)) context ancestors none in
+        let empty : t.store.slots (context, number_of_key t.keys key) ≡ None = absent_first (under t.store (number_of_key t.keys key)) context ancestors none in
         let after : ValueState = filled t context key there empty v left places numbered in
         let mine : History = by mid.number (Claim cell_is) ∷ by mid.number (Keep n) ∷ by mid.number (Fill cell_is n) ∷ [] in
         let here_in : places context key ≡ true = All-head (λ c. places c key ≡ true) context ancestors within in
@@ -339,8 +339,8 @@ module _ (run : RunView) (places : Places) (view : IsRunView run) (tree : IsTree
         slot_by_own run places view context key number here_in has mid b.cells.view alone_last mine (seen_by b.cells.view) (only_fill cell_is mid.number n) goes (prefix_refl (seen_by b.cells.view)) fills.calls.own_events
         ∙ ap (fold then_there ((state_after (seen_by mid)).slots cell_is)) (on_fill cell_is mid.number n) in
         let end_is : its_end ≡ record { state = after; verdict = successful; computed = 1; found = 0 } =
-        ap (compute_looked name label (context, place_of_key t.keys key) v t) none
-        ∙ (claims_first t context key there empty name label (factory_gave name label (context, place_of_key t.keys key) v) ∙ factory_gives t context key there empty v left places numbered name label) in
+        ap (compute_looked name label (context, number_of_key t.keys key) v t) none
+        ∙ (claims_first t context key there empty name label (factory_gave name label (context, number_of_key t.keys key) v) ∙ factory_gives t context key there empty v left places numbered name label) in
         subst (λ (end : StepEnd). EndAlike run places o b end) (sym end_is) (record {
           says = said successful o.verdict finds.memory ends.says;
           computed = ends.computed_are;
@@ -360,7 +360,7 @@ module _ (run : RunView) (places : Places) (view : IsRunView run) (tree : IsTree
     found_alike at n meets ends =
         let alike = met_alike (look.Found at n) (λ is. value_not_absent at (run.meaning.values n) is) meets in
         let form = value_form at (run.meaning.values n) alike.0.shown alike.0.here in
-        let end_is = end_found name label context (place_of_key t.keys key) v t (found_along (place_of_key t.keys key) (context ∷ ancestors) t) at form.0 (alike.0.there ∙ ap Some form.1) in
+        let end_is = end_found name label context (number_of_key t.keys key) v t (found_along (number_of_key t.keys key) (context ∷ ancestors) t) at form.0 (alike.0.there ∙ ap Some form.1) in
         subst (λ (end : StepEnd). EndAlike run places o b end) (sym end_is) (record {
           says = said successful o.verdict finds.memory ends.says;
           computed = ends.computed_are;
@@ -378,7 +378,7 @@ module _ (run : RunView) (places : Places) (view : IsRunView run) (tree : IsTree
           | inl is ↦ is ∙ ap seen_of form.1
           | inr hidden ↦ absurd (has_room name label reasons.NotShown o tt finds (subst (λ s. Ends (none_verdict name label s) 0 0 o) hidden ends))
         ] in
-        let end_is = end_met name label context (place_of_key t.keys key) v t (found_along (place_of_key t.keys key) (context ∷ ancestors) t) at form.0 (alike.0.there ∙ ap Some form.1) in
+        let end_is = end_met name label context (number_of_key t.keys key) v t (found_along (number_of_key t.keys key) (context ∷ ancestors) t) at form.0 (alike.0.there ∙ ap Some form.1) in
         subst (λ (end : StepEnd). EndAlike run places o b end) (sym end_is) (record {
           says = said (none_verdict name label seen) o.verdict finds.memory ends.says ∙ ap (none_verdict name label) seen_is;
           computed = ends.computed_are;
@@ -391,7 +391,7 @@ module _ (run : RunView) (places : Places) (view : IsRunView run) (tree : IsTree
     closed_alike at meets ends =
         let alike = met_alike (look.Closed at) (λ is. absurd (cc is)) meets in
         let form : closed at ≡ alike.0.shown = some_is (closed at) alike.0.shown alike.0.here in
-        let end_is = end_closed name label context (place_of_key t.keys key) v t (found_along (place_of_key t.keys key) (context ∷ ancestors) t) at (alike.0.there ∙ ap Some (sym form)) in
+        let end_is = end_closed name label context (number_of_key t.keys key) v t (found_along (number_of_key t.keys key) (context ∷ ancestors) t) at (alike.0.there ∙ ap Some (sym form)) in
         subst (λ (end : StepEnd). EndAlike run places o b end) (sym end_is) (record {
           says = said (refused name label reasons.Closed) o.verdict finds.memory ends.says;
           computed = ends.computed_are;
@@ -441,7 +441,7 @@ module _ (run : RunView) (keys : List KeyText) (path : List ℕ) (places : Place
     (within : LooksWithin keys path places key up) (both : AreCompared run keys path places name key up a o b s) where
   value_along : (below : List ℕ) → drop up path ≡ below → (it : IsNamed places (key_of_step keys key) s) → (number : ℕ) → IsKeyNumber b.keys (key_of_step keys key) number
       → ComputesValue run.store (start_of below) number name (label_of keys key) v a o b → IsPathOf run.store.tree (start_of below) below → All (λ c. places c (key_of_step keys key) ≡ true) below
-      → EndAlike run places o b (compute_numbered enough name (label_of keys key) below v (place_of_key it.state.keys (key_of_step keys key)) it.state)
+      → EndAlike run places o b (compute_numbered enough name (label_of keys key) below v (number_of_key it.state.keys (key_of_step keys key)) it.state)
   value_along [] same it number has made is_path inside = absurd is_path
   value_along (context ∷ above) same it number has made is_path inside =
       value_alike run places both.view both.tree name (label_of keys key) context above (key_of_step keys key) number is_path (number_stays b.keys run.numbering (key_of_step keys key) number both.lane.keys has) inside

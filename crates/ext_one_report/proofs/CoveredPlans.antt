@@ -14,7 +14,7 @@ use Rattle.ext_plan.specs.PlanCalls.{steps_of_call}
 use Rattle.ext_plan.specs.ReadPlans.{IsAtOrBelow, IsReadPlan, ids_of_nodes}
 use Rattle.ext_plan.specs.StepCalls.{start_of}
 use Rattle.ext_plan.specs.Steps.{height}
-use Rattle.ext_plan.specs.StoreKeys.{key_of_step, place_of_key}
+use Rattle.ext_plan.specs.StoreKeys.{key_of_step, number_of_key}
 use Rattle.ext_plan.specs.declared.word.Word.{Word}
 use Rattle.ext_races.specs.Acts.{ActText}
 use Rattle.ext_races.specs.MadeSteps.{calls_of, plan_path}
@@ -69,14 +69,14 @@ pub record IsTouchedBelow (plan : PlanText) (node context : ℕ) (key : KeyValue
   pub made : Contains (touches_made plan) touch
   pub below : is_within plan node touch.node ≡ true
   pub context_is : touch.context ≡ context
-  pub key_is : touch.key ≡ place_of_key (keys_named plan) key
+  pub key_is : touch.key ≡ number_of_key (keys_named plan) key
   pub changes : told ≡ true → touch.changes ≡ true
 
 module _ (plan : PlanText) (node context : ℕ) (key : KeyValue) where
-  at_told : (t : TouchText) → is_within plan node t.node ≡ true → t.context ≡ context → t.key ≡ place_of_key (keys_named plan) key → is_at plan node context key t ≡ true
+  at_told : (t : TouchText) → is_within plan node t.node ≡ true → t.context ≡ context → t.key ≡ number_of_key (keys_named plan) key → is_at plan node context key t ≡ true
   at_told t below at named =
-      and_from (is_within plan node t.node && (t.context == context)) (t.key == place_of_key (keys_named plan) key) (and_from (is_within plan node t.node) (t.context == context) below (eq-eqb t.context context at))
-      (eq-eqb t.key (place_of_key (keys_named plan) key) named)
+      and_from (is_within plan node t.node && (t.context == context)) (t.key == number_of_key (keys_named plan) key) (and_from (is_within plan node t.node) (t.context == context) below (eq-eqb t.context context at))
+      (eq-eqb t.key (number_of_key (keys_named plan) key) named)
 
   any_told : (p : TouchText → Bool) (t : TouchText) → Contains (touches_made plan) t → p t ≡ true → list_any p (touches_made plan) ≡ true
   any_told p t made is = list_any-from_Any p (touches_made plan) (made.0, t, made.1, made.2, is)
@@ -112,14 +112,14 @@ module _ (plan : PlanText) (node context : ℕ) (key : KeyValue) where
 
   found_at : (t : TouchText) (told : Bool) → Contains (touches_made plan) t → is_at plan node context key t ≡ true → (told ≡ true → t.changes ≡ true) → IsTouchedBelow plan node context key told
   found_at t told made is changing =
-      let all = and_parts (is_within plan node t.node && (t.context == context)) (t.key == place_of_key (keys_named plan) key) is in
+      let all = and_parts (is_within plan node t.node && (t.context == context)) (t.key == number_of_key (keys_named plan) key) is in
       let place = and_parts (is_within plan node t.node) (t.context == context) all.0 in
       record {
         touch = t;
         made = made;
         below = place.0;
         context_is = eqb-true t.context context place.1;
-        key_is = eqb-true t.key (place_of_key (keys_named plan) key) all.1;
+        key_is = eqb-true t.key (number_of_key (keys_named plan) key) all.1;
         changes = changing;
       }
 
@@ -247,7 +247,7 @@ module _ (plan : PlanText) (read : IsReadPlan plan) where
     along = made_path plan read node path is
 
     -- a touch of the node is one at or below it
-    below_itself : (context : ℕ) (key : KeyValue) (told : Bool) → IsTouched plan node context (place_of_key (keys_named plan) key) told → IsTouchedBelow plan node context key told
+    below_itself : (context : ℕ) (key : KeyValue) (told : Bool) → IsTouched plan node context (number_of_key (keys_named plan) key) told → IsTouchedBelow plan node context key told
     below_itself context key told one = record {
       touch = one.touch;
       made = one.made;
@@ -265,7 +265,7 @@ module _ (plan : PlanText) (read : IsReadPlan plan) where
     acts_changed act there changing =
         let one = touches_start plan node act (is_made plan node call (step_of act) within among there) changing (subst (λ p. act.up < length p) along (low (step_of act) there)) in
         below_itself (start_of (drop act.up path)) (key_of_step plan.keys act.key) true
-        (subst (λ p. IsTouched plan node (start_of (drop act.up p)) (place_of_key (keys_named plan) (key_of_step plan.keys act.key)) true) (sym along) one)
+        (subst (λ p. IsTouched plan node (start_of (drop act.up p)) (number_of_key (keys_named plan) (key_of_step plan.keys act.key)) true) (sym along) one)
 
     pub step_changes : (step : StepText) (key : StepKeyText) (up : ℕ) → Contains (steps_of_call plan call) step → changed_by step ≡ Some (key, up)
         → IsTouchedBelow plan node (start_of (drop up path)) (key_of_step plan.keys key) true

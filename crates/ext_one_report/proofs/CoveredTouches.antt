@@ -15,7 +15,7 @@ use Rattle.ext_plan.specs.Plans.{KeyText, PlanText, StepText, keyed, fail, abort
 use Rattle.ext_plan.specs.PlanCalls.{steps_of_call}
 use Rattle.ext_plan.specs.ReadPlans.{ids_of_nodes}
 use Rattle.ext_plan.specs.StepCalls.{start_of}
-use Rattle.ext_plan.specs.StoreKeys.{key_of_step, place_of_key}
+use Rattle.ext_plan.specs.StoreKeys.{key_of_step, number_of_key}
 use Rattle.ext_races.specs.Acts.{ActText, act_of}
 use Rattle.ext_races.specs.MadeSteps.{MadeText, calls_after, calls_before, calls_of, made_after, made_by, made_in_turn, made_of_node, path_of, plan_path, steps_made}
 use Rattle.ext_races.specs.Touches.{ComputeText, TouchText, below_act, below_computes, found_above, keys_named, look_at, reach, standing, touch_first, touch_of, touches_above, touches_along, touches_made, touches_of, touches_of_act}
@@ -78,7 +78,7 @@ act_on : (declared : List KeyText) (keys : List KeyValue) (node : ℕ) (path : L
 act_on declared keys node path before above None t h = contains_nothing t h
 act_on declared keys node path before above (Some act) t h =
     let along = drop act.up (reach declared before path act) in
-    let on = along_on node (place_of_key keys (key_of_step declared act.key)) act (found_above declared before above act) along t h in
+    let on = along_on node (number_of_key keys (key_of_step declared act.key)) act (found_above declared before above act) along t h in
     let all : All (Contains path) along = All-drop (Contains path) act.up (reach declared before path act) (all_reach (Contains path) declared before path act (All-contains_itself path)) in
     (on.0, All-contains (Contains path) along t.context all on.1)
 
@@ -204,7 +204,7 @@ pub record IsTouched (plan : PlanText) (node context number : ℕ) (told : Bool)
 
 module _ (plan : PlanText) (node : ℕ) where
   abbrev number_in : ActText → ℕ
-  number_in act = place_of_key (keys_named plan) (key_of_step plan.keys act.key)
+  number_in act = number_of_key (keys_named plan) (key_of_step plan.keys act.key)
 
   module _ (act : ActText) (is : IsMade plan node (step_of act)) where
     abbrev reached : List ℕ

@@ -12,7 +12,7 @@ use Rattle.ext_model.proofs.Changes.{here}
 use Rattle.ext_model.proofs.Steps.{abandon_undoes_claim}
 use Rattle.ext_tree.specs.Keys.{KeyValue}
 use Rattle.ext_lifecycle.specs.Endings.{successful}
-use Rattle.ext_plan.specs.StoreKeys.{is_there, place_of_key}
+use Rattle.ext_plan.specs.StoreKeys.{is_there, number_of_key}
 use Rattle.ext_plan.specs.Values.{ValueText}
 use Rattle.ext_plain.specs.ValueStates.{ValueState, after_act, next_number, reply_to, value_of, refusal as plain_refusal}
 use Rattle.ext_plain.specs.StepRuns.{StepEnd, ended, factory_failed, or_refused}
@@ -25,7 +25,7 @@ use Rattle.ext_one_report.proofs.Claimed.{claimed, filled_value, kept_claimed, s
 abbrev pub words_value : List ℕ → ValueText
 words_value text = record { text = text; closeable = false }
 
-module _ (t : ValueState) (context : ℕ) (key : KeyValue) (there : is_there t.keys key ≡ true) (empty : t.store.slots (context, place_of_key t.keys key) ≡ None) (text : List ℕ)
+module _ (t : ValueState) (context : ℕ) (key : KeyValue) (there : is_there t.keys key ≡ true) (empty : t.store.slots (context, number_of_key t.keys key) ≡ None) (text : List ℕ)
     (left : t.store.drawn < t.numbers) (places : Places) (numbered : IsNumbered places t) where
   -- the state under the claim, and with the words of the fault
   abbrev under_claim : ValueState
@@ -36,12 +36,12 @@ module _ (t : ValueState) (context : ℕ) (key : KeyValue) (there : is_there t.k
 
   -- and once the fault stands in the place
   abbrev pub faulted : ValueState
-  faulted = after_event any_lane (Fail (context, place_of_key t.keys key) with_words.store.drawn) with_words
+  faulted = after_event any_lane (Fail (context, number_of_key t.keys key) with_words.store.drawn) with_words
 
   -- where faults are kept it is kept,
-  pub fault_kept : (name label : List ℕ) → t.keep_faults ≡ true → factory_failed name label (context, place_of_key t.keys key) text under_claim ≡ ended successful faulted
+  pub fault_kept : (name label : List ℕ) → t.keep_faults ≡ true → factory_failed name label (context, number_of_key t.keys key) text under_claim ≡ ended successful faulted
   fault_kept name label keeps =
-      let place : Place = (context, place_of_key t.keys key) in
+      let place : Place = (context, number_of_key t.keys key) in
       let act : Act Place = Fail place with_words.store.drawn in
       let happens : reply_to act with_words ≡ Happens None = ap (end_reply any_lane) (still_claimed t context key there empty (words_value text) left places numbered) in
       let kept_end : StepEnd = ended successful (after_act act with_words) in
@@ -51,9 +51,9 @@ module _ (t : ValueState) (context : ℕ) (key : KeyValue) (there : is_there t.k
       ∙ ap (λ r. ended successful (record with_words { store = state_by r with_words.store (record { lane = any_lane; act = act }) })) happens)
 
   -- and where they are not nothing is left
-  pub fault_not_kept : (name label : List ℕ) → t.keep_faults ≡ false → factory_failed name label (context, place_of_key t.keys key) text under_claim ≡ ended successful t
+  pub fault_not_kept : (name label : List ℕ) → t.keep_faults ≡ false → factory_failed name label (context, number_of_key t.keys key) text under_claim ≡ ended successful t
   fault_not_kept name label keeps =
-      let place : Place = (context, place_of_key t.keys key) in
+      let place : Place = (context, number_of_key t.keys key) in
       let act : Act Place = Fail place with_words.store.drawn in
       let kept_end : StepEnd = ended successful (after_act act with_words) in
       let back_end : StepEnd = ended successful (after_act (Abandon place) under_claim) in
@@ -64,19 +64,19 @@ module _ (t : ValueState) (context : ℕ) (key : KeyValue) (there : is_there t.k
       ∙ ap (λ (st : State Place). ended successful (record t { store = st })) (abandon_undoes_claim t.numbers t.store any_lane place empty))
 
   pub faulted_slot : plain_slot faulted context key ≡ Some (slot.Fault with_words.store.drawn)
-  faulted_slot = plain_there faulted context key there ∙ place_then with_words.store any_lane (Fail (context, place_of_key t.keys key) with_words.store.drawn) (context, place_of_key t.keys key) true (here (context, place_of_key t.keys key))
+  faulted_slot = plain_there faulted context key there ∙ place_then with_words.store any_lane (Fail (context, number_of_key t.keys key) with_words.store.drawn) (context, number_of_key t.keys key) true (here (context, number_of_key t.keys key))
 
   pub faulted_words : text_of (value_of faulted.values with_words.store.drawn) ≡ Some text
   faulted_words = ap text_of (filled_value t context key there empty (words_value text) left places numbered)
 
   pub faulted_others : (run : RunView) (h : History) → Matches run (but places context key) h t → Matches run (but places context key) h faulted
   faulted_others run h matches =
-      let place : Place = (context, place_of_key t.keys key) in
+      let place : Place = (context, number_of_key t.keys key) in
       others_event run places context key h with_words any_lane (Fail place with_words.store.drawn) there refl
       (values_keep_matches run (but places context key) h (words_value text) under_claim (others_event run places context key h t any_lane (Claim place) there refl matches))
 
   pub faulted_numbered : IsNumbered places faulted
   faulted_numbered =
-      let place : Place = (context, place_of_key t.keys key) in
+      let place : Place = (context, number_of_key t.keys key) in
       event_keeps_numbered places with_words any_lane (Fail place with_words.store.drawn) context key there refl
       (values_keep_numbered places (words_value text) under_claim left (event_keeps_numbered places t any_lane (Claim place) context key there refl numbered))

@@ -28,7 +28,7 @@ use Rattle.ext_plan.specs.declared.reason.Reason.TheVariants as reasons
 use Rattle.ext_plan.specs.declared.word.Word.TheVariants as words
 use Rattle.ext_plan.specs.Plans.{KeyText, StepKeyText}
 use Rattle.ext_plan.specs.StepCalls.{label_of, start_of}
-use Rattle.ext_plan.specs.StoreKeys.{is_there, key_of_step, place_of_key}
+use Rattle.ext_plan.specs.StoreKeys.{is_there, key_of_step, number_of_key}
 use Rattle.ext_plan.specs.Values.{ValueText}
 use Rattle.ext_plan.specs.Verdicts.{SeenText, refused, none_verdict, fail_verdict}
 use Rattle.ext_store_core.specs.Claiming as claiming
@@ -125,7 +125,7 @@ module _ (run : RunView) (places : Places) (view : IsRunView run) (tree : IsTree
     (there : is_there t.keys key ≡ true) (left : t.store.drawn < t.numbers) (numbered : IsNumbered places t) (text : List ℕ) (a b : PlanLane) (o : Outcome) (lane : IsLaneIn run b)
     (finds : FindsAll name label o) (alone : IsAlone run places a.cells.view b.cells.view) (matches : Matches run places (seen_by a.cells.view) t) where
   abbrev its_end : StepEnd
-  its_end = computefail_looked name label (context, place_of_key t.keys key) text t (found_along (place_of_key t.keys key) (context ∷ ancestors) t)
+  its_end = computefail_looked name label (context, number_of_key t.keys key) text t (found_along (number_of_key t.keys key) (context ∷ ancestors) t)
 
   fault_unkept : (why : KeepFault) → EndsUnkept name label why o → ⊥
   fault_unkept keep_fault.Memory ends = finds.memory ends.0
@@ -147,14 +147,14 @@ module _ (run : RunView) (places : Places) (view : IsRunView run) (tree : IsTree
     meets_goes what (inr given_up) = seen_goes_on given_up.0
 
     met_alike : (what : Look) → (shown_of run.meaning what ≡ Some absent → ⊥) → Meets limits run.store context ancestors number mid b.cells.view what
-        → ShowTheSame run.meaning (plain_meaning t.values) what (found_along (place_of_key t.keys key) (context ∷ ancestors) t) × Matches run places (seen_by b.cells.view) t
+        → ShowTheSame run.meaning (plain_meaning t.values) what (found_along (number_of_key t.keys key) (context ∷ ancestors) t) × Matches run places (seen_by b.cells.view) t
     met_alike what some meets =
         let goes = meets_goes what meets in
         meets_alike run places view tree context ancestors key number is_path has within t there limits mid b.cells.view (last_alone goes) (vain_end goes).matches what some meets
 
     -- what a claim says after which the factory ran
     claim_empty : (looked : claiming.ClaimsAndLooks limits (context_cells run.store) context ancestors number mid b.cells.view look.Absent) → IsPrefix (seen_by mid) (seen_by b.cells.view)
-        → found_along (place_of_key t.keys key) (context ∷ ancestors) t ≡ look.Absent
+        → found_along (number_of_key t.keys key) (context ∷ ancestors) t ≡ look.Absent
     claim_empty looked goes =
         let first = looked.claims.looked_first in
         plain_absent run places view tree context ancestors key number is_path has within t there limits first.at
@@ -168,8 +168,8 @@ module _ (run : RunView) (places : Places) (view : IsRunView run) (tree : IsTree
         let goes = seen_goes_on fails.calls in
         let vain = vain_end goes in
         let alone_last = last_alone goes in
-        let none : found_along (place_of_key t.keys key) (context ∷ ancestors) t ≡ look.Absent = claim_empty looked goes in
-        let empty : t.store.slots (context, place_of_key t.keys key) ≡ None = absent_first (under t.store (place_of_key t.keys key)) context ancestors none in
+        let none : found_along (number_of_key t.keys key) (context ∷ ancestors) t ≡ look.Absent = claim_empty looked goes in
+        let empty : t.store.slots (context, number_of_key t.keys key) ≡ None = absent_first (under t.store (number_of_key t.keys key)) context ancestors none in
         let after : ValueState = faulted t context key there empty text left places numbered in
         let mine : History = by mid.number (Claim cell_is) ∷ by mid.number (Keep n) ∷ by mid.number (Fail cell_is n) ∷ [] in
         let here_in : places context key ≡ true = All-head (λ c. places c key ≡ true) context ancestors within in
@@ -179,8 +179,8 @@ module _ (run : RunView) (places : Places) (view : IsRunView run) (tree : IsTree
         slot_by_own run places view context key number here_in has mid b.cells.view alone_last mine (seen_by b.cells.view) (only_fail cell_is mid.number n) goes (prefix_refl (seen_by b.cells.view)) fails.calls.own_events
         ∙ ap (fold then_there ((state_after (seen_by mid)).slots cell_is)) (on_fail cell_is mid.number n) in
         let end_is : its_end ≡ ended successful after =
-        ap (computefail_looked name label (context, place_of_key t.keys key) text t) none
-        ∙ (claims_first t context key there empty name label (factory_failed name label (context, place_of_key t.keys key) text) ∙ fault_kept t context key there empty text left places numbered name label keeps) in
+        ap (computefail_looked name label (context, number_of_key t.keys key) text t) none
+        ∙ (claims_first t context key there empty name label (factory_failed name label (context, number_of_key t.keys key) text) ∙ fault_kept t context key there empty text left places numbered name label keeps) in
         subst (λ (end : StepEnd). EndAlike run places o b end) (sym end_is) (record {
           says = said successful o.verdict finds.memory ends.says;
           computed = ends.computed_are;
@@ -200,11 +200,11 @@ module _ (run : RunView) (places : Places) (view : IsRunView run) (tree : IsTree
         → Calls limits mid b.cells.view (given_up_events run.store context number) → Ends successful 0 0 o → EndAlike run places o b its_end
     given_back_alike keeps looked calls ends =
         let goes = seen_goes_on calls in
-        let none : found_along (place_of_key t.keys key) (context ∷ ancestors) t ≡ look.Absent = claim_empty looked goes in
-        let empty : t.store.slots (context, place_of_key t.keys key) ≡ None = absent_first (under t.store (place_of_key t.keys key)) context ancestors none in
+        let none : found_along (number_of_key t.keys key) (context ∷ ancestors) t ≡ look.Absent = claim_empty looked goes in
+        let empty : t.store.slots (context, number_of_key t.keys key) ≡ None = absent_first (under t.store (number_of_key t.keys key)) context ancestors none in
         let end_is : its_end ≡ ended successful t =
-        ap (computefail_looked name label (context, place_of_key t.keys key) text t) none
-        ∙ (claims_first t context key there empty name label (factory_failed name label (context, place_of_key t.keys key) text) ∙ fault_not_kept t context key there empty text left places numbered name label keeps) in
+        ap (computefail_looked name label (context, number_of_key t.keys key) text t) none
+        ∙ (claims_first t context key there empty name label (factory_failed name label (context, number_of_key t.keys key) text) ∙ fault_not_kept t context key there empty text left places numbered name label keeps) in
         subst (λ (end : StepEnd). EndAlike run places o b end) (sym end_is) (record {
           says = said successful o.verdict finds.memory ends.says;
           computed = ends.computed_are;
@@ -223,7 +223,7 @@ module _ (run : RunView) (places : Places) (view : IsRunView run) (tree : IsTree
           | inl is ↦ is ∙ ap seen_of form.1
           | inr hidden ↦ absurd (hidden_value (subst (λ s. Ends (none_verdict name label s) 0 1 o) hidden ends))
         ] in
-        let end_is = end_found name label context (place_of_key t.keys key) text t (found_along (place_of_key t.keys key) (context ∷ ancestors) t) at form.0 (alike.0.there ∙ ap Some form.1) in
+        let end_is = end_found name label context (number_of_key t.keys key) text t (found_along (number_of_key t.keys key) (context ∷ ancestors) t) at form.0 (alike.0.there ∙ ap Some form.1) in
         subst (λ (end : StepEnd). EndAlike run places o b end) (sym end_is) (record {
           says = said (none_verdict name label seen) o.verdict finds.memory ends.says ∙ ap (none_verdict name label) seen_is;
           computed = ends.computed_are;
@@ -244,7 +244,7 @@ module _ (run : RunView) (places : Places) (view : IsRunView run) (tree : IsTree
           | inl is ↦ is ∙ ap seen_of form.1
           | inr hidden ↦ absurd (has_room name label reasons.NotShown o tt finds (subst (λ s. Ends (fail_verdict name label text s) 0 0 o) hidden ends))
         ] in
-        let end_is = end_met name label context (place_of_key t.keys key) text t (found_along (place_of_key t.keys key) (context ∷ ancestors) t) at form.0 (alike.0.there ∙ ap Some form.1) in
+        let end_is = end_met name label context (number_of_key t.keys key) text t (found_along (number_of_key t.keys key) (context ∷ ancestors) t) at form.0 (alike.0.there ∙ ap Some form.1) in
         subst (λ (end : StepEnd). EndAlike run places o b end) (sym end_is) (record {
           says = said (fail_verdict name label text seen) o.verdict finds.memory ends.says ∙ ap (fail_verdict name label text) seen_is;
           computed = ends.computed_are;
@@ -257,7 +257,7 @@ module _ (run : RunView) (places : Places) (view : IsRunView run) (tree : IsTree
     closed_alike at meets ends =
         let alike = met_alike (look.Closed at) (λ is. absurd (cc is)) meets in
         let form : closed at ≡ alike.0.shown = some_is (closed at) alike.0.shown alike.0.here in
-        let end_is = end_closed name label context (place_of_key t.keys key) text t (found_along (place_of_key t.keys key) (context ∷ ancestors) t) at (alike.0.there ∙ ap Some (sym form)) in
+        let end_is = end_closed name label context (number_of_key t.keys key) text t (found_along (number_of_key t.keys key) (context ∷ ancestors) t) at (alike.0.there ∙ ap Some (sym form)) in
         subst (λ (end : StepEnd). EndAlike run places o b end) (sym end_is) (record {
           says = said (refused name label reasons.Closed) o.verdict finds.memory ends.says;
           computed = ends.computed_are;
@@ -307,7 +307,7 @@ module _ (run : RunView) (keys : List KeyText) (path : List ℕ) (places : Place
     (within : LooksWithin keys path places key up) (both : AreCompared run keys path places (codes "computefail") key up a o b s) where
   fail_along : (below : List ℕ) → (it : IsNamed places (key_of_step keys key) s) → (number : ℕ) → IsKeyNumber b.keys (key_of_step keys key) number
       → ComputesFault run.store (start_of below) number (codes "computefail") (label_of keys key) text a o b → IsPathOf run.store.tree (start_of below) below → All (λ c. places c (key_of_step keys key) ≡ true) below
-      → EndAlike run places o b (computefail_numbered enough (codes "computefail") (label_of keys key) below text (place_of_key it.state.keys (key_of_step keys key)) it.state)
+      → EndAlike run places o b (computefail_numbered enough (codes "computefail") (label_of keys key) below text (number_of_key it.state.keys (key_of_step keys key)) it.state)
   fail_along [] it number has made is_path inside = absurd is_path
   fail_along (context ∷ above) it number has made is_path inside =
       fail_alike run places both.view both.tree (codes "computefail") (label_of keys key) context above (key_of_step keys key) number is_path

@@ -16,11 +16,11 @@ use Rattle.ext_plan.specs.PlanCalls.{steps_of_call}
 use Rattle.ext_plan.specs.ReadPlans.{IsReadPlan, ids_of_nodes}
 use Rattle.ext_plan.specs.StepCalls.{start_of}
 use Rattle.ext_plan.specs.Steps.{height}
-use Rattle.ext_plan.specs.StoreKeys.{is_there, key_of_step, place_of_key}
+use Rattle.ext_plan.specs.StoreKeys.{is_there, key_of_step, number_of_key}
 use Rattle.ext_plan.specs.StepWords.{changes, gives_value, has_text, looks_along}
 use Rattle.ext_plan.specs.declared.word.Word.{Word}
 use Rattle.ext_plan.specs.declared.word.Word.TheVariants as words
-use Rattle.ext_plan.proofs.KeyLists.{not_contained, not_there, place_within}
+use Rattle.ext_plan.proofs.KeyLists.{not_contained, not_there, key_number_within}
 use Rattle.ext_races.specs.Acts.{ActText, act_of}
 use Rattle.ext_races.specs.MadeSteps.{MadeText, calls_after, calls_before, calls_of, plan_path, steps_before, steps_made}
 use Rattle.ext_races.specs.Touches.{ComputeText, TouchText, computed_above, computes_key, first_compute, found_above, is_removed, key_of_act, key_of_made, keys_named, look_at, or_above, reach, standing, touch_first, touch_of, touches_above, touches_along, touches_made, touches_of, touches_of_act, text_if}
@@ -38,7 +38,7 @@ use Rattle.ext_one_report.proofs.WordCases.{computes_all, of_computes}
 -- a callback before all children of a node above the touch's node computes at its place what it finds, and no step of the plan removes the key
 pub record IsFoundAbove (plan : PlanText) (t : TouchText) : Type 0 where
   pub key : KeyValue
-  pub number : place_of_key (keys_named plan) key ≡ t.key
+  pub number : number_of_key (keys_named plan) key ≡ t.key
   pub named : is_there (keys_named plan) key ≡ true
   pub computed : IsComputedIn plan (drop 1 (plan_path plan t.node)) t.context key
   -- the touch of that compute
@@ -64,7 +64,7 @@ unless_some false y v e = (refl, e)
 -- ---- how a touch comes about
 
 abbrev pub number_of : PlanText → ActText → ℕ
-number_of plan act = place_of_key (keys_named plan) (key_of_step plan.keys act.key)
+number_of plan act = number_of_key (keys_named plan) (key_of_step plan.keys act.key)
 
 abbrev pub found_by : PlanText → MadeText → ActText → Option ComputeText
 found_by plan made act = found_above plan.keys made.before (standing plan made.node) act
@@ -265,7 +265,7 @@ module _ (plan : PlanText) (read : IsReadPlan plan) where
           made = start_made plan one.0 compute.act (is_made plan one.0 call.0 (step_of compute.act) within among step_there) changing stays;
           node_is = refl;
           context_is = compute.at ∙ sym at;
-          key_is = ap (place_of_key (keys_named plan)) compute.named;
+          key_is = ap (number_of_key (keys_named plan)) compute.named;
           changes = refl;
           acts = compute.word;
           text = told_text compute.act.word compute.act.text compute.gives ∙ compute.text;
@@ -305,13 +305,13 @@ how_it_acts plan read t there =
 -- ---- the number of a key
 
 -- a key that is not there has the number after the last
-place_none : (keys : List KeyValue) (key : KeyValue) → is_there keys key ≡ false → place_of_key keys key ≡ length keys
+place_none : (keys : List KeyValue) (key : KeyValue) → is_there keys key ≡ false → number_of_key keys key ≡ length keys
 place_none [] key none = refl
 place_none (first ∷ keys) key none = elim (cases_Bool (key_eq first key)) [
   | inl same ↦ absurd (not_contained (first ∷ keys) key none (subst (Contains (first ∷ keys)) ((keys_Decides first key).0 same) (contains_first first keys)))
   | inr other ↦
       let behind = place_none keys key (not_there keys key (λ there. not_contained (first ∷ keys) key none (contains_later first key keys there))) in
-      ap (λ (b : Bool). if b then zero else suc (place_of_key keys key)) other ∙ ap suc behind
+      ap (λ (b : Bool). if b then zero else suc (number_of_key keys key)) other ∙ ap suc behind
 ]
 
 key_is : (plan : PlanText) (t : TouchText) (from : Comes plan t) → t.key ≡ number_of plan from.act
@@ -325,10 +325,10 @@ key_is plan t from =
     ]
 
 -- a touch's key is one that the steps name
-pub key_there : (plan : PlanText) (t : TouchText) → Contains (touches_made plan) t → (key : KeyValue) → t.key ≡ place_of_key (keys_named plan) key → is_there (keys_named plan) key ≡ true
+pub key_there : (plan : PlanText) (t : TouchText) → Contains (touches_made plan) t → (key : KeyValue) → t.key ≡ number_of_key (keys_named plan) key → is_there (keys_named plan) key ≡ true
 key_there plan t there key is =
     let from = comes plan t there in
-    let less = place_within (keys_named plan) (key_of_step plan.keys from.act.key) (named_by plan t from) in
+    let less = key_number_within (keys_named plan) (key_of_step plan.keys from.act.key) (named_by plan t from) in
     let same = key_is plan t from in
     elim (cases_Bool (is_there (keys_named plan) key)) [
       | inl is_there ↦ is_there

@@ -11,9 +11,9 @@ use Rattle.ext_model.specs.Plain.{Place, any_lane, plain_reply, same_place, stat
 use Rattle.ext_model.proofs.Changes.{same_place_is}
 use Rattle.ext_model.proofs.Steps.{others_stay}
 use Rattle.ext_tree.specs.Keys.{KeyValue}
-use Rattle.ext_plan.specs.StoreKeys.{is_there, place_of_key}
+use Rattle.ext_plan.specs.StoreKeys.{is_there, number_of_key}
 use Rattle.ext_plan.specs.Values.{ValueText}
-use Rattle.ext_plan.proofs.KeyLists.{is_contained, not_contained, place_last, place_within}
+use Rattle.ext_plan.proofs.KeyLists.{is_contained, not_contained, key_number_last, key_number_within}
 use Rattle.ext_plain.specs.ValueStates.{ValueState, after_act, keep_value, next_number, reply_to, value_of, with_number}
 use Rattle.ext_one_report.proofs.MatchingWords.{Places, plain_slot}
 use Rattle.ext_one_report.proofs.Matching.{draw_slots, one_of_place, place_stays, plain_none, plain_there, there_more, values_known}
@@ -82,7 +82,7 @@ slot_named s first context key new clear =
       | inr none ↦ elim (bools (is_there (s.keys ++ first ∷ []) key)) [
         | inl now ↦
             let same : first ≡ key = contains_fewer s.keys key first (is_contained (s.keys ++ first ∷ []) key now) (not_contained s.keys key none) in
-            let last : place_of_key (s.keys ++ first ∷ []) key ≡ length s.keys = subst (λ k. place_of_key (s.keys ++ first ∷ []) k ≡ length s.keys) same (place_last s.keys first new) in
+            let last : number_of_key (s.keys ++ first ∷ []) key ≡ length s.keys = subst (λ k. number_of_key (s.keys ++ first ∷ []) k ≡ length s.keys) same (key_number_last s.keys first new) in
             plain_there (with_number first s) context key now ∙ (ap (λ n. s.store.slots (context, n)) last ∙ (clear (length s.keys) (omega arith) ∙ sym (plain_none s context key none)))
         | inr still ↦ plain_none (with_number first s) context key still ∙ sym (plain_none s context key none)
       ]
@@ -160,25 +160,25 @@ acts_kept place value s t acts = record {
 -- ---- what acts leave
 
 -- of two states whose keys and slots agree there
-slot_same : (s t : ValueState) (context : ℕ) (key : KeyValue) → t.keys ≡ s.keys → (is_there s.keys key ≡ true → t.store.slots (context, place_of_key s.keys key) ≡ s.store.slots (context, place_of_key s.keys key))
+slot_same : (s t : ValueState) (context : ℕ) (key : KeyValue) → t.keys ≡ s.keys → (is_there s.keys key ≡ true → t.store.slots (context, number_of_key s.keys key) ≡ s.store.slots (context, number_of_key s.keys key))
     → plain_slot t context key ≡ plain_slot s context key
 slot_same s t context key keys same =
-    ap (λ ks. if is_there ks key then t.store.slots (context, place_of_key ks key) else None) keys
+    ap (λ ks. if is_there ks key then t.store.slots (context, number_of_key ks key) else None) keys
     ∙ elim (bools (is_there s.keys key)) [
-      | inl there ↦ ap (λ b. if b then t.store.slots (context, place_of_key s.keys key) else None) there ∙ (same there ∙ sym (plain_there s context key there))
-      | inr none ↦ ap (λ b. if b then t.store.slots (context, place_of_key s.keys key) else None) none ∙ sym (plain_none s context key none)
+      | inl there ↦ ap (λ b. if b then t.store.slots (context, number_of_key s.keys key) else None) there ∙ (same there ∙ sym (plain_there s context key there))
+      | inr none ↦ ap (λ b. if b then t.store.slots (context, number_of_key s.keys key) else None) none ∙ sym (plain_none s context key none)
     ]
 
 same_length : (keys others : List KeyValue) (number : ℕ) → others ≡ keys → length others ≤ number → length keys ≤ number
 same_length keys others number is past = subst (λ ks. length ks ≤ number) is past
 
 -- acts at the place of a key that has its number
-pub leaves_acts : (changes : Places) (closes : ℕ → Bool) (at number : ℕ) (key : KeyValue) (s t : ValueState) → is_there s.keys key ≡ true → number ≡ place_of_key s.keys key → changes at key ≡ true
+pub leaves_acts : (changes : Places) (closes : ℕ → Bool) (at number : ℕ) (key : KeyValue) (s t : ValueState) → is_there s.keys key ≡ true → number ≡ number_of_key s.keys key → changes at key ≡ true
     → ActsAt (at, number) s t → LeavesElse changes closes s t
 leaves_acts changes closes at number key s t there is may acts = record {
   slots = λ context other none still clear. slot_same s t context other acts.keys
-      (λ also. acts.slots (context, place_of_key s.keys other) (not_so (same_place (at, number) (context, place_of_key s.keys other)) (λ same.
-      let one = same_place_is (at, number) (context, place_of_key s.keys other) same in
+      (λ also. acts.slots (context, number_of_key s.keys other) (not_so (same_place (at, number) (context, number_of_key s.keys other)) (λ same.
+      let one = same_place_is (at, number) (context, number_of_key s.keys other) same in
       let k : key ≡ other = one_of_place s.keys key other there also (sym is ∙ ap (λ (p : Place). p.1) one) in
       true≢false (sym may ∙ (ap (λ c. changes c key) (ap (λ (p : Place). p.0) one) ∙ (ap (changes context) k ∙ none))))));
   values = acts.values;
@@ -187,7 +187,7 @@ leaves_acts changes closes at number key s t there is may acts = record {
       let past_all = same_length s.keys t.keys past_it acts.keys past in
       acts.slots (context, past_it) (not_so (same_place (at, number) (context, past_it)) (λ same.
       let one : number ≡ past_it = ap (λ (p : Place). p.1) (same_place_is (at, number) (context, past_it) same) in
-      let within = place_within s.keys key there in
+      let within = key_number_within s.keys key there in
       absurd (omega (arith, one, within, is, past_all))))
       ∙ clear past_it past_all;
   keeps = acts.keeps;
@@ -198,7 +198,7 @@ leaves_acts changes closes at number key s t there is may acts = record {
 pub leaves_closed : (node number : ℕ) (s t : ValueState) → ActsAt (node, number) s t → (changes : Places) (closes : ℕ → Bool) → closes node ≡ true → LeavesElse changes closes s t
 leaves_closed node number s t acts changes closes closed = record {
   slots = λ context other none still clear. slot_same s t context other acts.keys
-      (λ also. acts.slots (context, place_of_key s.keys other) (elsewhere context (place_of_key s.keys other) still));
+      (λ also. acts.slots (context, number_of_key s.keys other) (elsewhere context (number_of_key s.keys other) still));
   values = acts.values;
   drawn = acts.drawn;
   stays_open = λ context still clear. λ past_it past. acts.slots (context, past_it) (elsewhere context past_it still) ∙ clear past_it (same_length s.keys t.keys past_it acts.keys past);
@@ -216,7 +216,7 @@ pub leaves_kept : (changes : Places) (closes : ℕ → Bool) (value : ValueText)
 leaves_kept changes closes value s =
     let drawn : (place : Place) → (keep_value value s).store.slots place ≡ s.store.slots place =
     draw_slots (plain_reply s.numbers s.store any_lane (next_number s)) s.store any_lane (s.store.drawn + 1) in record {
-      slots = λ context key none still clear. slot_same s (keep_value value s) context key refl (λ there. drawn (context, place_of_key s.keys key));
+      slots = λ context key none still clear. slot_same s (keep_value value s) context key refl (λ there. drawn (context, number_of_key s.keys key));
       values = λ number v is. (values_known s.values (value ∷ [])).values number v is;
       drawn = reply_drawn (reply_to (next_number s) s) s.store (next_number s);
       stays_open = λ context still clear. λ number past. drawn (context, number) ∙ clear number past;

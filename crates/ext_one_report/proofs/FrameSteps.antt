@@ -18,9 +18,9 @@ use Rattle.ext_plan.specs.PlanCalls.{steps_of_call}
 use Rattle.ext_plan.specs.ReadPlans.{ids_of_nodes}
 use Rattle.ext_plan.specs.StepWords.{word_text}
 use Rattle.ext_plan.specs.StepCalls.{CallText, call_of, start_of}
-use Rattle.ext_plan.specs.StoreKeys.{is_there, key_of_step, place_of_key}
+use Rattle.ext_plan.specs.StoreKeys.{is_there, key_of_step, number_of_key}
 use Rattle.ext_plan.specs.Values.{ValueText}
-use Rattle.ext_plan.proofs.KeyLists.{place_last}
+use Rattle.ext_plan.proofs.KeyLists.{key_number_last}
 use Rattle.ext_races.specs.MadeSteps.{calls_of}
 use Rattle.ext_races.proofs.Lists.{contains_first, contains_later}
 use Rattle.ext_plain.specs.ValueStates.{Numbering, ValueState, after_act, enough, full, keep_value, known, next, next_number, numbering_of, why_refused, with_number}
@@ -97,13 +97,13 @@ module _ (changes : Places) where
 
   -- the key has its number, or gets it, and the step goes on
   number_leaves : (name label : List ℕ) (key : KeyValue) (goes : ℕ → ValueState → StepEnd) (s : ValueState) (numbering : Numbering) → numbering_of s.places s.keys key ≡ numbering
-      → ((number : ℕ) (t : ValueState) → is_there t.keys key ≡ true → number ≡ place_of_key t.keys key → Leaves t (goes number t).state) → Leaves s (number_by enough name label key goes s numbering).state
+      → ((number : ℕ) (t : ValueState) → is_there t.keys key ≡ true → number ≡ number_of_key t.keys key → Leaves t (goes number t).state) → Leaves s (number_by enough name label key goes s numbering).state
   number_leaves name label key goes s (known number) is each = let has = known_is s.places s.keys key number is in each number s has.there has.place
   number_leaves name label key goes s (next number) is each =
       let new = next_is s.places s.keys key number is in
       let t = with_number key s in
       leaves_then changes no_context s t (goes number t).state (leaves_named changes no_context key s new.there)
-      (each number t (there_then s.keys key new.there) (new.place ∙ sym (place_last s.keys key new.there)))
+      (each number t (there_then s.keys key new.there) (new.place ∙ sym (key_number_last s.keys key new.there)))
   number_leaves name label key goes s full is each = leaves_itself changes no_context s
 
   put_leaves : (call : CallText) (value : ValueText) (s : ValueState) → changes (start_of call.path) call.key ≡ true → Leaves s (put_by enough call.name call.label (start_of call.path) call.key value s).state

@@ -21,9 +21,9 @@ use Rattle.ext_plan.specs.Plans.{KeyText, PlanText, StepKeyText, StepText, abort
 use Rattle.ext_plan.specs.ReadPlans.{NodesAreTree, ids_of_nodes}
 use Rattle.ext_plan.specs.StepCalls.{label_of, start_of}
 use Rattle.ext_plan.specs.StepWords.{gives_value, word_text}
-use Rattle.ext_plan.specs.StoreKeys.{is_there, key_of_step, place_of_key}
+use Rattle.ext_plan.specs.StoreKeys.{is_there, key_of_step, number_of_key}
 use Rattle.ext_plan.specs.Values.{ValueText}
-use Rattle.ext_plan.proofs.KeyLists.{place_last}
+use Rattle.ext_plan.proofs.KeyLists.{key_number_last}
 use Rattle.ext_races.specs.Acts.{ActText}
 use Rattle.ext_races.specs.MadeSteps.{MadeText, calls_after, calls_before, calls_of, made_after, made_by, made_in_turn, made_of_node, parent_in, path_from, plan_path, steps_before, steps_made}
 use Rattle.ext_races.specs.MadeSteps as made_steps
@@ -72,7 +72,7 @@ module _ (key : KeyValue) (name label path : List ℕ) (value : ValueText) where
   -- once its key has its number
   module _ (s : ValueState) (there : is_there s.keys key ≡ true) where
     abbrev its_number : ℕ
-    its_number = place_of_key s.keys key
+    its_number = number_of_key s.keys key
 
     abbrev its_place : Place
     its_place = (start_of path, its_number)
@@ -106,7 +106,7 @@ module _ (key : KeyValue) (name label path : List ℕ) (value : ValueText) where
   value_left : (s : ValueState) → (let end = numbered_by enough name label key (compute_numbered enough name label path value) s in is_successful end.verdict ≡ true → Left key path end.state)
   value_left s = by_number s (numbering_of s.places s.keys key) refl
     where
-      by_place : (t : ValueState) (number : ℕ) → is_there t.keys key ≡ true → number ≡ place_of_key t.keys key → is_successful (compute_numbered enough name label path value number t).verdict ≡ true
+      by_place : (t : ValueState) (number : ℕ) → is_there t.keys key ≡ true → number ≡ number_of_key t.keys key → is_successful (compute_numbered enough name label path value number t).verdict ≡ true
           → Left key path (compute_numbered enough name label path value number t).state
       by_place t number there is = subst (λ n. is_successful (compute_numbered enough name label path value n t).verdict ≡ true → Left key path (compute_numbered enough name label path value n t).state) (sym is) (numbered_left t there)
 
@@ -115,7 +115,7 @@ module _ (key : KeyValue) (name label path : List ℕ) (value : ValueText) where
       by_number t (known number) is = let has = known_is t.places t.keys key number is in by_place t number has.there has.place
       by_number t (next number) is =
           let new = next_is t.places t.keys key number is in
-          by_place (with_number key t) number (there_then t.keys key new.there) (new.place ∙ sym (place_last t.keys key new.there))
+          by_place (with_number key t) number (there_then t.keys key new.there) (new.place ∙ sym (key_number_last t.keys key new.there))
       by_number t full is = λ good. absurd (cc good)
 
 module _ (declared : List KeyText) (path : List ℕ) where

@@ -24,10 +24,10 @@ use Rattle.ext_plan.specs.declared.word.Word.TheVariants as words
 use Rattle.ext_plan.specs.Plans.{KeyText, StepKeyText, StepText, abort, fail, keyed}
 use Rattle.ext_plan.specs.StepCalls.{CallText, call_of, is_made, start_of}
 use Rattle.ext_plan.specs.StepWords.{word_text}
-use Rattle.ext_plan.specs.StoreKeys.{is_there, key_of_step, place_of_key}
+use Rattle.ext_plan.specs.StoreKeys.{is_there, key_of_step, number_of_key}
 use Rattle.ext_plan.specs.Values.{ValueText}
 use Rattle.ext_plan.specs.Verdicts.{none_verdict, want_verdict}
-use Rattle.ext_plan.proofs.KeyLists.{place_last}
+use Rattle.ext_plan.proofs.KeyLists.{key_number_last}
 use Rattle.ext_races.specs.Acts.{act_of}
 use Rattle.ext_races.specs.Touches.{removes_key}
 use Rattle.ext_plain.specs.ValueStates.{Memory, Numbering, ValueState, after_act, enough, found_later, full, keep_value, known, next, next_found, next_number, no_key, no_number, no_place, no_value, no_words, numbering_of, reply_to, why_refused, with_number}
@@ -71,34 +71,34 @@ module _ (key : KeyValue) where
   pub keeps_then : (s t u : ValueState) → Keeps key s t → Keeps key t u → Keeps key s u
   keeps_then s t u first second = λ context some. second context (first context some)
 
-  slots_keep : (s t : ValueState) → t.keys ≡ s.keys → ((context : ℕ) → is_there s.keys key ≡ true → is_some (s.store.slots (context, place_of_key s.keys key)) ≡ true → is_some (t.store.slots (context, place_of_key s.keys key)) ≡ true)
+  slots_keep : (s t : ValueState) → t.keys ≡ s.keys → ((context : ℕ) → is_there s.keys key ≡ true → is_some (s.store.slots (context, number_of_key s.keys key)) ≡ true → is_some (t.store.slots (context, number_of_key s.keys key)) ≡ true)
       → Keeps key s t
   slots_keep s t keys each = λ context some.
       let there = some_there s context key some in
-      let stood : is_some (s.store.slots (context, place_of_key s.keys key)) ≡ true = ap is_some (sym (plain_there s context key there)) ∙ some in
-      let now : plain_slot t context key ≡ t.store.slots (context, place_of_key t.keys key) = plain_there t context key (ap (λ ks. is_there ks key) keys ∙ there) in
-      ap is_some now ∙ (ap (λ ks. is_some (t.store.slots (context, place_of_key ks key))) keys ∙ each context there stood)
+      let stood : is_some (s.store.slots (context, number_of_key s.keys key)) ≡ true = ap is_some (sym (plain_there s context key there)) ∙ some in
+      let now : plain_slot t context key ≡ t.store.slots (context, number_of_key t.keys key) = plain_there t context key (ap (λ ks. is_there ks key) keys ∙ there) in
+      ap is_some now ∙ (ap (λ ks. is_some (t.store.slots (context, number_of_key ks key))) keys ∙ each context there stood)
 
   act_keeps : (act : Act Place) (s : ValueState) → FillsStill act → Keeps key s (after_act act s)
-  act_keeps act s fills = slots_keep s (after_act act s) refl (λ context there some. some_by (reply_to act s) s.store act (context, place_of_key s.keys key) fills some)
+  act_keeps act s fills = slots_keep s (after_act act s) refl (λ context there some. some_by (reply_to act s) s.store act (context, number_of_key s.keys key) fills some)
 
   value_keeps : (value : ValueText) (s : ValueState) → Keeps key s (keep_value value s)
-  value_keeps value s = slots_keep s (keep_value value s) refl (λ context there some. some_by (reply_to (next_number s) s) s.store (next_number s) (context, place_of_key s.keys key) (λ x is. is) some)
+  value_keeps value s = slots_keep s (keep_value value s) refl (λ context there some. some_by (reply_to (next_number s) s) s.store (next_number s) (context, number_of_key s.keys key) (λ x is. is) some)
 
   -- a claim that is given up
   undone_keeps : (place : Place) (s : ValueState) → why_refused (Claim place) s ≡ None → Keeps key s (after_act (Abandon place) (after_act (Claim place) s))
   undone_keeps place s won =
       let same = abandon_undoes_claim s.numbers s.store any_lane place (was_empty (s.store.slots place) won) in
-      slots_keep s (after_act (Abandon place) (after_act (Claim place) s)) refl (λ context there some. ap (λ (st : State Place). is_some (st.slots (context, place_of_key s.keys key))) same ∙ some)
+      slots_keep s (after_act (Abandon place) (after_act (Claim place) s)) refl (λ context there some. ap (λ (st : State Place). is_some (st.slots (context, number_of_key s.keys key))) same ∙ some)
 
   -- another key is removed
-  remove_keeps : (context number : ℕ) (other : KeyValue) (s : ValueState) → is_there s.keys other ≡ true → number ≡ place_of_key s.keys other → key_eq other key ≡ false → Keeps key s (after_act (Remove (context, number)) s)
-  remove_keeps context number other s also is differ = slots_keep s (after_act (Remove (context, number)) s) refl (λ at there some. ap is_some (others_stay s.numbers s.store any_lane (Remove (context, number)) (at, place_of_key s.keys key) (apart at there)) ∙ some)
+  remove_keeps : (context number : ℕ) (other : KeyValue) (s : ValueState) → is_there s.keys other ≡ true → number ≡ number_of_key s.keys other → key_eq other key ≡ false → Keeps key s (after_act (Remove (context, number)) s)
+  remove_keeps context number other s also is differ = slots_keep s (after_act (Remove (context, number)) s) refl (λ at there some. ap is_some (others_stay s.numbers s.store any_lane (Remove (context, number)) (at, number_of_key s.keys key) (apart at there)) ∙ some)
     where
-      apart : (at : ℕ) → is_there s.keys key ≡ true → same_place (context, number) (at, place_of_key s.keys key) ≡ false
-      apart at there = elim (bools (same_place (context, number) (at, place_of_key s.keys key))) [
+      apart : (at : ℕ) → is_there s.keys key ≡ true → same_place (context, number) (at, number_of_key s.keys key) ≡ false
+      apart at there = elim (bools (same_place (context, number) (at, number_of_key s.keys key))) [
         | inl same ↦
-            let one : number ≡ place_of_key s.keys key = ap (λ (p : Place). p.1) (same_place_is (context, number) (at, place_of_key s.keys key) same) in
+            let one : number ≡ number_of_key s.keys key = ap (λ (p : Place). p.1) (same_place_is (context, number) (at, number_of_key s.keys key) same) in
             absurd (true≢false (sym ((keys_Decides other key).1 (one_of_place s.keys other key also there (sym is ∙ one))) ∙ differ))
         | inr off ↦ off
       ]
@@ -225,13 +225,13 @@ module _ (key : KeyValue) (s : ValueState) where
     fail_by_kept no_words name label text found = fail_kept name label text found
 
   number_kept : (found : Memory) (name label : List ℕ) (other : KeyValue) (goes : ℕ → ValueState → StepEnd) (numbering : Numbering) → numbering_of s.places s.keys other ≡ numbering
-      → ((number : ℕ) (t : ValueState) → is_there t.keys other ≡ true → number ≡ place_of_key t.keys other → Keeps key t (goes number t).state) → Kept (number_by found name label other goes s numbering)
+      → ((number : ℕ) (t : ValueState) → is_there t.keys other ≡ true → number ≡ number_of_key t.keys other → Keeps key t (goes number t).state) → Kept (number_by found name label other goes s numbering)
   number_kept found name label other goes (known number) is each = let has = known_is s.places s.keys other number is in each number s has.there has.place
   number_kept found name label other goes (next number) is each =
       let new = next_is s.places s.keys other number is in
       let t = with_number other s in
       either_kept (lacks_number found) (ended no_memory s) (goes number t) itself
-      (keeps_then key s t (goes number t).state (named_keeps key other s) (each number t (there_then s.keys other new.there) (new.place ∙ sym (place_last s.keys other new.there))))
+      (keeps_then key s t (goes number t).state (named_keeps key other s) (each number t (there_then s.keys other new.there) (new.place ∙ sym (key_number_last s.keys other new.there))))
   number_kept found name label other goes full is each = said_kept found _ itself
 
   refused_kept : (found : Memory) (name label : List ℕ) (why : Option Reason) (goes : StepEnd) → Kept goes → Kept (kept_or_refused found name label why s goes)
@@ -248,7 +248,7 @@ module _ (key : KeyValue) (s : ValueState) where
 
   -- once its key has its number
   acts_kept : (declared : List KeyText) (found : Memory) (word : Word) (key_text : StepKeyText) (call : CallText) (text : List ℕ) (up number : ℕ) → call.key ≡ key_of_step declared key_text → removes_key declared key (act_of (keyed word key_text text up)) ≡ false
-      → is_there s.keys call.key ≡ true → number ≡ place_of_key s.keys call.key → Kept (acts_by found word call text number s)
+      → is_there s.keys call.key ≡ true → number ≡ number_of_key s.keys call.key → Kept (acts_by found word call text number s)
   acts_kept declared found words.Put key_text call text up number same spares there is = put_kept_so found call.name call.label (start_of call.path, number)
   acts_kept declared found words.PutCloseable key_text call text up number same spares there is = put_kept_so found call.name call.label (start_of call.path, number)
   acts_kept declared found words.Want key_text call text up number same spares there is = said_kept found (ended (want_verdict call.name call.label text (seen_by s.values (found_along number call.path s))) s) itself

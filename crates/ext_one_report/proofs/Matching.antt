@@ -17,9 +17,9 @@ use Rattle.ext_tree.specs.Keys.{KeyValue, key_at}
 use Rattle.ext_tree.specs.Traits.{key_eq}
 use Rattle.ext_tree.proofs.Equalities.{keys_Decides}
 use Rattle.ext_tree.proofs.KeyPlacing.{key_within, length-places, one_key, one_number}
-use Rattle.ext_plan.specs.StoreKeys.{is_there, place_of_key}
+use Rattle.ext_plan.specs.StoreKeys.{is_there, number_of_key}
 use Rattle.ext_plan.specs.Values.{ValueText}
-use Rattle.ext_plan.proofs.KeyLists.{has_place, is_contained, not_contained, place_last, place_within}
+use Rattle.ext_plan.proofs.KeyLists.{has_key_number, is_contained, not_contained, key_number_last, key_number_within}
 use Rattle.ext_plain.specs.ValueStates.{ValueState, keep_value, next_number, value_of, value_opening, with_number}
 use Rattle.ext_plain.proofs.Numberings.{there_by}
 use Rattle.ext_one_report.proofs.StandingsWords.{Meaning, AreMatched, KnowsMore, nothing}
@@ -37,13 +37,13 @@ behind first key keys other there =
     ]
 
 -- a place stays when further keys get theirs
-pub place_stays : (keys more : List KeyValue) (key : KeyValue) → is_there keys key ≡ true → place_of_key (keys ++ more) key ≡ place_of_key keys key
+pub place_stays : (keys more : List KeyValue) (key : KeyValue) → is_there keys key ≡ true → number_of_key (keys ++ more) key ≡ number_of_key keys key
 place_stays [] more key there = absurd (cc there)
 place_stays (first ∷ keys) more key there =
     elim (bools (key_eq first key)) [
-      | inl same ↦ ap (λ b. if b then zero else suc (place_of_key (keys ++ more) key)) same ∙ sym (ap (λ b. if b then zero else suc (place_of_key keys key)) same)
-      | inr other ↦ ap (λ b. if b then zero else suc (place_of_key (keys ++ more) key)) other
-          ∙ (ap suc (place_stays keys more key (behind first key keys other there)) ∙ sym (ap (λ b. if b then zero else suc (place_of_key keys key)) other))
+      | inl same ↦ ap (λ b. if b then zero else suc (number_of_key (keys ++ more) key)) same ∙ sym (ap (λ b. if b then zero else suc (number_of_key keys key)) same)
+      | inr other ↦ ap (λ b. if b then zero else suc (number_of_key (keys ++ more) key)) other
+          ∙ (ap suc (place_stays keys more key (behind first key keys other there)) ∙ sym (ap (λ b. if b then zero else suc (number_of_key keys key)) other))
     ]
 
 contains_more : (keys : List KeyValue) (key last : KeyValue) → Contains keys key → Contains (keys ++ last ∷ []) key
@@ -69,17 +69,17 @@ pub there_more : (keys : List KeyValue) (key last : KeyValue) → is_there keys 
 there_more keys key last there = there_by (keys ++ last ∷ []) key (is_there (keys ++ last ∷ []) key) refl (contains_more keys key last (is_contained keys key there))
 
 -- keys with one place are one
-pub one_of_place : (keys : List KeyValue) (a b : KeyValue) → is_there keys a ≡ true → is_there keys b ≡ true → place_of_key keys a ≡ place_of_key keys b → a ≡ b
+pub one_of_place : (keys : List KeyValue) (a b : KeyValue) → is_there keys a ≡ true → is_there keys b ≡ true → number_of_key keys a ≡ number_of_key keys b → a ≡ b
 one_of_place keys a b there also same =
-    let e : Some a ≡ Some b = sym (has_place keys a there) ∙ (ap (slice_get keys) same ∙ has_place keys b also) in cc e
+    let e : Some a ≡ Some b = sym (has_key_number keys a there) ∙ (ap (slice_get keys) same ∙ has_key_number keys b also) in cc e
 
 -- ---- what stands in a plain run
 
-pub plain_there : (s : ValueState) (context : ℕ) (key : KeyValue) → is_there s.keys key ≡ true → plain_slot s context key ≡ s.store.slots (context, place_of_key s.keys key)
-plain_there s context key there = ap (λ b. if b then s.store.slots (context, place_of_key s.keys key) else None) there
+pub plain_there : (s : ValueState) (context : ℕ) (key : KeyValue) → is_there s.keys key ≡ true → plain_slot s context key ≡ s.store.slots (context, number_of_key s.keys key)
+plain_there s context key there = ap (λ b. if b then s.store.slots (context, number_of_key s.keys key) else None) there
 
 pub plain_none : (s : ValueState) (context : ℕ) (key : KeyValue) → is_there s.keys key ≡ false → plain_slot s context key ≡ None
-plain_none s context key none = ap (λ b. if b then s.store.slots (context, place_of_key s.keys key) else None) none
+plain_none s context key none = ap (λ b. if b then s.store.slots (context, number_of_key s.keys key) else None) none
 
 -- a key that gets its number changes nothing that stands
 slot_numbered : (places : Places) (s : ValueState) (first : KeyValue) (context : ℕ) (key : KeyValue) → places context key ≡ true → is_there s.keys first ≡ false → IsNumbered places s → plain_slot (with_number first s) context key ≡ plain_slot s context key
@@ -93,7 +93,7 @@ slot_numbered places s first context key is new numbered =
               | inl one ↦ one
               | inr before ↦ absurd (not_contained s.keys key none before)
             ] in
-            let last : place_of_key (s.keys ++ first ∷ []) key ≡ length s.keys = subst (λ k. place_of_key (s.keys ++ first ∷ []) k ≡ length s.keys) same (place_last s.keys first new) in
+            let last : number_of_key (s.keys ++ first ∷ []) key ≡ length s.keys = subst (λ k. number_of_key (s.keys ++ first ∷ []) k ≡ length s.keys) same (key_number_last s.keys first new) in
             plain_there (with_number first s) context key now
             ∙ (ap (λ n. s.store.slots (context, n)) last ∙ (numbered.beyond context key (length s.keys) is (omega arith) ∙ sym (plain_none s context key none)))
         | inr still ↦ plain_none (with_number first s) context key still ∙ sym (plain_none s context key none)
@@ -149,7 +149,7 @@ draw_slots (Refuses why) s lane number place = refl
 
 pub kept_slot : (value : ValueText) (s : ValueState) (context : ℕ) (key : KeyValue) → plain_slot (keep_value value s) context key ≡ plain_slot s context key
 kept_slot value s context key =
-    ap (λ x. if is_there s.keys key then x else None) (draw_slots (plain_reply s.numbers s.store any_lane (next_number s)) s.store any_lane (s.store.drawn + 1) (context, place_of_key s.keys key))
+    ap (λ x. if is_there s.keys key then x else None) (draw_slots (plain_reply s.numbers s.store any_lane (next_number s)) s.store any_lane (s.store.drawn + 1) (context, number_of_key s.keys key))
 
 pub values_keep_matches : (run : RunView) (places : Places) (h : History) (value : ValueText) (s : ValueState) → Matches run places h s → Matches run places h (keep_value value s)
 values_keep_matches run places h value s matches = record {
@@ -237,7 +237,7 @@ module _ (run : RunView) (places : Places) (h : History) (s : ValueState) (lane 
   on_cell : (cell : ℕ) → is_on nat_eq cell act ≡ nat_eq (cell_of run equal.number equal.context) cell
   on_cell cell = ap (is_at nat_eq cell) equal.at_cell
 
-  on_place : (place : Place) → is_on same_place place act' ≡ same_place (equal.context, place_of_key s.keys equal.key) place
+  on_place : (place : Place) → is_on same_place place act' ≡ same_place (equal.context, number_of_key s.keys equal.key) place
   on_place place = ap (is_at same_place place) equal.at_place
 
   -- at the place of the events
@@ -246,9 +246,9 @@ module _ (run : RunView) (places : Places) (h : History) (s : ValueState) (lane 
   event_there context key number is has on =
       let apart = cells_apart run equal.context context equal.key key equal.number number view equal.numbered has (test_is _ _ on) in
       let there : is_there s.keys key ≡ true = subst (λ k. is_there s.keys k ≡ true) apart.1 equal.there in
-      let place : Place = (context, place_of_key s.keys key) in
-      let same : same_place (equal.context, place_of_key s.keys equal.key) place ≡ true =
-      subst (λ (p : Place). same_place p place ≡ true) (λ i. (sym apart.0 i, place_of_key s.keys (sym apart.1 i))) (here place) in
+      let place : Place = (context, number_of_key s.keys key) in
+      let same : same_place (equal.context, number_of_key s.keys equal.key) place ≡ true =
+      subst (λ (p : Place). same_place p place ≡ true) (λ i. (sym apart.0 i, number_of_key s.keys (sym apart.1 i))) (here place) in
       let before = matches.slots context key number is has in
       let before' : AreMatched run.meaning (plain_meaning s.values) ((state_after h).slots (cell_of run number context)) (s.store.slots place) =
       subst (λ x. AreMatched run.meaning (plain_meaning s.values) (slots_in (cell_of run number) h context) x) (plain_there s context key there) before in
@@ -261,14 +261,14 @@ module _ (run : RunView) (places : Places) (h : History) (s : ValueState) (lane 
   event_not_there : (context : ℕ) (key : KeyValue) (number : ℕ) → places context key ≡ true → HasNumberIn run key number → nat_eq (cell_of run equal.number equal.context) (cell_of run number context) ≡ false
       → AreMatched run.meaning (plain_meaning s.values) (slots_in (cell_of run number) (h ++ by lane act ∷ []) context) (plain_slot (after_event other act' s) context key)
   event_not_there context key number is has off =
-      let place : Place = (context, place_of_key s.keys key) in
+      let place : Place = (context, number_of_key s.keys key) in
       let stays : plain_slot (after_event other act' s) context key ≡ plain_slot s context key =
       elim (bools (is_there s.keys key)) [
         | inr none ↦ plain_none (after_event other act' s) context key none ∙ sym (plain_none s context key none)
-        | inl there ↦ elim (bools (same_place (equal.context, place_of_key s.keys equal.key) place)) [
+        | inl there ↦ elim (bools (same_place (equal.context, number_of_key s.keys equal.key) place)) [
           | inr apart ↦ plain_there (after_event other act' s) context key there ∙ (place_then s.store other act' place false (on_place place ∙ apart) ∙ sym (plain_there s context key there))
           | inl same ↦
-              let one : (equal.context, place_of_key s.keys equal.key) ≡ place = same_place_is (equal.context, place_of_key s.keys equal.key) place same in
+              let one : (equal.context, number_of_key s.keys equal.key) ≡ place = same_place_is (equal.context, number_of_key s.keys equal.key) place same in
               let key_is : equal.key ≡ key = one_of_place s.keys equal.key key equal.there there (ap (λ (p : Place). p.1) one) in
               let number_is : equal.number ≡ number = one_number run.numbering run.numbering (one_key run.numbering) key equal.number number (subst (λ k. HasNumberIn run k equal.number) key_is equal.numbered) has in
               let cell_is : cell_of run equal.number equal.context ≡ cell_of run number context = λ i. cell_of run (number_is i) ((one i).0) in
@@ -281,15 +281,15 @@ module _ (run : RunView) (places : Places) (h : History) (s : ValueState) (lane 
   -- a key without a number has nothing still
   unnumbered_then : (context : ℕ) (key : KeyValue) → places context key ≡ true → ((number : ℕ) → ¬ HasNumberIn run key number) → plain_slot (after_event other act' s) context key ≡ None
   unnumbered_then context key is none =
-      let place : Place = (context, place_of_key s.keys key) in
+      let place : Place = (context, number_of_key s.keys key) in
       elim (bools (is_there s.keys key)) [
         | inr absent ↦ plain_none (after_event other act' s) context key absent
-        | inl there ↦ elim (bools (same_place (equal.context, place_of_key s.keys equal.key) place)) [
+        | inl there ↦ elim (bools (same_place (equal.context, number_of_key s.keys equal.key) place)) [
           | inr apart ↦
               plain_there (after_event other act' s) context key there
               ∙ (place_then s.store other act' place false (on_place place ∙ apart) ∙ (sym (plain_there s context key there) ∙ matches.unnumbered context key is none))
           | inl same ↦
-              let one : (equal.context, place_of_key s.keys equal.key) ≡ place = same_place_is (equal.context, place_of_key s.keys equal.key) place same in
+              let one : (equal.context, number_of_key s.keys equal.key) ≡ place = same_place_is (equal.context, number_of_key s.keys equal.key) place same in
               let key_is : equal.key ≡ key = one_of_place s.keys equal.key key equal.there there (ap (λ (p : Place). p.1) one) in
               absurd (none equal.number (subst (λ k. HasNumberIn run k equal.number) key_is equal.numbered))
         ]
@@ -316,20 +316,20 @@ drawn_stays (Abandon place) at drawn is = refl
 drawn_stays (Seal place) at drawn is = refl
 
 -- an event at the place of a key that has its number keeps the state numbered
-pub event_keeps_numbered : (places : Places) (s : ValueState) (lane : ℕ) (act : Act Place) (context : ℕ) (key : KeyValue) → is_there s.keys key ≡ true → place_of act ≡ Some (context, place_of_key s.keys key)
+pub event_keeps_numbered : (places : Places) (s : ValueState) (lane : ℕ) (act : Act Place) (context : ℕ) (key : KeyValue) → is_there s.keys key ≡ true → place_of act ≡ Some (context, number_of_key s.keys key)
     → IsNumbered places s → IsNumbered places (after_event lane act s)
 event_keeps_numbered places s lane act at_context key there at_place numbered = record {
   beyond = λ context its number is past.
-      let at : Place = (at_context, place_of_key s.keys key) in
+      let at : Place = (at_context, number_of_key s.keys key) in
       let place : Place = (context, number) in
       elim (bools (same_place at place)) [
         | inl same ↦
-            let number_is : place_of_key s.keys key ≡ number = ap (λ (p : Place). p.1) (same_place_is at place same) in
-            let less : place_of_key s.keys key < length s.keys = place_within s.keys key there in
+            let number_is : number_of_key s.keys key ≡ number = ap (λ (p : Place). p.1) (same_place_is at place same) in
+            let less : number_of_key s.keys key < length s.keys = key_number_within s.keys key there in
             absurd (omega (arith, number_is, less, past))
         | inr apart ↦ place_then s.store lane act place false (ap (is_at same_place place) at_place ∙ apart) ∙ numbered.beyond context its number is past
       ];
-  drawn = drawn_stays act (at_context, place_of_key s.keys key) s.store.drawn at_place ∙ numbered.drawn;
+  drawn = drawn_stays act (at_context, number_of_key s.keys key) s.store.drawn at_place ∙ numbered.drawn;
 }
 
 pub equal_events_keep_numbered : (run : RunView) (places : Places) (s : ValueState) (other : ℕ) (act : Act ℕ) (act' : Act Place) → AreEqualEvents run s act act' → IsNumbered places s → IsNumbered places (after_event other act' s)

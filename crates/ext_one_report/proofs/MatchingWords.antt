@@ -5,7 +5,7 @@ use Rattle.std.specs.Prelude.{ℕ, ◌≡◌, ◌≤◌, Bool, true, if◌then�
 use Rattle.ext_model.specs.declared.slot.Slot.{Slot}
 use Rattle.ext_model.specs.History.{History, IsQuiet, slots_in}
 use Rattle.ext_tree.specs.Keys.{KeyValue, KnownPlace, AreKeyNotesOf, IsKeyNumber}
-use Rattle.ext_plan.specs.StoreKeys.{is_there, place_of_key}
+use Rattle.ext_plan.specs.StoreKeys.{is_there, number_of_key}
 use Rattle.ext_plan.specs.Values.{ValueText}
 use Rattle.ext_store.specs.Stores.{StoreView, cell_in}
 use Rattle.ext_plain.specs.ValueStates.{ValueState, value_of}
@@ -50,7 +50,7 @@ plain_meaning values = record { values = λ number. value_of values number; faul
 
 -- what stands in a context under a key: nothing, where the key has no number yet
 abbrev pub plain_slot : ValueState → ℕ → KeyValue → Option Slot
-plain_slot s context key = if is_there s.keys key then s.store.slots (context, place_of_key s.keys key) else None
+plain_slot s context key = if is_there s.keys key then s.store.slots (context, number_of_key s.keys key) else None
 
 -- ---- both
 
@@ -90,5 +90,5 @@ pub record AreEqualEvents (run : RunView) (s : ValueState) (act : Act ℕ) (othe
   pub numbered : HasNumberIn run key number
   pub at_cell : place_of act ≡ Some (cell_of run number context)
   pub there : is_there s.keys key ≡ true
-  pub at_place : place_of other ≡ Some (context, place_of_key s.keys key)
+  pub at_place : place_of other ≡ Some (context, number_of_key s.keys key)
   pub same : DoTheSame run.meaning (plain_meaning s.values) act other

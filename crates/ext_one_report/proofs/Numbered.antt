@@ -5,8 +5,8 @@ use Rattle.std.proofs.lemmas.Bool.Decides.{nat_tests}
 use Rattle.ext_history.proofs.Lists.{bools}
 use Rattle.ext_model.specs.History.{History}
 use Rattle.ext_tree.specs.Keys.{KeyValue}
-use Rattle.ext_plan.specs.StoreKeys.{is_there, place_of_key}
-use Rattle.ext_plan.proofs.KeyLists.{place_last, not_contained}
+use Rattle.ext_plan.specs.StoreKeys.{is_there, number_of_key}
+use Rattle.ext_plan.proofs.KeyLists.{key_number_last, not_contained}
 use Rattle.ext_plain.specs.ValueStates.{ValueState, enough, with_number}
 use Rattle.ext_plain.specs.StepRuns.{StepEnd, number_by, numbered_by}
 use Rattle.ext_plain.proofs.Numberings.{is_known, is_next, there_then}
@@ -19,7 +19,7 @@ use Rattle.ext_one_report.proofs.PlainFrames.{IsOpen, no_context}
 pub record IsNamed (places : Places) (key : KeyValue) (s : ValueState) : Type 0 where
   pub state : ValueState
   pub there : is_there state.keys key ≡ true
-  pub goes : (name label : List ℕ) (goes_on : ℕ → ValueState → StepEnd) → numbered_by enough name label key goes_on s ≡ goes_on (place_of_key state.keys key) state
+  pub goes : (name label : List ℕ) (goes_on : ℕ → ValueState → StepEnd) → numbered_by enough name label key goes_on s ≡ goes_on (number_of_key state.keys key) state
   pub matches : (run : RunView) (h : History) → Matches run places h s → Matches run places h state
   pub numbered : IsNumbered places state
   pub drawn : state.store ≡ s.store
@@ -51,7 +51,7 @@ named places key s room numbered =
         there = there_then s.keys key none;
         goes = λ name label goes_on.
             ap (number_by enough name label key goes_on s) (is_next s.places s.keys key (not_contained s.keys key none) (less_is (length s.keys) s.places (room none)))
-            ∙ ap (λ n. goes_on n (with_number key s)) (sym (place_last s.keys key none));
+            ∙ ap (λ n. goes_on n (with_number key s)) (sym (key_number_last s.keys key none));
         matches = λ run h matches. keys_keep_matches run places h key s none numbered matches;
         numbered = keys_keep_numbered places key s numbered;
         drawn = refl;

@@ -10,7 +10,7 @@ use Rattle.ext_plan.specs.PlanCalls.{steps_of_call}
 use Rattle.ext_plan.specs.ReadPlans.{IsReadPlan, ids_of_nodes}
 use Rattle.ext_plan.specs.StepCalls.{start_of}
 use Rattle.ext_plan.specs.Steps.{height}
-use Rattle.ext_plan.specs.StoreKeys.{key_of_step, place_of_key}
+use Rattle.ext_plan.specs.StoreKeys.{key_of_step, number_of_key}
 use Rattle.ext_plan.specs.Values.{begins_with}
 use Rattle.ext_plan.specs.declared.word.Word.{Word}
 use Rattle.ext_plan.specs.declared.word.Word.TheVariants as words
@@ -61,7 +61,7 @@ module _ (plan : PlanText) (node : ℕ) (path : List ℕ) (read : IsReadPlan pla
   step_leaves call (keyed word key text up) of_node of_call less = λ leaves closes bad there under late.
       let step = keyed word key text up in
       let act : ActText = record { word = word; key = key; text = text; up = up } in
-      let number = place_of_key (keys_named plan) (key_of_step plan.keys key) in
+      let number = number_of_key (keys_named plan) (key_of_step plan.keys key) in
       let all = closeable_all word leaves in
       let low : up < length (plan_path plan node) = subst (λ p. up < length p) (is_plan_path plan node path read is) less in
       let made = start_made plan node act (is_made plan node call step within of_node of_call) all.0 low in

@@ -18,7 +18,7 @@ use Rattle.ext_plan.specs.Plans.{PlanText}
 use Rattle.ext_plan.specs.PlanCalls.{concurrent_of, registered, test_of}
 use Rattle.ext_plan.specs.ReadPlans.{IsReadPlan, ids_of_nodes}
 use Rattle.ext_plan.specs.StepCalls.{start_of}
-use Rattle.ext_plan.specs.StoreKeys.{is_there, place_of_key}
+use Rattle.ext_plan.specs.StoreKeys.{is_there, number_of_key}
 use Rattle.ext_plan.specs.Values.{ValueText}
 use Rattle.ext_plan.proofs.KeyLists.{is_contained}
 use Rattle.ext_races.specs.MadeSteps.{calls_of}
@@ -206,7 +206,7 @@ children_leave_since plan levels node path r children read is parents none h =
 -- ---- at the place of a key
 
 -- a key that had no number is numbered behind those that had
-place_past : (keys more : List KeyValue) (key : KeyValue) → is_there keys key ≡ false → length keys ≤ place_of_key (keys ++ more) key
+place_past : (keys more : List KeyValue) (key : KeyValue) → is_there keys key ≡ false → length keys ≤ number_of_key (keys ++ more) key
 place_past [] more key none = omega arith
 place_past (first ∷ keys) more key none = elim (bools (key_eq first key)) [
   | inl same ↦
@@ -218,7 +218,7 @@ place_past (first ∷ keys) more key none = elim (bools (key_eq first key)) [
         | inr absent ↦ absent
       ] in
       let further = place_past keys more key rest in
-      let is : place_of_key (first ∷ (keys ++ more)) key ≡ suc (place_of_key (keys ++ more) key) = ap (λ b. if b then zero else suc (place_of_key (keys ++ more) key)) other in
+      let is : number_of_key (first ∷ (keys ++ more)) key ≡ suc (number_of_key (keys ++ more) key) = ap (λ b. if b then zero else suc (number_of_key (keys ++ more) key)) other in
       omega (arith, further, is)
 ]
 
@@ -229,15 +229,15 @@ pub left_at : (plan : PlanText) (root : ℕ) (r t : ValueState) → IsLeftBy (le
 left_at plan root r t left context key number value clear stands is fails = elim (bools (is_there t.keys key)) [
   | inr absent ↦ absurd (cc (sym (ap value_in (plain_none t context key absent)) ∙ stands))
   | inl there ↦
-      let raw = place_of_key t.keys key in
+      let raw = number_of_key t.keys key in
       elim (left.from context raw number value (ap value_in (sym (plain_there t context key there)) ∙ stands) is fails.closes fails.bad) [
         | inr new ↦ inr new
         | inl old ↦ elim (bools (is_there r.keys key)) [
           | inl was ↦
-              let stays : raw ≡ place_of_key r.keys key = ap (λ keys. place_of_key keys key) (sym left.keys.1) ∙ place_stays r.keys left.keys.0 key was in
+              let stays : raw ≡ number_of_key r.keys key = ap (λ keys. number_of_key keys key) (sym left.keys.1) ∙ place_stays r.keys left.keys.0 key was in
               inl (ap value_in (plain_there r context key was) ∙ (ap (λ k. value_in (r.store.slots (context, k))) (sym stays) ∙ old.1))
           | inr never ↦
-              let past : length r.keys ≤ raw = subst (λ (keys : List KeyValue). length r.keys ≤ place_of_key keys key) left.keys.1 (place_past r.keys left.keys.0 key never) in
+              let past : length r.keys ≤ raw = subst (λ (keys : List KeyValue). length r.keys ≤ number_of_key keys key) left.keys.1 (place_past r.keys left.keys.0 key never) in
               absurd (cc (sym (ap value_in (clear raw past)) ∙ old.1))
         ]
       ]

@@ -14,10 +14,10 @@ use Rattle.ext_tree.specs.Keys.{KeyValue}
 use Rattle.ext_lifecycle.specs.Endings.{successful}
 use Rattle.ext_plan.specs.Plans.{KeyText, StepKeyText, StepText}
 use Rattle.ext_plan.specs.StepCalls.{label_of, start_of}
-use Rattle.ext_plan.specs.StoreKeys.{is_there, key_of_step, place_of_key}
+use Rattle.ext_plan.specs.StoreKeys.{is_there, key_of_step, number_of_key}
 use Rattle.ext_plan.specs.Values.{ValueText}
 use Rattle.ext_plan.specs.Verdicts.{fail_verdict, none_verdict, seen_fault}
-use Rattle.ext_plan.proofs.KeyLists.{place_last, not_contained}
+use Rattle.ext_plan.proofs.KeyLists.{key_number_last, not_contained}
 use Rattle.ext_plain.specs.ValueStates.{ValueState, enough, value_of, with_number}
 use Rattle.ext_plain.specs.StepRuns.{StepEnd, compute_looked, compute_numbered, computefail_looked, computefail_numbered, ended, factory_failed, factory_gave, found_along, number_by, numbered_by, shown_fault, step_run}
 use Rattle.ext_plain.proofs.Numberings.{is_known, is_next, there_then}
@@ -61,7 +61,7 @@ step_leaves keys path step changes s may memory =
 pub record IsNamedThere (key : KeyValue) (s : ValueState) : Type 0 where
   pub state : ValueState
   pub there : is_there state.keys key ≡ true
-  pub goes : (name label : List ℕ) (goes_on : ℕ → ValueState → StepEnd) → numbered_by enough name label key goes_on s ≡ goes_on (place_of_key state.keys key) state
+  pub goes : (name label : List ℕ) (goes_on : ℕ → ValueState → StepEnd) → numbered_by enough name label key goes_on s ≡ goes_on (number_of_key state.keys key) state
   pub leaves : LeavesElse (λ context other. false) no_context s state
   pub store : state.store ≡ s.store
   pub numbers : state.numbers ≡ s.numbers
@@ -87,7 +87,7 @@ named_there key s room =
         there = there_then s.keys key none;
         goes = λ name label goes_on.
             ap (number_by enough name label key goes_on s) (is_next s.places s.keys key (not_contained s.keys key none) (less_is (length s.keys) s.places (room none)))
-            ∙ ap (λ n. goes_on n (with_number key s)) (sym (place_last s.keys key none));
+            ∙ ap (λ n. goes_on n (with_number key s)) (sym (key_number_last s.keys key none));
         leaves = leaves_named (λ context other. false) no_context key s none;
         store = refl;
         numbers = refl;
@@ -152,17 +152,17 @@ none_there meaning text (Some (slot.Sealed kept)) or_not = absurd or_not
 
 module _ (name label : List ℕ) (context : ℕ) (above : List ℕ) (key : KeyValue) (t : ValueState) (there : is_there t.keys key ≡ true) (left : t.store.drawn < t.numbers)
     (drawn : t.store.drawn ≡ length t.values) (none : All (λ c. plain_slot t c key ≡ None) above) where
-  finds : (x : Option Slot) → plain_slot t context key ≡ x → found_along (place_of_key t.keys key) (context ∷ above) t ≡ look_in context x
-  finds x is = look_first (under t.store (place_of_key t.keys key)) context above (λ i d less. sym (plain_there t _ key there) ∙ none i d less) x (sym (plain_there t context key there) ∙ is)
+  finds : (x : Option Slot) → plain_slot t context key ≡ x → found_along (number_of_key t.keys key) (context ∷ above) t ≡ look_in context x
+  finds x is = look_first (under t.store (number_of_key t.keys key)) context above (λ i d less. sym (plain_there t _ key there) ∙ none i d less) x (sym (plain_there t context key there) ∙ is)
 
-  empty_there : plain_slot t context key ≡ None → t.store.slots (context, place_of_key t.keys key) ≡ None
+  empty_there : plain_slot t context key ≡ None → t.store.slots (context, number_of_key t.keys key) ≡ None
   empty_there is = sym (plain_there t context key there) ∙ is
 
   -- ---- of a value
 
   module _ (v : ValueText) where
     abbrev value_end : StepEnd
-    value_end = compute_looked name label (context, place_of_key t.keys key) v t (found_along (place_of_key t.keys key) (context ∷ above) t)
+    value_end = compute_looked name label (context, number_of_key t.keys key) v t (found_along (number_of_key t.keys key) (context ∷ above) t)
 
     -- nothing stood there, and the value is computed
     computes : plain_slot t context key ≡ None → PlainEnds context key (of_value v) None value_end
@@ -171,8 +171,8 @@ module _ (name label : List ℕ) (context : ℕ) (above : List ℕ) (key : KeyVa
         let numbered : IsNumbered (λ c k. false) t = nowhere t drawn in
         let after : ValueState = filled t context key there empty v left (λ c k. false) numbered in
         let end_is : value_end ≡ record { state = after; verdict = successful; computed = 1; found = 0 } =
-        ap (compute_looked name label (context, place_of_key t.keys key) v t) (finds None is)
-        ∙ (claims_first t context key there empty name label (factory_gave name label (context, place_of_key t.keys key) v) ∙ factory_gives t context key there empty v left (λ c k. false) numbered name label) in
+        ap (compute_looked name label (context, number_of_key t.keys key) v t) (finds None is)
+        ∙ (claims_first t context key there empty name label (factory_gave name label (context, number_of_key t.keys key) v) ∙ factory_gives t context key there empty v left (λ c k. false) numbered name label) in
         let numbered_then = filled_numbered t context key there empty v left (λ c k. false) numbered in
         subst (PlainEnds context key (of_value v) None) (sym end_is) (record {
           says = refl;
@@ -185,7 +185,7 @@ module _ (name label : List ℕ) (context : ℕ) (above : List ℕ) (key : KeyVa
     -- the value stood there, and is found
     found : (number : ℕ) → plain_slot t context key ≡ Some (slot.Entry number) → (plain_meaning t.values).values number ≡ Some v → PlainEnds context key (of_value v) (Some (slot.Entry number)) value_end
     found number is means =
-        let end_is : value_end ≡ record { state = t; verdict = successful; computed = 0; found = 1 } = ap (compute_looked name label (context, place_of_key t.keys key) v t) (finds (Some (slot.Entry number)) is) in
+        let end_is : value_end ≡ record { state = t; verdict = successful; computed = 0; found = 1 } = ap (compute_looked name label (context, number_of_key t.keys key) v t) (finds (Some (slot.Entry number)) is) in
         subst (PlainEnds context key (of_value v) (Some (slot.Entry number))) (sym end_is)
         (record { says = refl; counts = refl; fills = inr (refl, some_not_none (slot.Entry number)); stands = record { number = number; there = is; means = means }; drawn = drawn })
 
@@ -200,7 +200,7 @@ module _ (name label : List ℕ) (context : ℕ) (above : List ℕ) (key : KeyVa
 
   module _ (text : List ℕ) where
     abbrev fault_end : StepEnd
-    fault_end = computefail_looked name label (context, place_of_key t.keys key) text t (found_along (place_of_key t.keys key) (context ∷ above) t)
+    fault_end = computefail_looked name label (context, number_of_key t.keys key) text t (found_along (number_of_key t.keys key) (context ∷ above) t)
 
     -- nothing stood there, and the fault is kept
     faults : t.keep_faults ≡ true → plain_slot t context key ≡ None → PlainEnds context key (of_fault text) None fault_end
@@ -209,8 +209,8 @@ module _ (name label : List ℕ) (context : ℕ) (above : List ℕ) (key : KeyVa
         let numbered : IsNumbered (λ c k. false) t = nowhere t drawn in
         let after : ValueState = faulted t context key there empty text left (λ c k. false) numbered in
         let end_is : fault_end ≡ ended successful after =
-        ap (computefail_looked name label (context, place_of_key t.keys key) text t) (finds None is)
-        ∙ (claims_first t context key there empty name label (factory_failed name label (context, place_of_key t.keys key) text) ∙ fault_kept t context key there empty text left (λ c k. false) numbered name label keeps) in
+        ap (computefail_looked name label (context, number_of_key t.keys key) text t) (finds None is)
+        ∙ (claims_first t context key there empty name label (factory_failed name label (context, number_of_key t.keys key) text) ∙ fault_kept t context key there empty text left (λ c k. false) numbered name label keeps) in
         let numbered_then = faulted_numbered t context key there empty text left (λ c k. false) numbered in
         subst (PlainEnds context key (of_fault text) None) (sym end_is) (record {
           says = refl;
@@ -224,7 +224,7 @@ module _ (name label : List ℕ) (context : ℕ) (above : List ℕ) (key : KeyVa
     meets : (number : ℕ) → plain_slot t context key ≡ Some (slot.Fault number) → (plain_meaning t.values).faults number ≡ Some text → PlainEnds context key (of_fault text) (Some (slot.Fault number)) fault_end
     meets number is means =
         let end_is : fault_end ≡ ended successful t =
-        ap (computefail_looked name label (context, place_of_key t.keys key) text t) (finds (Some (slot.Fault number)) is)
+        ap (computefail_looked name label (context, number_of_key t.keys key) text t) (finds (Some (slot.Fault number)) is)
         ∙ (ap (λ seen. ended (fail_verdict name label text seen) t) (fault_shown_is (value_of t.values number) text means) ∙ ap (λ verdict. ended verdict t) (own_fault name label text)) in
         subst (PlainEnds context key (of_fault text) (Some (slot.Fault number))) (sym end_is)
         (record { says = refl; counts = refl; fills = tt; stands = record { number = number; there = is; means = means }; drawn = drawn })
@@ -240,8 +240,8 @@ module _ (name label : List ℕ) (context : ℕ) (above : List ℕ) (key : KeyVa
     gives_back : t.keep_faults ≡ false → plain_slot t context key ≡ None → fault_end ≡ ended successful t
     gives_back keeps is =
         let empty = empty_there is in
-        ap (computefail_looked name label (context, place_of_key t.keys key) text t) (finds None is)
-        ∙ (claims_first t context key there empty name label (factory_failed name label (context, place_of_key t.keys key) text)
+        ap (computefail_looked name label (context, number_of_key t.keys key) text t) (finds None is)
+        ∙ (claims_first t context key there empty name label (factory_failed name label (context, number_of_key t.keys key) text)
         ∙ fault_not_kept t context key there empty text left (λ c k. false) (nowhere t drawn) name label keeps)
 
 -- ---- the step

@@ -7,7 +7,7 @@ use Rattle.ext_model.specs.History.{History, IsLegal, Limits, by, slots_in, stat
 use Rattle.ext_model.proofs.Numbers.{bounded}
 use Rattle.ext_model.proofs.Stored.{drew_own}
 use Rattle.ext_plan.specs.Plans.{PlanText}
-use Rattle.ext_plan.specs.StoreKeys.{is_there, place_of_key}
+use Rattle.ext_plan.specs.StoreKeys.{is_there, number_of_key}
 use Rattle.ext_plan.specs.Values.{ValueText}
 use Rattle.ext_plain.specs.ValueStates.{ValueState, value_of}
 use Rattle.ext_tree.specs.Keys.{KeyValue}
@@ -29,8 +29,8 @@ lanes_drew limits h cell a legal is =
 pub plain_drew : (plan : PlanText) (t : ValueState) (context : ℕ) (key : KeyValue) (b : ℕ) → IsOfPlan plan t → value_in (plain_slot t context key) ≡ Some b → b ≤ t.store.drawn
 plain_drew plan t context key b of is = elim (bools (is_there t.keys key)) [
   | inl there ↦
-      let stands : value_in (t.store.slots (context, place_of_key t.keys key)) ≡ Some b = ap value_in (sym (plain_there t context key there)) ∙ is in
-      (of.drawn (context, place_of_key t.keys key) b (value_number (t.store.slots (context, place_of_key t.keys key)) b stands)).1
+      let stands : value_in (t.store.slots (context, number_of_key t.keys key)) ≡ Some b = ap value_in (sym (plain_there t context key there)) ∙ is in
+      (of.drawn (context, number_of_key t.keys key) b (value_number (t.store.slots (context, number_of_key t.keys key)) b stands)).1
   | inr absent ↦ absurd (cc (sym (ap value_in (plain_none t context key absent)) ∙ is))
 ]
 

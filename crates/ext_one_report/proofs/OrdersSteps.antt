@@ -21,7 +21,7 @@ use Rattle.ext_plan.specs.Plans.{KeyText, StepKeyText, StepText, abort, fail, ke
 use Rattle.ext_plan.specs.Steps.{height}
 use Rattle.ext_plan.specs.StepWords.{word_text}
 use Rattle.ext_plan.specs.StepCalls.{call_of, label_of, start_of}
-use Rattle.ext_plan.specs.StoreKeys.{is_there, key_of_step, place_of_key}
+use Rattle.ext_plan.specs.StoreKeys.{is_there, key_of_step, number_of_key}
 use Rattle.ext_plan.specs.Values.{ValueText}
 use Rattle.ext_plain.specs.ValueStates.{ValueState, after_act, enough, reply_to}
 use Rattle.ext_plain.specs.StepRuns.{StepEnd, compute_looked, compute_numbered, computefail_looked, computefail_numbered, found_along, numbered_by, put_by, remove_numbered, step_run}
@@ -116,15 +116,15 @@ module _ (run : RunView) (keys : List KeyText) (path : List ℕ) (places : Place
 
   -- ---- what the plain run does once the key has its number
 
-  module _ (it : IsNamedThere k s) (t : ValueState) (acts : ActsAt (context, place_of_key it.state.keys k) it.state t) where
+  module _ (it : IsNamedThere k s) (t : ValueState) (acts : ActsAt (context, number_of_key it.state.keys k) it.state t) where
     abbrev place : Place
-    place = (context, place_of_key it.state.keys k)
+    place = (context, number_of_key it.state.keys k)
 
     slot_was : plain_slot s context k ≡ it.state.store.slots place
     slot_was = sym (it.leaves.slots context k refl refl (λ number past. both.numbered.beyond context k number here past)) ∙ plain_there it.state context k it.there
 
     slot_is : plain_slot t context k ≡ t.store.slots place
-    slot_is = plain_there t context k (subst (λ ks. is_there ks k ≡ true) (sym acts.keys) it.there) ∙ ap (λ ks. t.store.slots (context, place_of_key ks k)) acts.keys
+    slot_is = plain_there t context k (subst (λ ks. is_there ks k ≡ true) (sym acts.keys) it.there) ∙ ap (λ ks. t.store.slots (context, number_of_key ks k)) acts.keys
 
     by_tries : Tries a.cells.view b.cells.view → Newer place it.state t → ((m : ℕ) → value_in (it.state.store.slots place) ≡ Some m → t ≡ it.state) → AtEnd t
     by_tries tries newer looked m n stands =
@@ -168,7 +168,7 @@ module _ (run : RunView) (keys : List KeyText) (path : List ℕ) (places : Place
   computes_at below v (inr (why, refused_key, (same, ends))) = absurd (key_found name (label_of keys key) o a b k why both.finds refused_key ends)
   computes_at below v (inl (number, has, made)) =
       let it : IsNamedThere k s = named_there k s both.room.keys in
-      let raw = place_of_key it.state.keys k in
+      let raw = number_of_key it.state.keys k in
       let found = found_along raw (drop up path) it.state in
       let end : StepEnd = compute_looked name (label_of keys key) (context, raw) v it.state found in
       let way = along below in
@@ -186,7 +186,7 @@ module _ (run : RunView) (keys : List KeyText) (path : List ℕ) (places : Place
   fails_at below text (inr (why, refused_key, (same, ends))) = absurd (key_found name (label_of keys key) o a b k why both.finds refused_key ends)
   fails_at below text (inl (number, has, made)) =
       let it : IsNamedThere k s = named_there k s both.room.keys in
-      let raw = place_of_key it.state.keys k in
+      let raw = number_of_key it.state.keys k in
       let found = found_along raw (drop up path) it.state in
       let end : StepEnd = computefail_looked name (label_of keys key) (context, raw) text it.state found in
       let way = along below in
@@ -203,13 +203,13 @@ module _ (run : RunView) (keys : List KeyText) (path : List ℕ) (places : Place
   removes_at (inr (why, refused_key, (same, ends))) = absurd (key_found name (label_of keys key) o a b k why both.finds refused_key ends)
   removes_at (inl (number, has, made)) =
       let it : IsNamedThere k s = named_there k s both.room.keys in
-      let at : Place = (context, place_of_key it.state.keys k) in
+      let at : Place = (context, number_of_key it.state.keys k) in
       subst (λ (e : StepEnd). AtEnd e.state) (sym (it.goes name (label_of keys key) (remove_numbered enough name (label_of keys key) (drop up path))))
       (by_tries_not it at (removes_none run.store context number a.cells b.cells made.result made.removes))
     where
-      by_tries_not : (it : IsNamedThere k s) (at : Place) → StoresNone a.cells.view b.cells.view → AtEnd (after_act (Remove (context, place_of_key it.state.keys k)) it.state)
+      by_tries_not : (it : IsNamedThere k s) (at : Place) → StoresNone a.cells.view b.cells.view → AtEnd (after_act (Remove (context, number_of_key it.state.keys k)) it.state)
       by_tries_not it at quiet =
-          let its : Place = (context, place_of_key it.state.keys k) in
+          let its : Place = (context, number_of_key it.state.keys k) in
           by_less it (after_act (Remove its) it.state) (acts_more its (Remove its) it.state it.state refl (acts_itself its it.state)) quiet
           (λ n is. (less_by (reply_to (Remove its) it.state) it.state.store (record { lane = any_lane; act = Remove its }) its (less_none (it.state.store.slots its))).value n is)
 
@@ -222,7 +222,7 @@ module _ (run : RunView) (keys : List KeyText) (path : List ℕ) (places : Place
     after = left.named.state
 
     abbrev spot : Place
-    spot = (context, place_of_key after.keys k)
+    spot = (context, number_of_key after.keys k)
 
     drawn_is : after.store.drawn ≡ s.store.drawn + 1
     drawn_is = ap (λ (st : State Place). st.drawn) left.named.drawn ∙ kept_drawn v s both.room.numbers

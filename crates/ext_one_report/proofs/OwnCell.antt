@@ -19,7 +19,7 @@ use Rattle.ext_tree.specs.Keys.{KeyValue}
 use Rattle.ext_tree.specs.Traits.{key_eq}
 use Rattle.ext_tree.proofs.Equalities.{keys_Decides}
 use Rattle.ext_tree.proofs.KeyPlacing.{one_key, one_number}
-use Rattle.ext_plan.specs.StoreKeys.{is_there, place_of_key}
+use Rattle.ext_plan.specs.StoreKeys.{is_there, number_of_key}
 use Rattle.ext_plain.specs.ValueStates.{ValueState}
 use Rattle.ext_one_report.specs.Changing.{events_at}
 use Rattle.ext_one_report.proofs.StandingsWords.{AreMatched}
@@ -140,7 +140,7 @@ module _ (run : RunView) (places : Places) (view : IsRunView run) (context : ℕ
 -- ---- an event of a plain run at one place
 
 pub others_event : (run : RunView) (places : Places) (context : ℕ) (key : KeyValue) (h : History) (t : ValueState) (lane : ℕ) (act : Act Place) → is_there t.keys key ≡ true
-    → place_of act ≡ Some (context, place_of_key t.keys key) → Matches run (but places context key) h t → Matches run (but places context key) h (after_event lane act t)
+    → place_of act ≡ Some (context, number_of_key t.keys key) → Matches run (but places context key) h t → Matches run (but places context key) h (after_event lane act t)
 others_event run places context key h t lane act there at matches = record {
   slots = λ c k n here has.
       subst (λ x. AreMatched run.meaning (plain_meaning t.values) (slots_in (cell_of run n) h c) x) (sym (stays c k here)) (matches.slots c k n here has);
@@ -149,8 +149,8 @@ others_event run places context key h t lane act there at matches = record {
   where
     stays : (c : ℕ) (k : KeyValue) → but places context key c k ≡ true → plain_slot (after_event lane act t) c k ≡ plain_slot t c k
     stays c k here =
-        let place : Place = (c, place_of_key t.keys k) in
-        let own_place : Place = (context, place_of_key t.keys key) in
+        let place : Place = (c, number_of_key t.keys k) in
+        let own_place : Place = (context, number_of_key t.keys key) in
         elim (bools (is_there t.keys k)) [
           | inr none ↦ plain_none (after_event lane act t) c k none ∙ sym (plain_none t c k none)
           | inl also ↦ elim (bools (same_place own_place place)) [

@@ -9,7 +9,7 @@ use Rattle.ext_plan.specs.Plans.{KeyText, PlanText, StepKeyText, StepText, keyed
 use Rattle.ext_plan.specs.PlanCalls.{steps_of_call}
 use Rattle.ext_plan.specs.ReadPlans.{IsReadPlan, ids_of_nodes}
 use Rattle.ext_plan.specs.StepCalls.{start_of}
-use Rattle.ext_plan.specs.StoreKeys.{key_of_step, place_of_key}
+use Rattle.ext_plan.specs.StoreKeys.{key_of_step, number_of_key}
 use Rattle.ext_plan.specs.declared.word.Word.{Word}
 use Rattle.ext_races.specs.Acts.{ActText, act_of}
 use Rattle.ext_races.specs.MadeSteps.{calls_of, plan_path}
@@ -82,7 +82,7 @@ module _ (plan : PlanText) (read : IsReadPlan plan) (shares : SharesValues plan)
     made : Contains (touches_made plan) t
     node_is : t.node ≡ node
     context_is : t.context ≡ context
-    key_is : t.key ≡ place_of_key (keys_named plan) key
+    key_is : t.key ≡ number_of_key (keys_named plan) key
     still : t.changes ≡ false
 
   -- these places have all at which the node only looks
@@ -122,7 +122,7 @@ module _ (plan : PlanText) (read : IsReadPlan plan) (shares : SharesValues plan)
   acts_touched one own act there changing =
       let key = key_of act in
       let is : IsTouchedBelow plan node (start act) key false = record {
-        touch = touch_of node (place_of_key (keys_named plan) key) act (changes act.word) (start act);
+        touch = touch_of node (number_of_key (keys_named plan) key) act (changes act.word) (start act);
         made = acts_there plan read shares node one less own act there changing;
         below = within_itself plan read node (within plan read shares node call less among);
         context_is = refl;
@@ -140,7 +140,7 @@ module _ (plan : PlanText) (read : IsReadPlan plan) (shares : SharesValues plan)
       → HasLooks settled → settled (start act) (key_of act) ≡ true → LooksWithin plan.keys (plan_path plan node) settled act.key act.up
   changing_looks one own act there changing looks settled has here =
       let key = key_of act in
-      let number = place_of_key (keys_named plan) key in
+      let number = number_of_key (keys_named plan) key in
       let rest = from_start (drop act.up path) (goes_up plan read shares node one less own act there) in
       all_contained (λ c. settled c key ≡ true) (drop act.up path) (λ c held. elim (contains_cases (start act) c rest.0 (subst (λ p. Contains p c) rest.1 held)) [
         | inl same ↦ subst (λ x. settled x key ≡ true) same here
@@ -234,7 +234,7 @@ module _ (plan : PlanText) (read : IsReadPlan plan) (shares : SharesValues plan)
         → places (get_or (plan_path plan node) at 0) (key_of act) ≡ true
     looked_at still looks at low inside =
         let key = key_of act in
-        let number = place_of_key (keys_named plan) key in
+        let number = number_of_key (keys_named plan) key in
         let c = get_or path at 0 in
         elim (kept_or_computed plan.keys key (earlier ++ front) path at inside) [
           | inl kept ↦

@@ -10,7 +10,7 @@ use Rattle.std.proofs.lemmas.List.Folds.{Any-from_list_any, list_any-from_Any}
 use Rattle.ext_tree.specs.Keys.{KeyValue}
 use Rattle.ext_plan.specs.Plans.{PlanText}
 use Rattle.ext_plan.specs.ReadPlans.{IsReadPlan, ids_of_nodes}
-use Rattle.ext_plan.specs.StoreKeys.{place_of_key}
+use Rattle.ext_plan.specs.StoreKeys.{number_of_key}
 use Rattle.ext_races.specs.Clashes.{agree}
 use Rattle.ext_races.specs.Beside.{nodes_beside}
 use Rattle.ext_races.specs.MadeSteps.{plan_path}
@@ -18,7 +18,7 @@ use Rattle.ext_races.specs.Touches.{TouchText, keys_named, touches_made}
 use Rattle.ext_plan.specs.StepWords.{computes, word_eq}
 use Rattle.ext_races.proofs.Equalities.{word_is}
 use Rattle.ext_races.proofs.Lists.{contains_first, contains_later}
-use Rattle.ext_races.proofs.Sides.{nodes_found, nodes_told}
+use Rattle.ext_races.proofs.Sides.{nodes_found, nodes_tested}
 use Rattle.ext_races.proofs.TouchNodes.{touch_within}
 use Rattle.ext_one_report.specs.Shares.{is_at, is_beside_at, is_shared_at}
 use Rattle.ext_races.specs.OneReports.{SharesValues}
@@ -65,7 +65,7 @@ pub record IsTouchedAt (plan : PlanText) (context : ℕ) (key : KeyValue) : Type
   pub touch : TouchText
   pub made : Contains (touches_made plan) touch
   pub context_is : touch.context ≡ context
-  pub key_is : touch.key ≡ place_of_key (keys_named plan) key
+  pub key_is : touch.key ≡ number_of_key (keys_named plan) key
 
 -- such a touch by a node that may run beside this one
 pub record IsTouchedBeside (plan : PlanText) (node context : ℕ) (key : KeyValue) : Type 0 where
@@ -73,7 +73,7 @@ pub record IsTouchedBeside (plan : PlanText) (node context : ℕ) (key : KeyValu
   pub made : Contains (touches_made plan) touch
   pub beside : AreBelow plan node touch.node
   pub context_is : touch.context ≡ context
-  pub key_is : touch.key ≡ place_of_key (keys_named plan) key
+  pub key_is : touch.key ≡ number_of_key (keys_named plan) key
 
 abbrev pub below_at : (plan : PlanText) (node context : ℕ) (key : KeyValue) (told : Bool) → IsTouchedBelow plan node context key told → IsTouchedAt plan context key
 below_at plan node context key told is = record { touch = is.touch; made = is.made; context_is = is.context_is; key_is = is.key_is }
@@ -108,7 +108,7 @@ module _ (plan : PlanText) (read : IsReadPlan plan) where
 
   module _ (node context : ℕ) (key : KeyValue) where
     abbrev number : ℕ
-    number = place_of_key (keys_named plan) key
+    number = number_of_key (keys_named plan) key
 
     below_found : (t : TouchText) → Contains (touches_made plan) t → is_at plan node context key t ≡ true → IsTouchedBelow plan node context key false
     below_found t made is =
@@ -147,7 +147,7 @@ module _ (plan : PlanText) (read : IsReadPlan plan) where
         let same = same_count plan in
         and_from (nodes_beside plan node t.node && (t.context == context)) (t.key == number)
         (and_from (nodes_beside plan node t.node) (t.context == context)
-        (nodes_told plan node t.node (omega (arith, less, same)) (touch_within plan t is.made) (are_beside plan read node t.node is.beside)) (eq-eqb t.context context is.context_is))
+        (nodes_tested plan node t.node (omega (arith, less, same)) (touch_within plan t is.made) (are_beside plan read node t.node is.beside)) (eq-eqb t.context context is.context_is))
         (eq-eqb t.key number is.key_is)
 
     told_any : (p : TouchText → Bool) (t : TouchText) → Contains (touches_made plan) t → p t ≡ true → list_any p (touches_made plan) ≡ true

@@ -11,7 +11,7 @@ use Rattle.ext_plan.specs.PlanCalls.{steps_of_call}
 use Rattle.ext_plan.specs.ReadPlans.{IsReadPlan, ids_of_nodes}
 use Rattle.ext_plan.specs.StepCalls.{start_of}
 use Rattle.ext_plan.specs.Steps.{height}
-use Rattle.ext_plan.specs.StoreKeys.{key_of_step, place_of_key}
+use Rattle.ext_plan.specs.StoreKeys.{key_of_step, number_of_key}
 use Rattle.ext_plan.specs.declared.word.Word.{Word}
 use Rattle.ext_plan.specs.declared.word.Word.TheVariants as words
 use Rattle.ext_races.specs.Acts.{ActText}
@@ -67,9 +67,9 @@ module _ (plan : PlanText) (read : IsReadPlan plan) (shares : SharesValues plan)
 
   -- the touch of the place that a step changes
   pub acts_there : (act : ActText) → Contains (steps_of_call plan call) (step_of act) → changes act.word ≡ true
-      → Contains (touches_made plan) (touch_of node (place_of_key (keys_named plan) (key_of_step plan.keys act.key)) act (changes act.word) (start_of (drop act.up (plan_path plan node))))
+      → Contains (touches_made plan) (touch_of node (number_of_key (keys_named plan) (key_of_step plan.keys act.key)) act (changes act.word) (start_of (drop act.up (plan_path plan node))))
   acts_there act there changing =
-      let number = place_of_key (keys_named plan) (key_of_step plan.keys act.key) in
+      let number = number_of_key (keys_named plan) (key_of_step plan.keys act.key) in
       let context = start_of (drop act.up path) in
       subst (λ b. Contains (touches_made plan) (touch_of node number act b context)) (sym changing)
       (changes_there plan node call within among act there changing (touch_of node number act true context)
@@ -78,10 +78,10 @@ module _ (plan : PlanText) (read : IsReadPlan plan) (shares : SharesValues plan)
   -- where the place is shared, it computes what others compute there
   gives_there : (act : ActText) → Contains (steps_of_call plan call) (step_of act) → changes act.word ≡ true → (v : Given)
       → given_in plan node (start_of (drop act.up (plan_path plan node))) (key_of_step plan.keys act.key) ≡ Some v
-      → Gives plan (touch_of node (place_of_key (keys_named plan) (key_of_step plan.keys act.key)) act true (start_of (drop act.up (plan_path plan node)))) v
+      → Gives plan (touch_of node (number_of_key (keys_named plan) (key_of_step plan.keys act.key)) act true (start_of (drop act.up (plan_path plan node)))) v
   gives_there act there changing v e =
       let key = key_of_step plan.keys act.key in
-      let number = place_of_key (keys_named plan) key in
+      let number = number_of_key (keys_named plan) key in
       let context = start_of (drop act.up path) in
       let one : IsTouchedBelow plan node context key true = record {
         touch = touch_of node number act true context;

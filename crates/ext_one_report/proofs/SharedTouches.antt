@@ -14,7 +14,7 @@ use Rattle.ext_lifecycle.specs.Callbacks.{test_call}
 use Rattle.ext_plan.specs.Plans.{KeyText, PlanText, StepText}
 use Rattle.ext_plan.specs.PlanCalls.{steps_of_call}
 use Rattle.ext_plan.specs.ReadPlans.{IsReadPlan, ids_of_nodes}
-use Rattle.ext_plan.specs.StoreKeys.{key_of_step, place_of_key}
+use Rattle.ext_plan.specs.StoreKeys.{key_of_step, number_of_key}
 use Rattle.ext_plan.specs.StepWords.{changes, computes, looks_along}
 use Rattle.ext_plan.specs.declared.word.Word.TheVariants as words
 use Rattle.ext_races.specs.Acts.{ActText, act_of}
@@ -219,10 +219,10 @@ made_split node before (first ∷ front) step more =
 -- what a step touches that changes the place it acts on, whatever comes before it
 module _ (plan : PlanText) (node : ℕ) (call : Call) (within : node < length plan.nodes) (among : Contains (calls_of plan node) call) (act : ActText) (there : Contains (steps_of_call plan call) (step_of act)) where
   pub changes_there : changes act.word ≡ true → (t : TouchText)
-      → Contains (touches_along node (place_of_key (keys_named plan) (key_of_step plan.keys act.key)) act None (drop act.up (plan_path plan node))) t → Contains (touches_made plan) t
+      → Contains (touches_along node (number_of_key (keys_named plan) (key_of_step plan.keys act.key)) act None (drop act.up (plan_path plan node))) t → Contains (touches_made plan) t
   changes_there changing t held =
       let is = is_made plan node call (step_of act) within among there in
-      let number = place_of_key (keys_named plan) (key_of_step plan.keys act.key) in
+      let number = number_of_key (keys_named plan) (key_of_step plan.keys act.key) in
       contains-flat_map (touches_of (ids_of_nodes plan.nodes) plan.keys (keys_named plan) (standing plan)) (steps_made plan) (made_by node is.front (step_of act)) t is.made
       (subst (λ found. Contains (touches_along node number act found (drop act.up (reach plan.keys is.front (plan_path plan node) act))) t) (sym (finds_nothing plan.keys is.front (standing plan node) act changing))
       (subst (λ p. Contains (touches_along node number act None (drop act.up p)) t) (sym (reach_all plan.keys is.front (plan_path plan node) act changing)) held))
@@ -281,7 +281,7 @@ module _ (plan : PlanText) (node : ℕ) (call : Call) (earlier : List StepText) 
     (whole : steps_of_call plan call ≡ front ++ step_of act ∷ more) where
   -- what a step touches by its act
   pub touches_there : (t : TouchText)
-      → Contains (touches_along node (place_of_key (keys_named plan) (key_of_step plan.keys act.key)) act (found_above plan.keys (earlier ++ front) (standing plan node) act)
+      → Contains (touches_along node (number_of_key (keys_named plan) (key_of_step plan.keys act.key)) act (found_above plan.keys (earlier ++ front) (standing plan node) act)
       (drop act.up (reach plan.keys (earlier ++ front) (plan_path plan node) act))) t → Contains (touches_made plan) t
   touches_there t held =
       contains-flat_map (touches_of (ids_of_nodes plan.nodes) plan.keys (keys_named plan) (standing plan)) (steps_made plan) (made_by node (earlier ++ front) (step_of act)) t
@@ -289,8 +289,8 @@ module _ (plan : PlanText) (node : ℕ) (call : Call) (earlier : List StepText) 
 
   -- a look-up looks at each place that it reaches
   pub look_there : changes act.word ≡ false → (c : ℕ) → Contains (drop act.up (reach plan.keys (earlier ++ front) (plan_path plan node) act)) c
-      → Contains (touches_made plan) (look_at node (place_of_key (keys_named plan) (key_of_step plan.keys act.key)) act (found_above plan.keys (earlier ++ front) (standing plan node) act) c)
+      → Contains (touches_made plan) (look_at node (number_of_key (keys_named plan) (key_of_step plan.keys act.key)) act (found_above plan.keys (earlier ++ front) (standing plan node) act) c)
   look_there still c reached =
-      let number = place_of_key (keys_named plan) (key_of_step plan.keys act.key) in
+      let number = number_of_key (keys_named plan) (key_of_step plan.keys act.key) in
       let found = found_above plan.keys (earlier ++ front) (standing plan node) act in
       touches_there (look_at node number act found c) (looked_along node number act found (drop act.up (reach plan.keys (earlier ++ front) (plan_path plan node) act)) c still reached)

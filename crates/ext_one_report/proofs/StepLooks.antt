@@ -26,7 +26,7 @@ use Rattle.ext_plan.specs.declared.reason.Reason.TheVariants as reasons
 use Rattle.ext_plan.specs.declared.word.Word.TheVariants as words
 use Rattle.ext_plan.specs.Plans.{KeyText, StepKeyText}
 use Rattle.ext_plan.specs.StepCalls.{call_of, label_of, start_of}
-use Rattle.ext_plan.specs.StoreKeys.{is_there, key_of_step, place_of_key}
+use Rattle.ext_plan.specs.StoreKeys.{is_there, key_of_step, number_of_key}
 use Rattle.ext_plan.specs.Values.{ValueText}
 use Rattle.ext_plan.specs.Verdicts.{SeenText, seen_value, seen_fault, seen_nothing, seen_refused, refused, want_verdict, none_verdict}
 use Rattle.ext_store_core.specs.ContextCalls as store_core
@@ -123,10 +123,10 @@ lane_shows run a b (look.Closed at) seen what lane is (same, seen_is) = let e : 
 
 -- after a history and in a state of a plain run that match along a path, look-ups along it show the same
 pub looks_same : (run : RunView) (places : Places) (h : History) (s : ValueState) (key : KeyValue) (number : ℕ) (path : List ℕ) → Matches run places h s → HasNumberIn run key number → is_there s.keys key ≡ true
-    → All (λ c. places c key ≡ true) path → ShowTheSame run.meaning (plain_meaning s.values) (look_after (cell_of run number) path h) (found_along (place_of_key s.keys key) path s)
+    → All (λ c. places c key ≡ true) path → ShowTheSame run.meaning (plain_meaning s.values) (look_after (cell_of run number) path h) (found_along (number_of_key s.keys key) path s)
 looks_same run places h s key number path matches has there within =
-    matched_looks run.meaning (plain_meaning s.values) (slots_in (cell_of run number) h) (under s.store (place_of_key s.keys key)) path
-    (All-weaker (λ c. places c key ≡ true) (λ c. AreMatched run.meaning (plain_meaning s.values) (slots_in (cell_of run number) h c) (under s.store (place_of_key s.keys key) c))
+    matched_looks run.meaning (plain_meaning s.values) (slots_in (cell_of run number) h) (under s.store (number_of_key s.keys key)) path
+    (All-weaker (λ c. places c key ≡ true) (λ c. AreMatched run.meaning (plain_meaning s.values) (slots_in (cell_of run number) h c) (under s.store (number_of_key s.keys key) c))
     (λ c is. subst (λ x. AreMatched run.meaning (plain_meaning s.values) (slots_in (cell_of run number) h c) x) (plain_there s c key there) (matches.slots c key number is has)) path within)
 
 -- The point of a look-up, along the path of its context, and the point at which the lane sees all of it. The lane makes no event
@@ -165,13 +165,13 @@ module _ (run : RunView) (keys : List KeyText) (path : List ℕ) (places : Place
   it = named places (key_of_step keys key) s both.room.keys both.numbered
 
   look_alike : (number : ℕ) → IsKeyNumber b.keys (key_of_step keys key) number → (seen : SeenText) → Sees run.store (start_of (drop up path)) number a seen b → Ends (verdict seen) 0 0 o
-      → EndAlike run places o b (look_end verdict (drop up path) (place_of_key it.state.keys (key_of_step keys key)) it.state)
+      → EndAlike run places o b (look_end verdict (drop up path) (number_of_key it.state.keys (key_of_step keys key)) it.state)
   look_alike number has seen sees ends =
       let has_in : HasNumberIn run (key_of_step keys key) number = number_stays b.keys run.numbering (key_of_step keys key) number both.lane.keys has in
       let at = look_point run.store (start_of (drop up path)) number (drop up path) a.cells b.cells sees.answer both.tree both.path_is sees.looked in
       let before : Matches run places (seen_by a.cells.view) it.state = it.matches run (seen_by a.cells.view) both.matches in
       let here : Matches run places at.at it.state = matches_to run places a.cells.view b.cells.view both.alone at.at it.state at.point before in
-      let plain : Look = found_along (place_of_key it.state.keys (key_of_step keys key)) (drop up path) it.state in
+      let plain : Look = found_along (number_of_key it.state.keys (key_of_step keys key)) (drop up path) it.state in
       let same : ShowTheSame run.meaning (plain_meaning it.state.values) (look_after (cell_of run number) (drop up path) at.at) plain = looks_same run places at.at it.state (key_of_step keys key) number (drop up path) here has_in it.there within in
       let ours : shown_of run.meaning sees.answer ≡ Some same.shown = ap (shown_of run.meaning) at.is ∙ same.here in
       let theirs : plain_seen it.state.values plain ≡ seen_of same.shown = plain_shows it.state.values plain same.shown same.there in
@@ -187,7 +187,7 @@ module _ (run : RunView) (keys : List KeyText) (path : List ℕ) (places : Place
         numbered = it.numbered;
       }
 
-  pub looks_end_alike : StepLooks run.store (call_of keys path name key up) verdict a o b → EndAlike run places o b (look_end verdict (drop up path) (place_of_key it.state.keys (key_of_step keys key)) it.state)
+  pub looks_end_alike : StepLooks run.store (call_of keys path name key up) verdict a o b → EndAlike run places o b (look_end verdict (drop up path) (number_of_key it.state.keys (key_of_step keys key)) it.state)
   looks_end_alike (inl (number, has, (seen, sees, ends))) = look_alike number has seen sees ends
   looks_end_alike (inr (why, refused_key, (same, ends))) = absurd (key_found name (label_of keys key) o a b (key_of_step keys key) why both.finds refused_key ends)
 

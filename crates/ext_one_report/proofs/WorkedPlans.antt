@@ -27,7 +27,7 @@ use Rattle.ext_races.specs.Races.{IsRace}
 use Rattle.ext_races.specs.Touches.{TouchText, keys_named, numbers_drawn, touches_made}
 use Rattle.ext_races.proofs.Equalities.{both, both_true, equal}
 use Rattle.ext_races.proofs.Lists.{contains_cases, contains_first, contains_later, contains_nothing}
-use Rattle.ext_races.proofs.Sides.{nodes_found, nodes_told}
+use Rattle.ext_races.proofs.Sides.{nodes_found, nodes_tested}
 use Rattle.ext_races.proofs.TouchNodes.{touch_within}
 use Rattle.ext_races.specs.OneReports.{KeepsApart, ClosesAgreeBeside}
 use Rattle.ext_one_report.specs.WorkedPlans.{AreSteps, ComputesAreNoRace, ComputesDoNot, FailsAlikeKeepApart, FailsUnlikeDoNot, LookAndPutDoNot, LooksBelowKeepApart, LooksKeepApart, OneByOneKeepsApart, OneTextAgrees, OwnPutsKeepApart, PutsAboveDoNot, ReplacedAgrees, TestsAreBeside, TestsAreRead, OneByOneAgrees, TwoFaultsAgree, TwoKeysKeepApart, TwoTextsDoNot, WorkedHasKeys, WorkedHasNumbers, WorkedIsRead, WorkedKeepsApart, WorkedAgrees, a, b, class_id, computing, container, failing, root_id, test_of_class, tests_of_mode, two_tests, worked_plan}
@@ -83,7 +83,7 @@ keeps_apart plan none = record {
   apart = λ t u one two beside changing at named. elim (cases_Bool (fail_alike t u)) [
     | inl alike ↦ let parts = both (not (gives_value t.word)) (agree t u) alike in (parts.1, not-true (gives_value t.word) parts.0)
     | inr unlike ↦ absurd (not_such plan (cross plan) t u none one two (both_true (meet plan t u) (not (fail_alike t u))
-        (both_true _ _ (both_true _ _ (both_true _ _ (nodes_told plan t.node u.node (touch_within plan t one) (touch_within plan u two) beside) changing) (eq-eqb t.context u.context at)) (eq-eqb t.key u.key named)) (ap not unlike)))
+        (both_true _ _ (both_true _ _ (both_true _ _ (nodes_tested plan t.node u.node (touch_within plan t one) (touch_within plan u two) beside) changing) (eq-eqb t.context u.context at)) (eq-eqb t.key u.key named)) (ap not unlike)))
   ];
 }
 
@@ -164,7 +164,7 @@ clash plan t u = nodes_beside plan t.node u.node && clashes t u
 
 pub no_race : (plan : PlanText) (race : Race) → no_pair plan (clash plan) ≡ true → ¬ IsRace plan race
 no_race plan race none is = not_such plan (clash plan) is.first is.second none is.first_made is.second_made
-    (both_true _ _ (nodes_told plan is.first.node is.second.node (touch_within plan is.first is.first_made) (touch_within plan is.second is.second_made) is.beside) is.clash)
+    (both_true _ _ (nodes_tested plan is.first.node is.second.node (touch_within plan is.first is.first_made) (touch_within plan is.second is.second_made) is.beside) is.clash)
 
 pub computes_are_no_race : ComputesAreNoRace
 unfolding path_from
@@ -181,7 +181,7 @@ closes_agree plan none = record {
   one = λ t u one two beside fails other at. elim (cases_Bool (bytes_eq t.text u.text)) [
     | inl same ↦ (bytes_decides t.text u.text).0 same
     | inr two_texts ↦ absurd (not_such plan (differ plan) t u none one two
-        (both_true _ _ (both_true _ _ (both_true _ _ (both_true _ _ (nodes_told plan t.node u.node (touch_within plan t one) (touch_within plan u two) beside) fails) other) (eq-eqb t.context u.context at)) (ap not two_texts)))
+        (both_true _ _ (both_true _ _ (both_true _ _ (both_true _ _ (nodes_tested plan t.node u.node (touch_within plan t one) (touch_within plan u two) beside) fails) other) (eq-eqb t.context u.context at)) (ap not two_texts)))
   ];
 }
 

@@ -20,7 +20,7 @@ use Rattle.ext_races.specs.OneReports.{SharesValues}
 use Rattle.ext_races.proofs.Free.{race_free_shares_values}
 use Rattle.ext_races.proofs.Equalities.{word_is}
 use Rattle.ext_races.proofs.Lists.{contains-map_back}
-use Rattle.ext_races.proofs.Sides.{nodes_found, nodes_told}
+use Rattle.ext_races.proofs.Sides.{nodes_found, nodes_tested}
 use Rattle.ext_races.proofs.TouchNodes.{touch_within}
 
 pub computes_share_values : ComputesShareValues
@@ -78,7 +78,7 @@ module _ (plan : PlanText) (text : List ℕ) (same : touches_made plan ≡ map (
   all_fit all = record {
     alike = λ t u one two beside changing at named.
         let fits = passes (fit plan t) (touches_made plan) u (passes (λ t. list_all (fit plan t) (touches_made plan)) (touches_made plan) t all one) two in
-        let near = nodes_told plan t.node u.node (touch_within plan t one) (touch_within plan u two) beside in
+        let near = nodes_tested plan t.node u.node (touch_within plan t one) (touch_within plan u two) beside in
         let they_meet : meet plan t u ≡ true = and_from (nodes_beside plan t.node u.node && t.changes && (t.context == u.context)) (t.key == u.key)
         (and_from (nodes_beside plan t.node u.node && t.changes) (t.context == u.context) (and_from (nodes_beside plan t.node u.node) t.changes near changing) (eq-eqb t.context u.context at)) (eq-eqb t.key u.key named) in
         let both : (computes t.acts && word_eq t.acts u.acts) ≡ true = ap (λ (b : Bool). not b || (computes t.acts && word_eq t.acts u.acts)) (sym they_meet) ∙ fits in

@@ -3,7 +3,7 @@
 use Rattle.std.specs.Prelude.{ℕ, ◌≡◌, Bool, ◌&&◌, ◌||◌, ◌==◌, Option, None, Some, find, ◌+◌, if◌then◌else◌}
 use Rattle.ext_tree.specs.Keys.{KeyValue}
 use Rattle.ext_plan.specs.Plans.{PlanText}
-use Rattle.ext_plan.specs.StoreKeys.{place_of_key}
+use Rattle.ext_plan.specs.StoreKeys.{number_of_key}
 use Rattle.ext_plan.specs.Values.{ValueText}
 use Rattle.std.specs.List.{list_any}
 use Rattle.ext_races.specs.Beside.{nodes_beside}
@@ -20,7 +20,7 @@ SharedValues = ℕ → KeyValue → Option ValueText
 -- The touch is of this place, by this node or one below it.
 abbrev pub is_at : PlanText → ℕ → ℕ → KeyValue → TouchText → Bool
 is_at plan node context key touch = is_within plan node touch.node && (touch.context == context)
-    && (touch.key == place_of_key (keys_named plan) key)
+    && (touch.key == number_of_key (keys_named plan) key)
 
 -- The same, and the touch may change the place.
 abbrev pub may_change_at : PlanText → ℕ → ℕ → KeyValue → TouchText → Bool
@@ -29,7 +29,7 @@ may_change_at plan node context key touch = touch.changes && is_at plan node con
 -- The touch is of this place, by a node that may run beside this one.
 abbrev pub is_beside_at : PlanText → ℕ → ℕ → KeyValue → TouchText → Bool
 is_beside_at plan node context key touch = nodes_beside plan node touch.node && (touch.context == context)
-    && (touch.key == place_of_key (keys_named plan) key)
+    && (touch.key == number_of_key (keys_named plan) key)
 
 -- The touch is of this place, by this node or one below it, and a node beside it touches the place too. One of both may
 -- change it.

@@ -7,7 +7,7 @@ use Rattle.ext_model.specs.State.{State, opening}
 use Rattle.ext_model.specs.Events.{Reply, Happens, Answers, Refuses, Refusal, NumbersFull, Busy, Closed, Standing, FaultStanding, Exhausted, Barred}
 use Rattle.ext_model.specs.Plain.{Place, any_lane, plain_reply, next_state}
 use Rattle.ext_tree.specs.Keys.{KeyValue}
-use Rattle.ext_plan.specs.StoreKeys.{is_there, place_of_key}
+use Rattle.ext_plan.specs.StoreKeys.{is_there, number_of_key}
 use Rattle.ext_plan.specs.declared.reason.Reason.{Reason}
 use Rattle.ext_plan.specs.declared.reason.Reason.TheVariants as reasons
 use Rattle.ext_plan.specs.Values.{ValueText}
@@ -117,7 +117,7 @@ pub data Numbering : Type 0 where
   full : Numbering
 
 abbrev pub numbering_of : ℕ → List KeyValue → KeyValue → Numbering
-numbering_of places keys key = if is_there keys key then known (place_of_key keys key)
+numbering_of places keys key = if is_there keys key then known (number_of_key keys key)
     else if nat_lt (length keys) places then next (length keys) else full
 
 -- The key gets the next number.

@@ -7,15 +7,15 @@ use std::alloc::Global;
 
 /// Makes the calls of one node after another, and reports each of their faults to the listener.
 #[derive(Drop)]
-pub struct NodeCaller<'a, L> {
-    pub alloc: Global,
-    pub listener: &'a L,
-    pub setting: Setting<'a>,
-    pub store: ValueStore<'a>,
+pub(crate) struct NodeCaller<'a, L> {
+    pub(crate) alloc: Global,
+    pub(crate) listener: &'a L,
+    pub(crate) setting: Setting<'a>,
+    pub(crate) store: ValueStore<'a>,
     /// The node whose calls are made.
-    pub node: ContextNo,
+    pub(crate) node: ContextNo,
     /// Whether a step has lacked memory.
-    pub lacked: bool,
+    pub(crate) lacked: bool,
 }
 
 impl<L> NodeCaller<'_, L> {

@@ -15,7 +15,7 @@ use std::alloc::{AllocError, Global};
 impl<'a> ValueStore<'a> {
     /// Seals all places of a context, and returns the numbers that the seals keep, the greatest
     /// first. It costs as much as places of the context were used.
-    pub fn seal_context(&mut self, at: ContextNo) -> Result<FallingNumbers<1024>, AllocError>
+    pub(crate) fn seal_context(&mut self, at: ContextNo) -> Result<FallingNumbers<1024>, AllocError>
         ensures state { OnOk result (state_view self.new ≡ seal_keys (state_view self.old).places at (state_view self.old)) }
         ensures numbers { IfOk result (λ numbers. numbers ≡ numbers_left (state_view self.old).places at (state_view self.new)) }
     {
@@ -42,7 +42,7 @@ impl<'a> ValueStore<'a> {
     /// Closes the closeable ones among the values with these numbers, in order, each once, and
     /// counts them. A close that fails does not stop the others. Its fault is reported to the
     /// listener, as one of the node `at`.
-    pub fn close_values<L: RunListener>(
+    pub(crate) fn close_values<L: RunListener>(
         &self,
         alloc: Global,
         listener: &L,

@@ -19,7 +19,7 @@ use std::alloc::Global;
 impl<'a> ValueStore<'a> {
     /// Runs a step `compute` or `compute!` whose key has this number: looks up along the path, and
     /// computes if nothing is found. A kept fault fails the step.
-    pub fn compute(
+    pub(crate) fn compute(
         &mut self,
         alloc: Global,
         call: &StepCall<'_>,
@@ -96,7 +96,7 @@ impl<'a> ValueStore<'a> {
     /// found, the place is claimed and the factory fails with this text. Its fault then stands in
     /// the place if the store keeps faults; otherwise it comes back and the claim is abandoned. The
     /// step passes in both cases, and if it meets a kept fault with the same text.
-    pub fn computefail(
+    pub(crate) fn computefail(
         &mut self,
         alloc: Global,
         call: &StepCall<'_>,

@@ -18,7 +18,7 @@ use std::alloc::Global;
 impl<'a> ValueStore<'a> {
     /// Runs a step `want` whose key has this number: looks up along the path, and compares the text
     /// of the value found.
-    pub fn want(
+    pub(crate) fn want(
         &self,
         alloc: Global,
         call: &StepCall<'_>,
@@ -33,7 +33,12 @@ impl<'a> ValueStore<'a> {
 
     /// Runs a step `none` whose key has this number: looks up along the path, and fails if
     /// something is found.
-    pub fn none(&self, alloc: Global, call: &StepCall<'_>, key: KeyNo) -> Result<Outcome, Lack>
+    pub(crate) fn none(
+        &self,
+        alloc: Global,
+        call: &StepCall<'_>,
+        key: KeyNo,
+    ) -> Result<Outcome, Lack>
         ensures { answer_end (state_view self.now) result ≡ none_numbered (memory_of result) (call_view call.now).name (call_view call.now).label
             (call_view call.now).path key (state_view self.now) }
     {
@@ -42,7 +47,7 @@ impl<'a> ValueStore<'a> {
 
     /// Ends a step `computefail` that found the value with this number: names the value and counts
     /// it.
-    pub fn fail_found(
+    pub(crate) fn fail_found(
         &self,
         alloc: Global,
         call: &StepCall<'_>,
@@ -62,7 +67,7 @@ impl<'a> ValueStore<'a> {
     }
 
     /// Ends a step `compute` that met the kept fault with this number: names the fault.
-    pub fn fault_met(
+    pub(crate) fn fault_met(
         &self,
         alloc: Global,
         call: &StepCall<'_>,
@@ -76,7 +81,7 @@ impl<'a> ValueStore<'a> {
 
     /// Ends a step `computefail` of this text that met the kept fault with this number: passes if
     /// the texts are equal, and otherwise names the fault.
-    pub fn fault_met_failing(
+    pub(crate) fn fault_met_failing(
         &self,
         alloc: Global,
         call: &StepCall<'_>,
@@ -104,7 +109,7 @@ impl<'a> ValueStore<'a> {
 }
 
 /// What a look-up shows that found this value by its number.
-pub fn shown<'a>(value: Option<PlanValue<'a>>) -> Seen<'a>
+pub(crate) fn shown<'a>(value: Option<PlanValue<'a>>) -> Seen<'a>
     ensures { seen_view result ≡ shown (option_map value_view value.entry) }
 {
     match value {
@@ -114,7 +119,7 @@ pub fn shown<'a>(value: Option<PlanValue<'a>>) -> Seen<'a>
 }
 
 /// What a look-up shows that found this kept fault by its number.
-pub fn shown_fault<'a>(fault: Option<PlanValue<'a>>) -> Seen<'a>
+pub(crate) fn shown_fault<'a>(fault: Option<PlanValue<'a>>) -> Seen<'a>
     ensures { seen_view result ≡ shown_fault (option_map value_view fault.entry) }
 {
     match fault {

@@ -16,7 +16,7 @@ use std::alloc::Global;
 
 impl<'a> ValueStore<'a> {
     /// Runs a step that calls the store, in the context of this path.
-    pub fn run_keyed(
+    pub(crate) fn run_keyed(
         &mut self,
         alloc: Global,
         keys: &StepKeys<'_>,

@@ -10,7 +10,7 @@ use std::alloc::{AllocError, AllocFailed};
 /// What a step, other than its key, lacked memory for. The step then fails with `no memory`, and
 /// the run goes on.
 #[derive(Clone, Copy)]
-pub enum Lack {
+pub(crate) enum Lack {
     /// Keeping a value.
     Value,
     /// Using a place of the store.
@@ -24,7 +24,7 @@ pub enum Lack {
 
 /// What a whole step lacked memory for.
 #[derive(Clone, Copy)]
-pub enum StepLack {
+pub(crate) enum StepLack {
     /// Making the key of the store.
     Key,
     /// Numbering the key.
@@ -61,7 +61,7 @@ impl StepLack {
     ghost use Rattle.ext_plain.specs.InnerSteps.{lifted, step_found};
 
     /// The same answer, for a whole step.
-    pub fn of(answer: Result<Outcome, Lack>) -> Result<Outcome, StepLack>
+    pub(crate) fn of(answer: Result<Outcome, Lack>) -> Result<Outcome, StepLack>
         ensures { result ≡ lifted answer }
     {
         match answer {
@@ -71,7 +71,7 @@ impl StepLack {
     }
 
     /// The outcome of a step that lacked memory.
-    pub fn outcome(self) -> Outcome
+    pub(crate) fn outcome(self) -> Outcome
         ensures { result ≡ record {
           verdict = verdicts.Failed faults.Memory;
           computed = 0;

@@ -15,15 +15,15 @@ use std::collections::BTreeSet;
 /// A `PlainStore` whose contexts end as a whole: the places of a context that nobody used are
 /// sealed by its end alone, and take neither memory nor time.
 #[derive(Drop)]
-pub struct PlaceStore {
+pub(crate) struct PlaceStore {
     /// How many keys can have numbers.
-    pub places: usize,
+    pub(crate) places: usize,
     /// What was put, claimed or sealed at the places that were used.
-    pub store: PlainStore,
+    pub(crate) store: PlainStore,
     /// The places where something was put or claimed, or where that was tried.
-    pub used: BTreeSet<(ContextNo, KeyNo)>,
+    pub(crate) used: BTreeSet<(ContextNo, KeyNo)>,
     /// The contexts that have ended.
-    pub ended: BTreeSet<ContextNo>,
+    pub(crate) ended: BTreeSet<ContextNo>,
     ghost few: { places ≤ 1024 },
     ghost noted: { IsNoted store used },
 }
@@ -32,7 +32,7 @@ impl PlaceStore {
     ghost use Rattle.ext_plain.specs.InnerPlaces.{is_spared, numbers_in, shown, HasEnded, IsAnswer, IsMove, IsNextUsed, KeepsUsed, HasLimitsOf};
 
     /// Makes an empty store with places for so many keys, which draws at most so many numbers.
-    pub fn new(alloc: Global, places: usize, numbers: u32) -> PlaceStore
+    pub(crate) fn new(alloc: Global, places: usize, numbers: u32) -> PlaceStore
         requires { places ≤ 1024 }
         ensures state { shown result ≡ opening }
         ensures places { result.places ≡ places }
@@ -47,7 +47,7 @@ impl PlaceStore {
     }
 
     /// Draws the next number.
-    pub fn keep(&mut self) -> Result<u32, PlainFault>
+    pub(crate) fn keep(&mut self) -> Result<u32, PlainFault>
         ensures reply { IsAnswer number_drawn any_lane (act.Keep ((shown self.old).drawn + 1)) self.old result }
         ensures state { IsMove any_lane (act.Keep ((shown self.old).drawn + 1)) self.old self.new }
         ensures limits { HasLimitsOf self.old self.new }
@@ -60,7 +60,7 @@ impl PlaceStore {
     }
 
     /// Looks up along a path.
-    pub fn get(&self, path: &[ContextNo], key: KeyNo) -> Look
+    pub(crate) fn get(&self, path: &[ContextNo], key: KeyNo) -> Look
         ensures { result ≡ lookup (under (shown self.now) key) path.now }
     {
         for context in path {
@@ -73,7 +73,12 @@ impl PlaceStore {
     }
 
     /// Stores the number at the place, as `PlainStore::put` does.
-    pub fn put(&mut self, at: ContextNo, key: KeyNo, number: u32) -> Result<Option<u32>, PlainFault>
+    pub(crate) fn put(
+        &mut self,
+        at: ContextNo,
+        key: KeyNo,
+        number: u32,
+    ) -> Result<Option<u32>, PlainFault>
         ensures reply { UnlessMemory result (IsAnswer what_stood any_lane (act.Put (at, key) number) self.old result) }
         ensures state { UnlessMemory result (IsMove any_lane (act.Put (at, key) number) self.old self.new) }
         ensures limits { HasLimitsOf self.old self.new }
@@ -90,7 +95,7 @@ impl PlaceStore {
     }
 
     /// Removes what stands at the place, as `PlainStore::remove` does.
-    pub fn remove(&mut self, at: ContextNo, key: KeyNo) -> Result<Option<u32>, PlainFault>
+    pub(crate) fn remove(&mut self, at: ContextNo, key: KeyNo) -> Result<Option<u32>, PlainFault>
         ensures reply { IsAnswer what_stood any_lane (act.Remove (at, key)) self.old result }
         ensures state { IsMove any_lane (act.Remove (at, key)) self.old self.new }
         ensures limits { HasLimitsOf self.old self.new }
@@ -102,7 +107,12 @@ impl PlaceStore {
     }
 
     /// Claims the empty place for the lane, as `PlainStore::claim` does.
-    pub fn claim(&mut self, at: ContextNo, key: KeyNo, lane: LaneNo) -> Result<(), PlainFault>
+    pub(crate) fn claim(
+        &mut self,
+        at: ContextNo,
+        key: KeyNo,
+        lane: LaneNo,
+    ) -> Result<(), PlainFault>
         ensures reply { UnlessMemory result (IsAnswer done lane (act.Claim (at, key)) self.old result) }
         ensures state { UnlessMemory result (IsMove lane (act.Claim (at, key)) self.old self.new) }
         ensures limits { HasLimitsOf self.old self.new }
@@ -120,7 +130,7 @@ impl PlaceStore {
     }
 
     /// Ends the lane's claim and stores the number at the place.
-    pub fn fill(&mut self, at: ContextNo, key: KeyNo, lane: LaneNo, number: u32)
+    pub(crate) fn fill(&mut self, at: ContextNo, key: KeyNo, lane: LaneNo, number: u32)
         requires { under (shown self.old) key at ≡ Some (slot.Claim lane) }
         ensures state { IsMove lane (act.Fill (at, key) number) self.old self.new }
         ensures limits { HasLimitsOf self.old self.new }
@@ -130,7 +140,7 @@ impl PlaceStore {
     }
 
     /// Ends the lane's claim and keeps the number at the place as that of a fault.
-    pub fn fail(&mut self, at: ContextNo, key: KeyNo, lane: LaneNo, number: u32)
+    pub(crate) fn fail(&mut self, at: ContextNo, key: KeyNo, lane: LaneNo, number: u32)
         requires { under (shown self.old) key at ≡ Some (slot.Claim lane) }
         ensures state { IsMove lane (act.Fail (at, key) number) self.old self.new }
         ensures limits { HasLimitsOf self.old self.new }
@@ -140,7 +150,7 @@ impl PlaceStore {
     }
 
     /// Ends the lane's claim and leaves the place empty.
-    pub fn abandon(&mut self, at: ContextNo, key: KeyNo, lane: LaneNo)
+    pub(crate) fn abandon(&mut self, at: ContextNo, key: KeyNo, lane: LaneNo)
         requires { under (shown self.old) key at ≡ Some (slot.Claim lane) }
         ensures state { IsMove lane (act.Abandon (at, key)) self.old self.new }
         ensures limits { HasLimitsOf self.old self.new }
@@ -149,7 +159,7 @@ impl PlaceStore {
     }
 
     /// Ends a context: seals its places that nobody used. Those that were used stay as they are.
-    pub fn end(&mut self, at: ContextNo) -> Result<(), AllocError>
+    pub(crate) fn end(&mut self, at: ContextNo) -> Result<(), AllocError>
         ensures ended { OnOk result (HasEnded at self.old self.new) }
         ensures limits { HasLimitsOf self.old self.new }
     {
@@ -158,7 +168,7 @@ impl PlaceStore {
     }
 
     /// The first used key of a context from this one on, among those that can have numbers.
-    pub fn next_used(&self, at: ContextNo, from: KeyNo) -> Option<KeyNo>
+    pub(crate) fn next_used(&self, at: ContextNo, from: KeyNo) -> Option<KeyNo>
         requires { from ≤ self.now.places }
         ensures next { IfSome result (IsNextUsed self.now at from) }
         ensures none { IfNone result ((key : ℕ) → from ≤ key → key < self.now.places → is_used self.now.used (at, key) ≡ false) }
@@ -170,7 +180,7 @@ impl PlaceStore {
     }
 
     /// Seals a used place, as `PlainStore::seal` does.
-    pub fn seal(&mut self, at: ContextNo, key: KeyNo) -> Result<Option<u32>, PlainFault>
+    pub(crate) fn seal(&mut self, at: ContextNo, key: KeyNo) -> Result<Option<u32>, PlainFault>
         requires { is_used self.old.used (at, key) ≡ true }
         ensures reply { UnlessMemory result (IsAnswer what_stood any_lane (act.Seal (at, key)) self.old result) }
         ensures state { UnlessMemory result (IsMove any_lane (act.Seal (at, key)) self.old self.new) }

@@ -22,10 +22,10 @@ use std::alloc::{AllocError, Global};
 
 /// A plain run between two nodes.
 #[derive(Drop)]
-pub struct PlainRunner<'a, L> {
-    pub caller: NodeCaller<'a, L>,
+pub(crate) struct PlainRunner<'a, L> {
+    pub(crate) caller: NodeCaller<'a, L>,
     /// A result for each node, skipped until it has run.
-    pub results: Vec<NodeResult>,
+    pub(crate) results: Vec<NodeResult>,
 }
 
 /// The outcome of a plain run.

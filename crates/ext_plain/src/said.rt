@@ -12,7 +12,7 @@ use ext_plan::{Reason, StepCall, aborted, failed, refused, unless_refused};
 use std::alloc::{AllocError, Global};
 
 /// The outcome of a step with this verdict, or that its text lacked memory.
-pub fn said(verdict: Result<Verdict, AllocError>) -> Result<Outcome, Lack>
+pub(crate) fn said(verdict: Result<Verdict, AllocError>) -> Result<Outcome, Lack>
     ensures { (v : VerdictText) → IfOk verdict (λ verdict. verdict_text verdict ≡ v) → IfErr verdict (λ _. is_successful v ≡ false) → Says v result }
 {
     match verdict {
@@ -22,14 +22,14 @@ pub fn said(verdict: Result<Verdict, AllocError>) -> Result<Outcome, Lack>
 }
 
 /// The outcome of a step whose call of the store was refused.
-pub fn say_refused(alloc: Global, call: &StepCall<'_>, why: Reason) -> Result<Outcome, Lack>
+pub(crate) fn say_refused(alloc: Global, call: &StepCall<'_>, why: Reason) -> Result<Outcome, Lack>
     ensures { Says (refused (call_view call.now).name (call_view call.now).label why) result }
 {
     said(refused(alloc, call, why))
 }
 
 /// The outcome of a step whose last call of the store was refused for `why`, if it was.
-pub fn say_unless_refused(
+pub(crate) fn say_unless_refused(
     alloc: Global,
     call: &StepCall<'_>,
     why: Option<Reason>,
@@ -40,14 +40,14 @@ pub fn say_unless_refused(
 }
 
 /// The outcome of a step `fail` with this text.
-pub fn say_failed(alloc: Global, text: &str) -> Result<Outcome, Lack>
+pub(crate) fn say_failed(alloc: Global, text: &str) -> Result<Outcome, Lack>
     ensures { Says (failed text.now) result }
 {
     Ok(Outcome::of(failed(String::from_str(alloc, text)?)))
 }
 
 /// The outcome of a step `abort` with this text.
-pub fn say_aborted(alloc: Global, text: &str) -> Result<Outcome, Lack>
+pub(crate) fn say_aborted(alloc: Global, text: &str) -> Result<Outcome, Lack>
     ensures { Says (aborted text.now) result }
 {
     Ok(Outcome::of(aborted(String::from_str(alloc, text)?)))

@@ -13,10 +13,10 @@ use ext_tree::{Key, Tree};
 
 /// A plan, its declared keys and the tree of its nodes.
 #[derive(Drop)]
-pub struct Setting<'a> {
-    pub plan: &'a Plan,
-    pub keys: StepKeys<'a>,
-    pub tree: &'a Tree,
+pub(crate) struct Setting<'a> {
+    pub(crate) plan: &'a Plan,
+    pub(crate) keys: StepKeys<'a>,
+    pub(crate) tree: &'a Tree,
     ghost keyed: { keys_view keys.keys.now ≡ keys_view plan.now.keys.items },
     ghost planted: { tree.now ≡ ids_of_nodes (plan_view plan.now).nodes },
     ghost short: { StepListsAreShort (plan_view plan.now) } by { Prim.hlevel props },
@@ -28,7 +28,7 @@ impl<'a> Setting<'a> {
     ghost use Rattle.ext_plan.specs.PlanCalls.{steps_of_call, test_of, concurrent_of};
 
     /// Joins the plan with the keys of the store that its labels name, in order.
-    pub fn of(plan: &'a Plan, made: &'a [Key]) -> Setting<'a>
+    pub(crate) fn of(plan: &'a Plan, made: &'a [Key]) -> Setting<'a>
         requires keys { made.now ≡ map named_key (keys_view plan.now.keys.items) }
         requires short { StepListsAreShort (plan_view plan.now) }
         requires called { CallbacksAreFew (plan_view plan.now) }
@@ -43,21 +43,21 @@ impl<'a> Setting<'a> {
     }
 
     /// Tests whether a node is a test.
-    pub fn is_test(&self, at: ContextNo) -> bool
+    pub(crate) fn is_test(&self, at: ContextNo) -> bool
         ensures { result ≡ is_some (test_of (plan_in self.now) at) }
     {
         self.plan.is_test(at)
     }
 
     /// Tests whether a node may run concurrently with its siblings.
-    pub fn is_concurrent(&self, at: ContextNo) -> bool
+    pub(crate) fn is_concurrent(&self, at: ContextNo) -> bool
         ensures { result ≡ concurrent_of (plan_in self.now) at }
     {
         self.plan.mode(at).is_concurrent()
     }
 
     /// The steps of a call, in order.
-    pub fn steps_of(&self, call: &Call) -> &'a [Step]
+    pub(crate) fn steps_of(&self, call: &Call) -> &'a [Step]
         ensures steps { map step_view result.now ≡ steps_of_call (plan_in self.now) call.now }
         ensures short { length result.now ≤ step_limit }
     {

@@ -9,7 +9,7 @@ use ext_plan::PlanNode;
 use std::alloc::{AllocError, Global};
 
 /// A result for each node before any has run, all of them skipped.
-pub fn skipped(alloc: Global, nodes: &[PlanNode]) -> Result<Vec<NodeResult>, AllocError>
+pub(crate) fn skipped(alloc: Global, nodes: &[PlanNode]) -> Result<Vec<NodeResult>, AllocError>
     ensures { IfOk result (λ v. results_view v.items ≡ skipped_from 0 (nodes_view nodes.now)) }
 {
     let mut results = Vec::new(alloc);

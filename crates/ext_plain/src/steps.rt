@@ -17,12 +17,12 @@ use std::alloc::Global;
 
 /// The outcome of the steps of a call.
 #[derive(Drop)]
-pub struct StepsOutcome {
-    pub outcome: Outcome,
+pub(crate) struct StepsOutcome {
+    pub(crate) outcome: Outcome,
     /// How many of them were successful: the number of the one that was not, if there is one.
-    pub passed: usize,
+    pub(crate) passed: usize,
     /// Whether one of them lacked memory.
-    pub lacked: bool,
+    pub(crate) lacked: bool,
 }
 
 /// The outcome of a step, and whether it lacked memory.
@@ -35,7 +35,7 @@ struct StepOutcome {
 impl<'a> ValueStore<'a> {
     /// Runs the steps of a call in the context of this path, in order, up to the first that is not
     /// successful.
-    pub fn run_steps(
+    pub(crate) fn run_steps(
         &mut self,
         alloc: Global,
         keys: &StepKeys<'_>,

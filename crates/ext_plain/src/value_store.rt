@@ -24,9 +24,9 @@ const LANE: LaneNo = 0;
 /// The store of a plain run. A step's call that is refused returns the reason, or that it lacked
 /// memory.
 #[derive(Drop)]
-pub struct ValueStore<'a> {
+pub(crate) struct ValueStore<'a> {
     keep_faults: bool,
-    pub store: PlaceStore,
+    pub(crate) store: PlaceStore,
     /// The keys that have a number.
     keys: Directory,
     /// The kept values; the first has number 1. The text of a kept fault is among them, as a value
@@ -39,7 +39,12 @@ impl<'a> ValueStore<'a> {
 
     /// Makes an empty store with places for so many keys, which draws at most so many numbers and
     /// keeps the faults of factories or not.
-    pub fn new(alloc: Global, keep_faults: bool, places: usize, numbers: u32) -> ValueStore<'a>
+    pub(crate) fn new(
+        alloc: Global,
+        keep_faults: bool,
+        places: usize,
+        numbers: u32,
+    ) -> ValueStore<'a>
         requires { places ≤ 1024 }
         ensures { state_view result ≡ value_opening keep_faults places numbers }
     {
@@ -52,14 +57,14 @@ impl<'a> ValueStore<'a> {
     }
 
     /// Whether the store keeps the faults of factories that fail.
-    pub fn keeps_faults(&self) -> bool
+    pub(crate) fn keeps_faults(&self) -> bool
         ensures { result ≡ (state_view self.now).keep_faults }
     {
         self.keep_faults
     }
 
     /// Declares a key: returns its number, the next one if it had none, or why it gets none.
-    pub fn declare(&mut self, key: &Key) -> Result<Result<KeyNo, Reason>, StepLack>
+    pub(crate) fn declare(&mut self, key: &Key) -> Result<Result<KeyNo, Reason>, StepLack>
         ensures { Declares key.now (state_view self.old) (state_view self.new) result }
     {
         if let Some(number) = self.keys.number_of(key) {
@@ -78,7 +83,7 @@ impl<'a> ValueStore<'a> {
     }
 
     /// Keeps a value, and returns the number that it draws.
-    pub fn keep(&mut self, value: PlanValue<'a>) -> Result<Result<u32, Reason>, Lack>
+    pub(crate) fn keep(&mut self, value: PlanValue<'a>) -> Result<Result<u32, Reason>, Lack>
         ensures kept { IfOk result (Keeps (value_view value.entry) (state_view self.old) (state_view self.new)) }
         ensures lacks { IfErr result (λ lack. lack ≡ lacks.Value) }
         ensures unchanged { OnErr result (state_view self.new ≡ state_view self.old) }
@@ -97,14 +102,14 @@ impl<'a> ValueStore<'a> {
     }
 
     /// Looks up along a path.
-    pub fn look(&self, path: &[ContextNo], key: KeyNo) -> Look
+    pub(crate) fn look(&self, path: &[ContextNo], key: KeyNo) -> Look
         ensures { result ≡ lookup (under (state_view self.now).store key) path.now }
     {
         self.store.get(path, key)
     }
 
     /// The value with this number, from 1; `None` if the number was never drawn.
-    pub fn value_of(&self, number: u32) -> Option<PlanValue<'a>>
+    pub(crate) fn value_of(&self, number: u32) -> Option<PlanValue<'a>>
         ensures { option_map value_view result ≡ value_of (state_view self.now).values number }
     {
         match number.checked_sub(1) {
@@ -114,7 +119,12 @@ impl<'a> ValueStore<'a> {
     }
 
     /// Stores a number, or returns why it is refused.
-    pub fn put(&mut self, at: ContextNo, key: KeyNo, number: u32) -> Result<Option<Reason>, Lack>
+    pub(crate) fn put(
+        &mut self,
+        at: ContextNo,
+        key: KeyNo,
+        number: u32,
+    ) -> Result<Option<Reason>, Lack>
         ensures state { OnOk result (state_view self.new ≡ after_act (act.Put (at, key) number) (state_view self.old)) }
         ensures why { IfOk result (λ why. why ≡ why_refused (act.Put (at, key) number) (state_view self.old)) }
         ensures lacks { IfErr result (λ lack. lack ≡ lacks.Place) }
@@ -125,7 +135,7 @@ impl<'a> ValueStore<'a> {
     }
 
     /// Removes what stands there, or returns why it is refused.
-    pub fn remove(&mut self, at: ContextNo, key: KeyNo) -> Option<Reason>
+    pub(crate) fn remove(&mut self, at: ContextNo, key: KeyNo) -> Option<Reason>
         ensures state { state_view self.new ≡ after_act (act.Remove (at, key)) (state_view self.old) }
         ensures why { result ≡ why_refused (act.Remove (at, key)) (state_view self.old) }
     {
@@ -137,7 +147,7 @@ impl<'a> ValueStore<'a> {
     }
 
     /// Claims an empty place, or returns why it is refused.
-    pub fn claim(&mut self, at: ContextNo, key: KeyNo) -> Result<Option<Reason>, Lack>
+    pub(crate) fn claim(&mut self, at: ContextNo, key: KeyNo) -> Result<Option<Reason>, Lack>
         ensures state { OnOk result (state_view self.new ≡ after_act (act.Claim (at, key)) (state_view self.old)) }
         ensures why { IfOk result (λ why. why ≡ why_refused (act.Claim (at, key)) (state_view self.old)) }
         ensures lacks { IfErr result (λ lack. lack ≡ lacks.Place) }
@@ -149,7 +159,7 @@ impl<'a> ValueStore<'a> {
     }
 
     /// Stores a number in a claimed place.
-    pub fn fill(&mut self, at: ContextNo, key: KeyNo, number: u32)
+    pub(crate) fn fill(&mut self, at: ContextNo, key: KeyNo, number: u32)
         requires { under (state_view self.old).store key at ≡ Some (slot.Claim any_lane) }
         ensures { state_view self.new ≡ after_act (act.Fill (at, key) number) (state_view self.old) }
     {
@@ -157,7 +167,7 @@ impl<'a> ValueStore<'a> {
     }
 
     /// Stores the number of a kept fault in a claimed place.
-    pub fn fail(&mut self, at: ContextNo, key: KeyNo, number: u32)
+    pub(crate) fn fail(&mut self, at: ContextNo, key: KeyNo, number: u32)
         requires { under (state_view self.old).store key at ≡ Some (slot.Claim any_lane) }
         ensures { state_view self.new ≡ after_act (act.Fail (at, key) number) (state_view self.old) }
     {
@@ -165,7 +175,7 @@ impl<'a> ValueStore<'a> {
     }
 
     /// Ends a claim: the place is empty.
-    pub fn abandon(&mut self, at: ContextNo, key: KeyNo)
+    pub(crate) fn abandon(&mut self, at: ContextNo, key: KeyNo)
         requires { under (state_view self.old).store key at ≡ Some (slot.Claim any_lane) }
         ensures { state_view self.new ≡ after_act (act.Abandon (at, key)) (state_view self.old) }
     {
@@ -173,7 +183,7 @@ impl<'a> ValueStore<'a> {
     }
 
     /// Seals a used place, and returns the number that the seal keeps.
-    pub fn seal(&mut self, at: ContextNo, key: KeyNo) -> Result<Option<u32>, AllocError>
+    pub(crate) fn seal(&mut self, at: ContextNo, key: KeyNo) -> Result<Option<u32>, AllocError>
         requires { is_used self.old.store.used (at, key) ≡ true }
         ensures used { self.new.store.used ≡ self.old.store.used }
         ensures state { OnOk result (state_view self.new ≡ after_act (act.Seal (at, key)) (state_view self.old)) }

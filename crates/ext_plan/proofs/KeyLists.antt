@@ -1,4 +1,4 @@
--- Different keys and their places, as one label after another names them.
+-- Different keys and their numbers, as one label after another names them.
 use Rattle.std.proofs.Common.{◌≡◌, ◌+◌, ◌<◌, ◌≤◌, suc, Bool, true, false, List, [], ◌∷◌, ◌++◌, length, Some, Contains, refl, sym, ap, ◌∙◌, arith, append_assoc, append-nil, length-append, true≢false}
 use Rattle.std.specs.Prelude.{if◌then◌else◌}
 use Rattle.std.proofs.lemmas.Map.Views.{list_any-from_Contains}
@@ -7,7 +7,7 @@ use Rattle.ext_tree.specs.Keys.{KeyValue, HasNumber}
 use Rattle.ext_tree.specs.Traits.{key_eq, key_eq_equiv}
 use Rattle.ext_tree.proofs.Equalities.{keys_Decides}
 use Rattle.ext_plan.specs.Plans.{KeyText}
-use Rattle.ext_plan.specs.StoreKeys.{named_key, is_there, with_key, keys_with, place_of_key}
+use Rattle.ext_plan.specs.StoreKeys.{named_key, is_there, with_key, keys_with, number_of_key}
 
 -- ---- whether a key is there
 
@@ -48,43 +48,43 @@ there_last : (keys : List KeyValue) (key : KeyValue) → is_there (keys ++ key �
 there_last [] key = rw ((keys_Decides key key).1 refl) refl
 there_last (first ∷ keys) key = there_last_at keys key first _ refl (there_last keys key)
 
--- ---- the place of a key
+-- ---- the number of a key
 
 -- a key that is there, but not in front, is behind
 there_behind : (keys : List KeyValue) (key first : KeyValue) (r : Bool) → key_eq first key ≡ false → is_there (first ∷ keys) key ≡ r → is_there keys key ≡ r
 there_behind keys key first r e h = rw (equal_back first key false e) at h
 
-has_place_at : (keys : List KeyValue) (key first : KeyValue) (r : Bool) → key_eq first key ≡ r → is_there (first ∷ keys) key ≡ true → (is_there keys key ≡ true → HasNumber keys key (place_of_key keys key)) → HasNumber (first ∷ keys) key (place_of_key (first ∷ keys) key)
-has_place_at keys key first true e h next = rw e (ap Some ((keys_Decides first key).0 e))
-has_place_at keys key first false e h next = rw e (next (there_behind keys key first true e h))
+has_key_number_at : (keys : List KeyValue) (key first : KeyValue) (r : Bool) → key_eq first key ≡ r → is_there (first ∷ keys) key ≡ true → (is_there keys key ≡ true → HasNumber keys key (number_of_key keys key)) → HasNumber (first ∷ keys) key (number_of_key (first ∷ keys) key)
+has_key_number_at keys key first true e h next = rw e (ap Some ((keys_Decides first key).0 e))
+has_key_number_at keys key first false e h next = rw e (next (there_behind keys key first true e h))
 
-pub has_place : (keys : List KeyValue) (key : KeyValue) → is_there keys key ≡ true → HasNumber keys key (place_of_key keys key)
-has_place [] key h = absurd (true≢false (sym h))
-has_place (first ∷ keys) key h = has_place_at keys key first _ refl h (has_place keys key)
+pub has_key_number : (keys : List KeyValue) (key : KeyValue) → is_there keys key ≡ true → HasNumber keys key (number_of_key keys key)
+has_key_number [] key h = absurd (true≢false (sym h))
+has_key_number (first ∷ keys) key h = has_key_number_at keys key first _ refl h (has_key_number keys key)
 
-place_within_at : (keys : List KeyValue) (key first : KeyValue) (r : Bool) → key_eq first key ≡ r → is_there (first ∷ keys) key ≡ true → (is_there keys key ≡ true → place_of_key keys key < length keys) → place_of_key (first ∷ keys) key < length (first ∷ keys)
-place_within_at keys key first true e h next = rw e (omega arith)
-place_within_at keys key first false e h next = rw e (let less : place_of_key keys key < length keys = next (there_behind keys key first true e h) in omega (arith, less))
+key_number_within_at : (keys : List KeyValue) (key first : KeyValue) (r : Bool) → key_eq first key ≡ r → is_there (first ∷ keys) key ≡ true → (is_there keys key ≡ true → number_of_key keys key < length keys) → number_of_key (first ∷ keys) key < length (first ∷ keys)
+key_number_within_at keys key first true e h next = rw e (omega arith)
+key_number_within_at keys key first false e h next = rw e (let less : number_of_key keys key < length keys = next (there_behind keys key first true e h) in omega (arith, less))
 
-pub place_within : (keys : List KeyValue) (key : KeyValue) → is_there keys key ≡ true → place_of_key keys key < length keys
-place_within [] key h = absurd (true≢false (sym h))
-place_within (first ∷ keys) key h = place_within_at keys key first _ refl h (place_within keys key)
+pub key_number_within : (keys : List KeyValue) (key : KeyValue) → is_there keys key ≡ true → number_of_key keys key < length keys
+key_number_within [] key h = absurd (true≢false (sym h))
+key_number_within (first ∷ keys) key h = key_number_within_at keys key first _ refl h (key_number_within keys key)
 
-place_last_at : (keys : List KeyValue) (key first : KeyValue) (r : Bool) → key_eq first key ≡ r → is_there (first ∷ keys) key ≡ false → (is_there keys key ≡ false → place_of_key (keys ++ key ∷ []) key ≡ length keys) → place_of_key (first ∷ keys ++ key ∷ []) key ≡ length (first ∷ keys)
-place_last_at keys key first true e h next = absurd (true≢false (rw (equal_back first key true e) at h))
-place_last_at keys key first false e h next = rw e (ap suc (next (there_behind keys key first false e h)))
+key_number_last_at : (keys : List KeyValue) (key first : KeyValue) (r : Bool) → key_eq first key ≡ r → is_there (first ∷ keys) key ≡ false → (is_there keys key ≡ false → number_of_key (keys ++ key ∷ []) key ≡ length keys) → number_of_key (first ∷ keys ++ key ∷ []) key ≡ length (first ∷ keys)
+key_number_last_at keys key first true e h next = absurd (true≢false (rw (equal_back first key true e) at h))
+key_number_last_at keys key first false e h next = rw e (ap suc (next (there_behind keys key first false e h)))
 
-pub place_last : (keys : List KeyValue) (key : KeyValue) → is_there keys key ≡ false → place_of_key (keys ++ key ∷ []) key ≡ length keys
-place_last [] key h = rw ((keys_Decides key key).1 refl) refl
-place_last (first ∷ keys) key h = place_last_at keys key first _ refl h (place_last keys key)
+pub key_number_last : (keys : List KeyValue) (key : KeyValue) → is_there keys key ≡ false → number_of_key (keys ++ key ∷ []) key ≡ length keys
+key_number_last [] key h = rw ((keys_Decides key key).1 refl) refl
+key_number_last (first ∷ keys) key h = key_number_last_at keys key first _ refl h (key_number_last keys key)
 
-place_before_at : (keys more : List KeyValue) (key first : KeyValue) (r : Bool) → key_eq first key ≡ r → is_there (first ∷ keys) key ≡ true → (is_there keys key ≡ true → place_of_key (keys ++ more) key ≡ place_of_key keys key) → place_of_key (first ∷ keys ++ more) key ≡ place_of_key (first ∷ keys) key
-place_before_at keys more key first true e h next = rw e refl
-place_before_at keys more key first false e h next = rw e (ap suc (next (there_behind keys key first true e h)))
+key_number_before_at : (keys more : List KeyValue) (key first : KeyValue) (r : Bool) → key_eq first key ≡ r → is_there (first ∷ keys) key ≡ true → (is_there keys key ≡ true → number_of_key (keys ++ more) key ≡ number_of_key keys key) → number_of_key (first ∷ keys ++ more) key ≡ number_of_key (first ∷ keys) key
+key_number_before_at keys more key first true e h next = rw e refl
+key_number_before_at keys more key first false e h next = rw e (ap suc (next (there_behind keys key first true e h)))
 
-place_before : (keys more : List KeyValue) (key : KeyValue) → is_there keys key ≡ true → place_of_key (keys ++ more) key ≡ place_of_key keys key
-place_before [] more key h = absurd (true≢false (sym h))
-place_before (first ∷ keys) more key h = place_before_at keys more key first _ refl h (place_before keys more key)
+key_number_before : (keys more : List KeyValue) (key : KeyValue) → is_there keys key ≡ true → number_of_key (keys ++ more) key ≡ number_of_key keys key
+key_number_before [] more key h = absurd (true≢false (sym h))
+key_number_before (first ∷ keys) more key h = key_number_before_at keys more key first _ refl h (key_number_before keys more key)
 
 -- ---- one key more, and many
 
@@ -122,9 +122,9 @@ there_with keys key = by _ refl
     by true e = ap (λ ks. is_there ks key) (with_old keys key e) ∙ e
     by false e = ap (λ ks. is_there ks key) (with_new keys key e) ∙ there_last keys key
 
--- a key that is there keeps its place
-pub place_kept : (before : List KeyValue) (keys : List KeyText) (key : KeyValue) → is_there before key ≡ true → place_of_key (keys_with before keys) key ≡ place_of_key before key
-place_kept before keys key h = let g = grows_all before keys in ap (λ ks. place_of_key ks key) g.1 ∙ place_before before g.0 key h
+-- a key that is there keeps its number
+pub key_number_kept : (before : List KeyValue) (keys : List KeyText) (key : KeyValue) → is_there before key ≡ true → number_of_key (keys_with before keys) key ≡ number_of_key before key
+key_number_kept before keys key h = let g = grows_all before keys in ap (λ ks. number_of_key ks key) g.1 ∙ key_number_before before g.0 key h
 
 pub there_kept : (before : List KeyValue) (keys : List KeyText) (key : KeyValue) → is_there before key ≡ true → is_there (keys_with before keys) key ≡ true
 there_kept before keys key h = let g = grows_all before keys in ap (λ ks. is_there ks key) g.1 ∙ there_before before g.0 key h

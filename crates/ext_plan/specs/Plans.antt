@@ -27,7 +27,7 @@ pub record KeyText : Type 0 where
   pub name : List ℕ
   pub namespace : Option (List (List ℕ))
 
--- The key that a step names, by the place of its label among the plan's keys, or by its name in the global namespace.
+-- The key that a step names, by the number of its label among the plan's keys, or by its name in the global namespace.
 pub data StepKeyText : Type 0 where
   label : ℕ → StepKeyText
   named : List ℕ → StepKeyText

@@ -15,7 +15,7 @@ namespace_of (Some parts) = created_namespace parts
 abbrev pub named_key : KeyText → KeyValue
 named_key key = key_of (namespace_of key.namespace) key.name
 
--- The declared key at this place among the plan's keys. Past the last, the label and the name are empty.
+-- The declared key with this number among the plan's keys. Past the last, the label and the name are empty.
 abbrev pub declared_key : List KeyText → ℕ → KeyText
 declared_key keys number = slice_index_or keys number (record { label = []; name = []; namespace = None })
 
@@ -40,10 +40,10 @@ keys_with before (key ∷ more) = keys_with (with_key before (named_key key)) mo
 abbrev pub different_keys : List KeyText → List KeyValue
 different_keys keys = keys_with [] keys
 
--- The place of a key among the keys.
-abbrev pub place_of_key : List KeyValue → KeyValue → ℕ
-place_of_key [] key = zero
-place_of_key (first ∷ more) key = if key_eq first key then zero else suc (place_of_key more key)
+-- The number of a key among the keys: its index.
+abbrev pub number_of_key : List KeyValue → KeyValue → ℕ
+number_of_key [] key = zero
+number_of_key (first ∷ more) key = if key_eq first key then zero else suc (number_of_key more key)
 
 -- A created namespace has a part.
 abbrev pub HasParts : KeyText → Type 0

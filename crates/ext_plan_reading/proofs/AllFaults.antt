@@ -15,8 +15,8 @@ use Rattle.ext_plan.specs.Plans.{KeyText, NodeText}
 use Rattle.ext_plan.proofs.Lists.{map-push}
 use Rattle.ext_plan_reading.specs.declared.fault.PlanFault.{PlanFault}
 use Rattle.ext_plan_reading.specs.declared.fault.PlanFault.TheVariants as faults
-use Rattle.ext_plan_reading.specs.declared.fault.Place.TheVariants as places
-use Rattle.ext_plan_reading.specs.AllFaults.{BeginAs, fault_of, faults_behind, or_else, with_label, key_faults, sketch_faults, new_fault, told_after, node_fault, node_faults, faults_of_nodes, faults_behind_tables, faults_of_tables, faults_of, faults_of_text}
+use Rattle.ext_plan_reading.specs.declared.fault.PlanPart.TheVariants as plan_parts
+use Rattle.ext_plan_reading.specs.AllFaults.{BeginAs, fault_of, faults_behind, or_else, with_label, key_faults, sketch_faults, new_fault, noted_after, node_fault, node_faults, faults_of_nodes, faults_behind_tables, faults_of_tables, faults_of, faults_of_text}
 use Rattle.ext_plan_reading.specs.Depths.{least_test_depth}
 use Rattle.ext_plan_reading.specs.Faults.{some_or, check, Fails, Gives, ◌>>=◌}
 use Rattle.ext_plan_reading.specs.Fields.{has_only, text_at, texts_in, array_of, places_in, field_or, optional}
@@ -35,8 +35,8 @@ pub failed : {Y : Type 0} (e : PlanFault) (read : Result Y PlanFault) → Some e
 failed faults.Memory read other h = absurd (other refl)
 failed faults.NotUtf8 read other h = h
 failed faults.NotToml read other h = h
-failed (faults.UnknownField place) read other h = h
-failed (faults.BadField place) read other h = h
+failed (faults.UnknownField part) read other h = h
+failed (faults.BadField part) read other h = h
 failed (faults.BadLabel key) read other h = h
 failed (faults.BadId node) read other h = h
 failed faults.BadTree read other h = h
@@ -85,8 +85,8 @@ new_label labels found label is fresh = ap (with_label labels) is ∙ ap (λ b. 
 pub label_was : (number : ℕ) (labels : List (List ℕ)) (fields : Members) (key : KeyText) → key_at number labels fields ≡ Ok key → with_label labels (text_at (codes "label") fields) ≡ labels ++ key.label ∷ []
 unfolding key_at
 label_was number labels fields key h =
-    let fault = faults.BadField (places.Key number) in
-    let known = both_gave (check (faults.UnknownField (places.Key number)) (has_only key_fields fields)) _ _ h in
+    let fault = faults.BadField (plan_parts.Key number) in
+    let known = both_gave (check (faults.UnknownField (plan_parts.Key number)) (has_only key_fields fields)) _ _ h in
     let label = both_gave (some_or fault (text_at (codes "label") fields)) _ _ known.2 in
     let name = both_gave (optional as_str fault (get_member (codes "name") fields)) _ _ label.2 in
     let namespace = both_gave (optional texts_in fault (get_member (codes "namespace") fields)) _ _ name.2 in
@@ -113,13 +113,13 @@ pub no_sketch : (number : ℕ) → sketch_faults number [] ≡ []
 unfolding sketch_faults
 no_sketch number = refl
 
-pub one_node : (labels : List (List ℕ)) (all : List Sketch) (told : Option ℕ) (number : ℕ) (sketch : Sketch) (more : List Sketch) → node_faults labels all told number (sketch ∷ more) ≡ new_fault told sketch.table (node_fault labels all number sketch) ++ node_faults labels all (told_after told sketch.table (node_fault labels all number sketch)) (number + 1) more
+pub one_node : (labels : List (List ℕ)) (all : List Sketch) (noted : Option ℕ) (number : ℕ) (sketch : Sketch) (more : List Sketch) → node_faults labels all noted number (sketch ∷ more) ≡ new_fault noted sketch.table (node_fault labels all number sketch) ++ node_faults labels all (noted_after noted sketch.table (node_fault labels all number sketch)) (number + 1) more
 unfolding node_faults
-one_node labels all told number sketch more = refl
+one_node labels all noted number sketch more = refl
 
-pub no_node : (labels : List (List ℕ)) (all : List Sketch) (told : Option ℕ) (number : ℕ) → node_faults labels all told number [] ≡ []
+pub no_node : (labels : List (List ℕ)) (all : List Sketch) (noted : Option ℕ) (number : ℕ) → node_faults labels all noted number [] ≡ []
 unfolding node_faults
-no_node labels all told number = refl
+no_node labels all noted number = refl
 
 -- the faults so far, with those that are left, are all of them; and so they are one turn later
 pub key_turn : (so_far now all : List PlanFault) (number : ℕ) (labels next : List (List ℕ)) (fields : Members) (more : List Members) → so_far ++ key_faults number labels (fields ∷ more) ≡ all
@@ -136,14 +136,14 @@ sketch_turn so_far now all number fields more h added =
     ap (λ l. l ++ sketch_faults (number + 1) more) added ∙ append_assoc so_far fault (sketch_faults (number + 1) more)
     ∙ ap (λ l. so_far ++ l) (sym (one_sketch number fields more)) ∙ h
 
-pub second_turn : (so_far now found : List PlanFault) (labels : List (List ℕ)) (all : List Sketch) (told next : Option ℕ) (number : ℕ) (sketch : Sketch) (more : List Sketch) (fault : Option PlanFault)
-    → so_far ++ node_faults labels all told number (sketch ∷ more) ≡ found → fault ≡ node_fault labels all number sketch → now ≡ so_far ++ new_fault told sketch.table fault → next ≡ told_after told sketch.table fault
+pub second_turn : (so_far now found : List PlanFault) (labels : List (List ℕ)) (all : List Sketch) (noted next : Option ℕ) (number : ℕ) (sketch : Sketch) (more : List Sketch) (fault : Option PlanFault)
+    → so_far ++ node_faults labels all noted number (sketch ∷ more) ≡ found → fault ≡ node_fault labels all number sketch → now ≡ so_far ++ new_fault noted sketch.table fault → next ≡ noted_after noted sketch.table fault
     → now ++ node_faults labels all next (number + 1) more ≡ found
-second_turn so_far now found labels all told next number sketch more fault h is added last =
-    ap (λ l. l ++ node_faults labels all next (number + 1) more) added ∙ append_assoc so_far (new_fault told sketch.table fault) (node_faults labels all next (number + 1) more)
-    ∙ ap (λ t. so_far ++ (new_fault told sketch.table fault ++ node_faults labels all t (number + 1) more)) last
-    ∙ ap (λ f. so_far ++ (new_fault told sketch.table f ++ node_faults labels all (told_after told sketch.table f) (number + 1) more)) is
-    ∙ ap (λ l. so_far ++ l) (sym (one_node labels all told number sketch more)) ∙ h
+second_turn so_far now found labels all noted next number sketch more fault h is added last =
+    ap (λ l. l ++ node_faults labels all next (number + 1) more) added ∙ append_assoc so_far (new_fault noted sketch.table fault) (node_faults labels all next (number + 1) more)
+    ∙ ap (λ t. so_far ++ (new_fault noted sketch.table fault ++ node_faults labels all t (number + 1) more)) last
+    ∙ ap (λ f. so_far ++ (new_fault noted sketch.table f ++ node_faults labels all (noted_after noted sketch.table f) (number + 1) more)) is
+    ∙ ap (λ l. so_far ++ l) (sym (one_node labels all noted number sketch more)) ∙ h
 
 pub all_keys : (found all : List PlanFault) (number : ℕ) (labels : List (List ℕ)) (left : List Members) → left ≡ [] → found ++ key_faults number labels left ≡ all → found ≡ all
 all_keys found all number labels left none h = sym (append-nil found) ∙ ap (λ l. found ++ l) (sym (no_key number labels)) ∙ ap (λ l. found ++ key_faults number labels l) (sym none) ∙ h
@@ -151,8 +151,8 @@ all_keys found all number labels left none h = sym (append-nil found) ∙ ap (λ
 pub all_sketches : (found all : List PlanFault) (number : ℕ) (left : List Members) → left ≡ [] → found ++ sketch_faults number left ≡ all → found ≡ all
 all_sketches found all number left none h = sym (append-nil found) ∙ ap (λ l. found ++ l) (sym (no_sketch number)) ∙ ap (λ l. found ++ sketch_faults number l) (sym none) ∙ h
 
-pub all_nodes : (found whole : List PlanFault) (labels : List (List ℕ)) (all : List Sketch) (told : Option ℕ) (number : ℕ) (left : List Sketch) → left ≡ [] → found ++ node_faults labels all told number left ≡ whole → found ≡ whole
-all_nodes found whole labels all told number left none h = sym (append-nil found) ∙ ap (λ l. found ++ l) (sym (no_node labels all told number)) ∙ ap (λ l. found ++ node_faults labels all told number l) (sym none) ∙ h
+pub all_nodes : (found whole : List PlanFault) (labels : List (List ℕ)) (all : List Sketch) (noted : Option ℕ) (number : ℕ) (left : List Sketch) → left ≡ [] → found ++ node_faults labels all noted number left ≡ whole → found ≡ whole
+all_nodes found whole labels all noted number left none h = sym (append-nil found) ∙ ap (λ l. found ++ l) (sym (no_node labels all noted number)) ∙ ap (λ l. found ++ node_faults labels all noted number l) (sym none) ∙ h
 
 -- the second pass over the node of this number, by the children that it has in the tree of all
 pub at_number : (labels : List (List ℕ)) (ids : List Id) (all : List Sketch) (sketch : Sketch) (number : ℕ) (children : List ℕ) (childless : Bool) (least : ℕ)
@@ -186,7 +186,7 @@ sketches_begin before (fields ∷ more) =
     subst (λ n. BeginAs (sketches_after (before ++ sketch ∷ []) more) (sketch_faults n more)) (length_push before sketch) (sketches_begin (before ++ sketch ∷ []) more))
 
 node_turn : {B : Type 0} (read : Result NodeText PlanFault) (table : ℕ) (next : NodeText → Result B PlanFault) (rest : Option ℕ → List PlanFault) → ((x : NodeText) → BeginAs (next x) (rest None))
-    → BeginAs (read >>= next) (new_fault None table (result_err read) ++ rest (told_after None table (result_err read)))
+    → BeginAs (read >>= next) (new_fault None table (result_err read) ++ rest (noted_after None table (result_err read)))
 node_turn (Ok x) table next rest h = h x
 node_turn (Err e) table next rest h = (rest (Some table), refl)
 
@@ -194,7 +194,7 @@ nodes_begin : (labels : List (List ℕ)) (all : List Sketch) (before : List Node
 unfolding nodes_after node_faults
 nodes_begin labels all before [] = refl
 nodes_begin labels all before (sketch ∷ more) =
-    node_turn (node_at labels (has_children (ids_of all) (length before)) (least_test_depth (outlines_of all) sketch.id) sketch) sketch.table (λ node. nodes_after labels all (before ++ node ∷ []) more) (λ told. node_faults labels all told (length before + 1) more) (λ node.
+    node_turn (node_at labels (has_children (ids_of all) (length before)) (least_test_depth (outlines_of all) sketch.id) sketch) sketch.table (λ node. nodes_after labels all (before ++ node ∷ []) more) (λ noted. node_faults labels all noted (length before + 1) more) (λ node.
     subst (λ n. BeginAs (nodes_after labels all (before ++ node ∷ []) more) (node_faults labels all None n more)) (length_push before node) (nodes_begin labels all (before ++ node ∷ []) more))
 
 -- ---- the faults of one stage
@@ -261,8 +261,8 @@ both_parts (Err e) next part more h = ([], refl)
 document_begins : (size : Size) (top : Members) → BeginAs (plan_of size top) (faults_of size top)
 unfolding plan_of faults_of top_at
 document_begins size top =
-    let fault = faults.BadField places.Whole in
-    both_parts (check (faults.UnknownField places.Whole) (has_only top_fields top)) _ _ (faults_of_tables size) (λ _.
+    let fault = faults.BadField plan_parts.Whole in
+    both_parts (check (faults.UnknownField plan_parts.Whole) (has_only top_fields top)) _ _ (faults_of_tables size) (λ _.
     both_parts (field_or false as_bool fault (get_member (codes "keep_faults") top)) _ _ (faults_of_tables size) (λ keep_faults.
     both_parts (field_or 64 places_in fault (get_member (codes "keys") top)) _ _ (faults_of_tables size) (λ key_places.
     both_parts (field_or [] (array_of as_table) fault (get_member (codes "key") top)) _ _ (faults_of_tables size) (λ key_tables.

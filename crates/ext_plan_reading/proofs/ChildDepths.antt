@@ -18,7 +18,7 @@ use Rattle.ext_plan_reading.specs.declared.nodes.NodeSketch.{NodeSketch}
 use Rattle.ext_plan_reading.specs.Depths.{Outline, is_at_or_below, with_depth, least_test_depth}
 use Rattle.ext_plan_reading.specs.InnerSketches.{sketch_view, words_view}
 use Rattle.ext_plan_reading.specs.NodeReading.{Sketch, ids_of, outlines_of}
-use Rattle.ext_plan_reading.proofs.TestDepths.{told_below, at_most, least_from, least_is_below}
+use Rattle.ext_plan_reading.proofs.TestDepths.{below_is_true, at_most, least_from, least_is_below}
 
 -- a node's id, and whether it is a test
 abbrev outline_of : Sketch → Outline
@@ -27,12 +27,12 @@ outline_of sketch = (sketch.id, is_some sketch.test)
 -- ---- nodes below others
 
 -- what the test tells
-below_told : (above id : Id) → is_at_or_below above id ≡ true → IsAtOrBelow above id
-below_told [] id h = (id, refl)
-below_told (pair ∷ above) [] h = absurd cc
-below_told (pair ∷ above) (other ∷ id) h =
+true_is_below : (above id : Id) → is_at_or_below above id ≡ true → IsAtOrBelow above id
+true_is_below [] id h = (id, refl)
+true_is_below (pair ∷ above) [] h = absurd cc
+true_is_below (pair ∷ above) (other ∷ id) h =
     let both = and_parts (pair_eq pair other) (is_at_or_below above id) h in
-    let rest = below_told above id both.1 in
+    let rest = true_is_below above id both.1 in
     (rest.0, ap (λ p. p ∷ id) (sym ((pair_eq-Decides pair other).0 both.0)) ∙ ap (λ xs. pair ∷ xs) rest.1)
 
 below_child : (parent child id : Id) → IsParent parent child → IsAtOrBelow child id → IsAtOrBelow parent id
@@ -115,7 +115,7 @@ children_least depth m least (child ∷ children) low each =
 abbrev pub ids_in : List Outline → List Id
 ids_in nodes = map (λ node. node.0) nodes
 
--- the least depth of tests at or below the node at a place
+-- the least depth of tests at or below the node at an index
 abbrev pub least_at : List Outline → ℕ → ℕ
 least_at nodes k = least_test_depth nodes (id_at (ids_in nodes) k)
 
@@ -137,7 +137,7 @@ module _ (nodes : List Outline) where
       let low = least_is_below nodes id k d less test ([], sym (id_of k d less) ∙ sym (append-nil id)) in
       let high = at_least id (length id) 16 nodes few (λ j e less h.
       let both = and_parts (get_or nodes j e).1 (is_at_or_below id (get_or nodes j e).0) h in
-      let below = below_told id (get_or nodes j e).0 both.1 in
+      let below = true_is_below id (get_or nodes j e).0 both.1 in
       let long = ap length below.1 in
       omega (arith, long, length-append id below.0)) in
       omega (arith, own, low, high)
@@ -148,8 +148,8 @@ module _ (nodes : List Outline) (tree : IsTree (ids_in nodes)) where
       let ids = ids_in nodes in
       at_least (id_at ids c) (least_at nodes k) 16 nodes (at_most (id_at ids k) 16 nodes) (λ j d less h.
       let both = and_parts (get_or nodes j d).1 (is_at_or_below (id_at ids c) (get_or nodes j d).0) h in
-      let below = below_child (id_at ids k) (id_at ids c) (get_or nodes j d).0 is.ids_are (below_told (id_at ids c) (get_or nodes j d).0 both.1) in
-      least_from (id_at ids k) 16 nodes j d less (and_from _ _ both.0 (told_below (id_at ids k) (get_or nodes j d).0 below)))
+      let below = below_child (id_at ids k) (id_at ids c) (get_or nodes j d).0 is.ids_are (true_is_below (id_at ids c) (get_or nodes j d).0 both.1) in
+      least_from (id_at ids k) 16 nodes j d less (and_from _ _ both.0 (below_is_true (id_at ids k) (get_or nodes j d).0 below)))
 
   -- any other node
   of_children : (k : ℕ) → k < length nodes → ((d : Outline) → (get_or nodes k d).1 ≡ false) → fold (with_child (least_at nodes)) 16 (children_of (ids_in nodes) k) ≡ least_at nodes k
@@ -162,12 +162,12 @@ module _ (nodes : List Outline) (tree : IsTree (ids_in nodes)) where
       let low = at_least (id_at ids k) (fold (with_child (least_at nodes)) 16 children) 16 nodes (children_low (least_at nodes) 16 children) (λ j d inside h.
       let both = and_parts (get_or nodes j d).1 (is_at_or_below (id_at ids k) (get_or nodes j d).0) h in
       let apart : j ≢ k = (λ same. true≢false (sym both.0 ∙ ap (λ i. (get_or nodes i d).1) same ∙ no_test d)) in
-      let below = subst (IsAtOrBelow (id_at ids k)) (sym (id_of nodes j d inside)) (below_told (id_at ids k) (get_or nodes j d).0 both.1) in
+      let below = subst (IsAtOrBelow (id_at ids k)) (sym (id_of nodes j d inside)) (true_is_below (id_at ids k) (get_or nodes j d).0 both.1) in
       let c = child_toward ids tree (suc j) k j (omega arith) k_less (omega (arith, inside, counted nodes)) apart below in
       let listed = list.listed c.0 c.1 in
       let child = subst (λ i. fold (with_child (least_at nodes)) 16 children ≤ least_at nodes i) listed.2 (children_each (least_at nodes) 16 children listed.0 c.0 listed.1) in
-      let told = told_below (id_at ids c.0) (get_or nodes j d).0 (subst (IsAtOrBelow (id_at ids c.0)) (id_of nodes j d inside) c.2) in
-      let test = least_from (id_at ids c.0) 16 nodes j d inside (and_from _ _ both.0 told) in
+      let is_below = below_is_true (id_at ids c.0) (get_or nodes j d).0 (subst (IsAtOrBelow (id_at ids c.0)) (id_of nodes j d inside) c.2) in
+      let test = least_from (id_at ids c.0) 16 nodes j d inside (and_from _ _ both.0 is_below) in
       omega (arith, child, test)) in
       omega (arith, high, low)
 
@@ -186,7 +186,7 @@ module _ (nodes : List Outline) (tree : IsTree (ids_in nodes)) where
 pub sketch_at : (sketches : List NodeSketch) (k : ℕ) (s : NodeSketch) → k < length sketches → s ≡ get_or sketches k s → sketch_view s ≡ get_or (map sketch_view sketches) k (sketch_view s)
 sketch_at sketches k s less is = sym (get_or-map sketch_view sketches k s (sketch_view s) less ∙ ap sketch_view (sym is))
 
--- the id of the sketch at a place
+-- the id of the sketch at an index
 pub id_here : (sketches : List NodeSketch) (ids : List Id) (k n : ℕ) (s : NodeSketch) → ids ≡ ids_of (map sketch_view sketches) → n ≡ k → k < length sketches → s ≡ get_or sketches k s → id_at ids n ≡ s.id
 id_here sketches ids k n s are place less is =
     let inside : n < length (map sketch_view sketches) = omega (arith, place, less, length-map sketches sketch_view) in

@@ -14,7 +14,7 @@ use Rattle.ext_plan.specs.StoreKeys.{HasParts}
 use Rattle.ext_plan.specs.Labels.{labels_of, is_label, is_word}
 use Rattle.ext_plan.proofs.Lists.{map-push}
 use Rattle.ext_plan_reading.specs.declared.fault.PlanFault.TheVariants as faults
-use Rattle.ext_plan_reading.specs.declared.fault.Place.TheVariants as places
+use Rattle.ext_plan_reading.specs.declared.fault.PlanPart.TheVariants as plan_parts
 use Rattle.ext_plan_reading.specs.Faults.{some_or, check}
 use Rattle.ext_plan_reading.specs.Fields.{has_only, text_at, texts_in, optional}
 use Rattle.ext_plan_reading.specs.KeyReading.{key_fields, has_parts, key_at, keys_after}
@@ -45,10 +45,10 @@ record IsOwn (labels : List (List ℕ)) (key : KeyText) : Type 0 where
 key_is_own : (number : ℕ) (labels : List (List ℕ)) (fields : Members) (key : KeyText) → key_at number labels fields ≡ Ok key → IsOwn labels key
 unfolding key_at
 key_is_own number labels fields key h =
-    let known_fields = both_gave (check (faults.UnknownField (places.Key number)) (has_only key_fields fields)) _ _ h in
-    let label = both_gave (some_or (faults.BadField (places.Key number)) (text_at (codes "label") fields)) _ _ known_fields.2 in
-    let name = both_gave (optional as_str (faults.BadField (places.Key number)) (get_member (codes "name") fields)) _ _ label.2 in
-    let namespace = both_gave (optional texts_in (faults.BadField (places.Key number)) (get_member (codes "namespace") fields)) _ _ name.2 in
+    let known_fields = both_gave (check (faults.UnknownField (plan_parts.Key number)) (has_only key_fields fields)) _ _ h in
+    let label = both_gave (some_or (faults.BadField (plan_parts.Key number)) (text_at (codes "label") fields)) _ _ known_fields.2 in
+    let name = both_gave (optional as_str (faults.BadField (plan_parts.Key number)) (get_member (codes "name") fields)) _ _ label.2 in
+    let namespace = both_gave (optional texts_in (faults.BadField (plan_parts.Key number)) (get_member (codes "namespace") fields)) _ _ name.2 in
     let good = both_gave (check (faults.BadLabel number) (is_word label.0 && has_parts namespace.0 && not (is_label labels label.0))) _ _ namespace.2 in
     let all = and_parts (is_word label.0 && has_parts namespace.0) (not (is_label labels label.0)) (passed _ (is_word label.0 && has_parts namespace.0 && not (is_label labels label.0)) good.0 good.1) in
     let both = and_parts (is_word label.0) (has_parts namespace.0) all.0 in

@@ -14,7 +14,7 @@ use Rattle.ext_plan.specs.Labels.{is_label}
 use Rattle.ext_plan_reading.specs.KeyReading.{label_number}
 use Rattle.ext_plan_reading.specs.InnerSketches.{number_in}
 
--- where no element passes, the first place is the one behind the last
+-- where no element passes, the first index is the one behind the last
 none_passes_at : {X : Type 0} (p : X → Bool) (x : X) (xs : List X) (b : Bool) → p x ≡ b → (list_any p xs ≡ false → position_or_len p xs ≡ length xs)
     → (b || list_any p xs) ≡ false → position_or_len p (x ∷ xs) ≡ length (x ∷ xs)
 none_passes_at p x xs true e ih h = absurd (false≢true (sym h))
@@ -37,7 +37,7 @@ one_passes p (x ∷ xs) h = one_passes_at p x xs (p x) refl (one_passes p xs) h
 less_than_itself : (n : ℕ) → nat_lt n n ≡ false
 less_than_itself n = grind (arith, common_steps)
 
--- a place is found exactly where an element passes
+-- an index is found exactly where an element passes
 is_some-position_at : {X : Type 0} (p : X → Bool) (xs : List X) (b : Bool) → list_any p xs ≡ b → is_some (position p xs) ≡ b
 is_some-position_at p xs true e = let less = one_passes p xs e in rw (lt-ltb (position_or_len p xs) (length xs) less) refl
 is_some-position_at p xs false e = rw (none_passes p xs e, less_than_itself (length xs)) refl
@@ -49,14 +49,14 @@ is_some-position p xs = is_some-position_at p xs (list_any p xs) refl
 position_new : {X : Type 0} (p : X → Bool) (xs : List X) (x : X) → list_any p xs ≡ false → p x ≡ true → position p (xs ++ x ∷ []) ≡ Some (length xs)
 position_new p xs x none passes =
     let last = none_passes p xs none in
-    let place = position_or_len_push p xs x in
+    let index = position_or_len_push p xs x in
     grind (arith, common_steps)
 
--- and changes no place where it is not found
+-- and changes no index where it is not found
 position_other : {X : Type 0} (p : X → Bool) (xs : List X) (x : X) → p x ≡ false → position p (xs ++ x ∷ []) ≡ position p xs
 position_other p xs x fails =
     let within = prefix_len-le-length (λ y. not (p y)) xs in
-    let place = position_or_len_push p xs x in
+    let index = position_or_len_push p xs x in
     grind (arith, common_steps)
 
 -- the map has the number of each label and of no other text

@@ -16,7 +16,7 @@ use Rattle.ext_plan.specs.Labels.{labels_of, is_label, is_word}
 use Rattle.ext_plan.specs.Steps.{height, step_limit, callback_limit}
 use Rattle.ext_plan_reading.specs.declared.fault.PlanFault.{PlanFault}
 use Rattle.ext_plan_reading.specs.declared.fault.PlanFault.TheVariants as faults
-use Rattle.ext_plan_reading.specs.declared.fault.Place.TheVariants as places
+use Rattle.ext_plan_reading.specs.declared.fault.PlanPart.TheVariants as plan_parts
 use Rattle.ext_plan_reading.specs.Faults.{some_or, check, Gives, ◌>>=◌}
 use Rattle.ext_plan_reading.specs.Fields.{has_only, text_at, texts_in, array_of, places_in, repeats_in, field_or, optional}
 use Rattle.ext_plan_reading.specs.CallbackReading.{CallbackTexts, callback_texts_at, callbacks_after, callbacks_at, node_callbacks_at}
@@ -40,8 +40,8 @@ then_other : {A B : Type 0} (first : Result A PlanFault) (next : A → Result B 
 then_other (Ok x) next a b h = b x h
 then_other (Err faults.NotUtf8) next a b h = a refl
 then_other (Err faults.NotToml) next a b h = absurd cc
-then_other (Err (faults.UnknownField place)) next a b h = absurd cc
-then_other (Err (faults.BadField place)) next a b h = absurd cc
+then_other (Err (faults.UnknownField part)) next a b h = absurd cc
+then_other (Err (faults.BadField part)) next a b h = absurd cc
 then_other (Err (faults.BadLabel key)) next a b h = absurd cc
 then_other (Err (faults.BadId node)) next a b h = absurd cc
 then_other (Err faults.BadTree) next a b h = absurd cc
@@ -55,8 +55,8 @@ then_other (Err faults.Memory) next a b h = absurd cc
 same_other : {A B : Type 0} (e : PlanFault) → IsOther {A = A} (Err e) → IsOther {A = B} (Err e)
 same_other faults.NotUtf8 other h = other refl
 same_other faults.NotToml other h = absurd cc
-same_other (faults.UnknownField place) other h = absurd cc
-same_other (faults.BadField place) other h = absurd cc
+same_other (faults.UnknownField part) other h = absurd cc
+same_other (faults.BadField part) other h = absurd cc
 same_other (faults.BadLabel key) other h = absurd cc
 same_other (faults.BadId node) other h = absurd cc
 same_other faults.BadTree other h = absurd cc
@@ -88,10 +88,10 @@ optional_other held e found other = field_other None (λ value. option_map Some 
 key_other : (number : ℕ) (labels : List (List ℕ)) (fields : Members) → IsOther (key_at number labels fields)
 unfolding key_at
 key_other number labels fields =
-    then_other (check (faults.UnknownField (places.Key number)) (has_only key_fields fields)) _ (checked _ _ (λ h. absurd cc)) (λ _.
-    then_other (some_or (faults.BadField (places.Key number)) (text_at (codes "label") fields)) _ (or_fault _ _ (λ h. absurd cc)) (λ label.
-    then_other (optional as_str (faults.BadField (places.Key number)) (get_member (codes "name") fields)) _ (optional_other as_str (faults.BadField (places.Key number)) (get_member (codes "name") fields) (λ h. absurd cc)) (λ name.
-    then_other (optional texts_in (faults.BadField (places.Key number)) (get_member (codes "namespace") fields)) _ (optional_other texts_in (faults.BadField (places.Key number)) (get_member (codes "namespace") fields) (λ h. absurd cc)) (λ namespace.
+    then_other (check (faults.UnknownField (plan_parts.Key number)) (has_only key_fields fields)) _ (checked _ _ (λ h. absurd cc)) (λ _.
+    then_other (some_or (faults.BadField (plan_parts.Key number)) (text_at (codes "label") fields)) _ (or_fault _ _ (λ h. absurd cc)) (λ label.
+    then_other (optional as_str (faults.BadField (plan_parts.Key number)) (get_member (codes "name") fields)) _ (optional_other as_str (faults.BadField (plan_parts.Key number)) (get_member (codes "name") fields) (λ h. absurd cc)) (λ name.
+    then_other (optional texts_in (faults.BadField (plan_parts.Key number)) (get_member (codes "namespace") fields)) _ (optional_other texts_in (faults.BadField (plan_parts.Key number)) (get_member (codes "namespace") fields) (λ h. absurd cc)) (λ namespace.
     then_other (check (faults.BadLabel number) (is_word label && has_parts namespace && not (is_label labels label))) _ (checked _ _ (λ h. absurd cc)) (λ _. value _)))))
 
 keys_other : (before : List KeyText) (tables : List Members) → IsOther (keys_after before tables)
@@ -108,23 +108,23 @@ id_other node (Err e) h = absurd cc
 callback_texts_other : (node : ℕ) (fields : Members) → IsOther (callback_texts_at node fields)
 unfolding callback_texts_at
 callback_texts_other node fields =
-    then_other (optional (array_of texts_in) (faults.BadField (places.Node node)) (get_member (codes "before_all") fields)) _ (optional_other (array_of texts_in) (faults.BadField (places.Node node)) (get_member (codes "before_all") fields) (λ h. absurd cc)) (λ before_all.
-    then_other (optional (array_of texts_in) (faults.BadField (places.Node node)) (get_member (codes "after_all") fields)) _ (optional_other (array_of texts_in) (faults.BadField (places.Node node)) (get_member (codes "after_all") fields) (λ h. absurd cc)) (λ after_all.
-    then_other (optional (array_of texts_in) (faults.BadField (places.Node node)) (get_member (codes "before_each") fields)) _ (optional_other (array_of texts_in) (faults.BadField (places.Node node)) (get_member (codes "before_each") fields) (λ h. absurd cc)) (λ before_each.
-    then_other (optional (array_of texts_in) (faults.BadField (places.Node node)) (get_member (codes "after_each") fields)) _ (optional_other (array_of texts_in) (faults.BadField (places.Node node)) (get_member (codes "after_each") fields) (λ h. absurd cc)) (λ after_each. value _))))
+    then_other (optional (array_of texts_in) (faults.BadField (plan_parts.Node node)) (get_member (codes "before_all") fields)) _ (optional_other (array_of texts_in) (faults.BadField (plan_parts.Node node)) (get_member (codes "before_all") fields) (λ h. absurd cc)) (λ before_all.
+    then_other (optional (array_of texts_in) (faults.BadField (plan_parts.Node node)) (get_member (codes "after_all") fields)) _ (optional_other (array_of texts_in) (faults.BadField (plan_parts.Node node)) (get_member (codes "after_all") fields) (λ h. absurd cc)) (λ after_all.
+    then_other (optional (array_of texts_in) (faults.BadField (plan_parts.Node node)) (get_member (codes "before_each") fields)) _ (optional_other (array_of texts_in) (faults.BadField (plan_parts.Node node)) (get_member (codes "before_each") fields) (λ h. absurd cc)) (λ before_each.
+    then_other (optional (array_of texts_in) (faults.BadField (plan_parts.Node node)) (get_member (codes "after_each") fields)) _ (optional_other (array_of texts_in) (faults.BadField (plan_parts.Node node)) (get_member (codes "after_each") fields) (λ h. absurd cc)) (λ after_each. value _))))
 
 sketch_other : (node : ℕ) (fields : Members) → IsOther (sketch_at node fields)
 unfolding sketch_at
 sketch_other node fields =
-    then_other (check (faults.UnknownField (places.Node node)) (has_only node_fields fields)) _ (checked _ _ (λ h. absurd cc)) (λ _.
-    then_other (some_or (faults.BadField (places.Node node)) (text_at (codes "id") fields)) _ (or_fault _ _ (λ h. absurd cc)) (λ text.
-    then_other (optional as_str (faults.BadField (places.Node node)) (get_member (codes "mode") fields)) _ (optional_other as_str (faults.BadField (places.Node node)) (get_member (codes "mode") fields) (λ h. absurd cc)) (λ mode.
-    then_other (field_or false as_bool (faults.BadField (places.Node node)) (get_member (codes "isolated") fields)) _ (field_other false as_bool (faults.BadField (places.Node node)) (get_member (codes "isolated") fields) (λ h. absurd cc)) (λ isolated.
-    then_other (optional texts_in (faults.BadField (places.Node node)) (get_member (codes "locks") fields)) _ (optional_other texts_in (faults.BadField (places.Node node)) (get_member (codes "locks") fields) (λ h. absurd cc)) (λ locks.
+    then_other (check (faults.UnknownField (plan_parts.Node node)) (has_only node_fields fields)) _ (checked _ _ (λ h. absurd cc)) (λ _.
+    then_other (some_or (faults.BadField (plan_parts.Node node)) (text_at (codes "id") fields)) _ (or_fault _ _ (λ h. absurd cc)) (λ text.
+    then_other (optional as_str (faults.BadField (plan_parts.Node node)) (get_member (codes "mode") fields)) _ (optional_other as_str (faults.BadField (plan_parts.Node node)) (get_member (codes "mode") fields) (λ h. absurd cc)) (λ mode.
+    then_other (field_or false as_bool (faults.BadField (plan_parts.Node node)) (get_member (codes "isolated") fields)) _ (field_other false as_bool (faults.BadField (plan_parts.Node node)) (get_member (codes "isolated") fields) (λ h. absurd cc)) (λ isolated.
+    then_other (optional texts_in (faults.BadField (plan_parts.Node node)) (get_member (codes "locks") fields)) _ (optional_other texts_in (faults.BadField (plan_parts.Node node)) (get_member (codes "locks") fields) (λ h. absurd cc)) (λ locks.
     then_other (callback_texts_at node fields) _ (callback_texts_other node fields) (λ callbacks.
-    then_other (optional texts_in (faults.BadField (places.Node node)) (get_member (codes "test") fields)) _ (optional_other texts_in (faults.BadField (places.Node node)) (get_member (codes "test") fields) (λ h. absurd cc)) (λ test.
-    then_other (optional repeats_in (faults.BadField (places.Node node)) (get_member (codes "repeat") fields)) _ (optional_other repeats_in (faults.BadField (places.Node node)) (get_member (codes "repeat") fields) (λ h. absurd cc)) (λ repeat.
-    then_other (check (faults.BadField (places.Node node)) (not (is_some repeat && not (is_some test)))) _ (checked _ _ (λ h. absurd cc)) (λ _.
+    then_other (optional texts_in (faults.BadField (plan_parts.Node node)) (get_member (codes "test") fields)) _ (optional_other texts_in (faults.BadField (plan_parts.Node node)) (get_member (codes "test") fields) (λ h. absurd cc)) (λ test.
+    then_other (optional repeats_in (faults.BadField (plan_parts.Node node)) (get_member (codes "repeat") fields)) _ (optional_other repeats_in (faults.BadField (plan_parts.Node node)) (get_member (codes "repeat") fields) (λ h. absurd cc)) (λ repeat.
+    then_other (check (faults.BadField (plan_parts.Node node)) (not (is_some repeat && not (is_some test)))) _ (checked _ _ (λ h. absurd cc)) (λ _.
     then_other (id_or (faults.BadId node) (read_id text)) _ (id_other node (read_id text)) (λ id.
     then_other (check (faults.BadId node) (not (is_some repeat && nat_le 16 (length id)))) _ (checked _ _ (λ h. absurd cc)) (λ _. value _)))))))))))
 
@@ -214,11 +214,11 @@ all_nodes_other size labels tables =
 plan_other : (size : Size) (top : Members) → IsOther (plan_of size top)
 unfolding plan_of plan_of_tables
 plan_other size top =
-    then_other (check (faults.UnknownField places.Whole) (has_only top_fields top)) _ (checked _ _ (λ h. absurd cc)) (λ _.
-    then_other (field_or false as_bool (faults.BadField places.Whole) (get_member (codes "keep_faults") top)) _ (field_other false as_bool (faults.BadField places.Whole) (get_member (codes "keep_faults") top) (λ h. absurd cc)) (λ keep_faults.
-    then_other (field_or 64 places_in (faults.BadField places.Whole) (get_member (codes "keys") top)) _ (field_other 64 places_in (faults.BadField places.Whole) (get_member (codes "keys") top) (λ h. absurd cc)) (λ key_places.
-    then_other (field_or [] (array_of as_table) (faults.BadField places.Whole) (get_member (codes "key") top)) _ (field_other [] (array_of as_table) (faults.BadField places.Whole) (get_member (codes "key") top) (λ h. absurd cc)) (λ key_tables.
-    then_other (field_or [] (array_of as_table) (faults.BadField places.Whole) (get_member (codes "node") top)) _ (field_other [] (array_of as_table) (faults.BadField places.Whole) (get_member (codes "node") top) (λ h. absurd cc)) (λ node_tables.
+    then_other (check (faults.UnknownField plan_parts.Whole) (has_only top_fields top)) _ (checked _ _ (λ h. absurd cc)) (λ _.
+    then_other (field_or false as_bool (faults.BadField plan_parts.Whole) (get_member (codes "keep_faults") top)) _ (field_other false as_bool (faults.BadField plan_parts.Whole) (get_member (codes "keep_faults") top) (λ h. absurd cc)) (λ keep_faults.
+    then_other (field_or 64 places_in (faults.BadField plan_parts.Whole) (get_member (codes "keys") top)) _ (field_other 64 places_in (faults.BadField plan_parts.Whole) (get_member (codes "keys") top) (λ h. absurd cc)) (λ key_places.
+    then_other (field_or [] (array_of as_table) (faults.BadField plan_parts.Whole) (get_member (codes "key") top)) _ (field_other [] (array_of as_table) (faults.BadField plan_parts.Whole) (get_member (codes "key") top) (λ h. absurd cc)) (λ key_tables.
+    then_other (field_or [] (array_of as_table) (faults.BadField plan_parts.Whole) (get_member (codes "node") top)) _ (field_other [] (array_of as_table) (faults.BadField plan_parts.Whole) (get_member (codes "node") top) (λ h. absurd cc)) (λ node_tables.
     then_other (keys_after [] key_tables) _ (keys_other [] key_tables) (λ keys.
     then_other (nodes_of_tables size (labels_of keys) node_tables) _ (all_nodes_other size _ node_tables) (λ nodes.
     then_other (check faults.TooMany (nat_le (length (different_keys keys)) key_places)) _ (checked _ _ (λ h. absurd cc)) (λ _.
@@ -229,8 +229,8 @@ pub never_not_utf8 : (size : Size) (read : Result Plan PlanFault) (top : Members
 never_not_utf8 size (Ok p) top given h = absurd cc
 never_not_utf8 size (Err faults.NotUtf8) top given h = plan_other size top given
 never_not_utf8 size (Err faults.NotToml) top given h = absurd cc
-never_not_utf8 size (Err (faults.UnknownField place)) top given h = absurd cc
-never_not_utf8 size (Err (faults.BadField place)) top given h = absurd cc
+never_not_utf8 size (Err (faults.UnknownField part)) top given h = absurd cc
+never_not_utf8 size (Err (faults.BadField part)) top given h = absurd cc
 never_not_utf8 size (Err (faults.BadLabel key)) top given h = absurd cc
 never_not_utf8 size (Err (faults.BadId node)) top given h = absurd cc
 never_not_utf8 size (Err faults.BadTree) top given h = absurd cc

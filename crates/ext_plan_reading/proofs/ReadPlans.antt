@@ -21,7 +21,7 @@ use Rattle.ext_plan.specs.ReadPlans.{IsReadPlan, StepsStayBelowRoot, HasNoContai
 use Rattle.ext_plan.specs.LockNames.{lock_names, lock_limit}
 use Rattle.ext_plan_reading.specs.declared.fault.PlanFault.{PlanFault}
 use Rattle.ext_plan_reading.specs.declared.fault.PlanFault.TheVariants as faults
-use Rattle.ext_plan_reading.specs.declared.fault.Place.TheVariants as places
+use Rattle.ext_plan_reading.specs.declared.fault.PlanPart.TheVariants as plan_parts
 use Rattle.ext_plan_reading.specs.Depths.{Outline, least_test_depth}
 use Rattle.ext_plan_reading.specs.Faults.{check, Gives}
 use Rattle.ext_plan_reading.specs.Fields.{has_only, array_of, places_in, field_or}
@@ -79,7 +79,7 @@ on_own_path labels least node fits = record {
   after_all = kind_stays labels (length node.id) (length node.id) node.after_all (omega arith) fits.after_all;
 }
 
--- the test stands at place `k` among the nodes
+-- the test stands at index `k` among the nodes
 module _ (labels : ℕ) (nodes : List NodeText) (k : ℕ) (d : NodeText) (less : k < length nodes) (is_test : is_some (get_or nodes k d).test ≡ true) where
   shorter : (above : Id) → IsAtOrBelow above (get_or nodes k d).id → least_test_depth (outlines_of_nodes nodes) above ≤ length (get_or nodes k d).id
   shorter above below =
@@ -117,22 +117,22 @@ ids_are_kept labels all nodes h =
 is_read : (size : Size) (top : Members) (plan : PlanText) → plan_of size top ≡ Ok plan → IsReadPlan plan
 unfolding plan_of plan_of_tables nodes_of_tables
 is_read size top plan h =
-    let fields = both_gave (check (faults.UnknownField places.Whole) (has_only top_fields top)) _ _ h in
-    let keep_faults = both_gave (field_or false as_bool (faults.BadField places.Whole) (get_member (codes "keep_faults") top)) _ _ fields.2 in
-    let key_places = both_gave (field_or 64 places_in (faults.BadField places.Whole) (get_member (codes "keys") top)) _ _ keep_faults.2 in
-    let key_tables = both_gave (field_or [] (array_of as_table) (faults.BadField places.Whole) (get_member (codes "key") top)) _ _ key_places.2 in
-    let node_tables = both_gave (field_or [] (array_of as_table) (faults.BadField places.Whole) (get_member (codes "node") top)) _ _ key_tables.2 in
+    let fields = both_gave (check (faults.UnknownField plan_parts.Whole) (has_only top_fields top)) _ _ h in
+    let keep_faults = both_gave (field_or false as_bool (faults.BadField plan_parts.Whole) (get_member (codes "keep_faults") top)) _ _ fields.2 in
+    let key_places = both_gave (field_or 64 places_in (faults.BadField plan_parts.Whole) (get_member (codes "keys") top)) _ _ keep_faults.2 in
+    let key_tables = both_gave (field_or [] (array_of as_table) (faults.BadField plan_parts.Whole) (get_member (codes "key") top)) _ _ key_places.2 in
+    let node_tables = both_gave (field_or [] (array_of as_table) (faults.BadField plan_parts.Whole) (get_member (codes "node") top)) _ _ key_tables.2 in
     let keys = both_gave (keys_after [] key_tables.0) _ _ node_tables.2 in
     let nodes = both_gave (nodes_of_tables size (labels_of keys.0) node_tables.0) _ _ keys.2 in
     let sketches = both_gave (sketches_after [] node_tables.0) _ _ nodes.1 in
     let all = with_repetitions sketches.0 in
-    let told = both_gave (check faults.BadTree (is_tree (most_contexts size) (ids_of all))) _ _ sketches.2 in
-    let tree = tree_within size (ids_of all) (passed _ (is_tree (most_contexts size) (ids_of all)) told.0 told.1) in
+    let checked = both_gave (check faults.BadTree (is_tree (most_contexts size) (ids_of all))) _ _ sketches.2 in
+    let tree = tree_within size (ids_of all) (passed _ (is_tree (most_contexts size) (ids_of all)) checked.0 checked.1) in
     let few = both_gave (check faults.TooMany (nat_le (length (different_keys keys.0)) key_places.0)) _ _ nodes.2 in
     let few_locks = both_gave (check faults.TooMany (nat_le (length (lock_names nodes.0)) lock_limit)) _ _ few.2 in
-    let blocks = are_blocks (faults.BadField places.Whole) (get_member (codes "keys") top) key_places.0 key_places.1 in
+    let blocks = are_blocks (faults.BadField plan_parts.Whole) (get_member (codes "keys") top) key_places.0 key_places.1 in
     let own = keys_are_own [] key_tables.0 keys.0 keys.1 no_keys in
-    let read = nodes_are_read (labels_of keys.0) all [] all nodes.0 (All-nil (FitsIn (length (labels_of keys.0)) (outlines_of all))) (λ k less d. absurd (omega (arith, less))) told.2 in
+    let read = nodes_are_read (labels_of keys.0) all [] all nodes.0 (All-nil (FitsIn (length (labels_of keys.0)) (outlines_of all))) (λ k less d. absurd (omega (arith, less))) checked.2 in
     let count : length (labels_of keys.0) ≡ length keys.0 = length-map keys.0 (λ k. k.label) in
     let fit : All (FitsIn (length keys.0) (outlines_of_nodes nodes.0)) nodes.0 =
     subst (λ outlines. All (FitsIn (length keys.0) outlines) nodes.0) (sym read.of_sketches) (subst (λ n. All (FitsIn n (outlines_of all)) nodes.0) count read.fit) in

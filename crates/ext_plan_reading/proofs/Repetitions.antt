@@ -20,7 +20,7 @@ use Rattle.ext_tree.specs.Trees.{Id, too_many}
 use Rattle.ext_plan.proofs.Lists.{map-push, All-map-back, All-parts}
 use Rattle.ext_plan_reading.specs.declared.fault.PlanFault.{PlanFault}
 use Rattle.ext_plan_reading.specs.declared.fault.PlanFault.TheVariants as faults
-use Rattle.ext_plan_reading.specs.declared.fault.Place.TheVariants as places
+use Rattle.ext_plan_reading.specs.declared.fault.PlanPart.TheVariants as plan_parts
 use Rattle.ext_plan_reading.specs.declared.nodes.NodeSketch.{NodeSketch}
 use Rattle.ext_plan_reading.specs.CallbackReading.{callback_texts_at}
 use Rattle.ext_plan_reading.specs.Faults.{some_or, check}
@@ -39,8 +39,8 @@ room_of (Some times) segments h = leb-false 16 segments (not-true (nat_le 16 seg
 sketch_room : (node : ℕ) (fields : Members) (sketch : Sketch) → sketch_at node fields ≡ Ok sketch → HasRoom sketch
 unfolding sketch_at
 sketch_room node fields sketch h =
-    let fault = faults.BadField (places.Node node) in
-    let known = both_gave (check (faults.UnknownField (places.Node node)) (has_only node_fields fields)) _ _ h in
+    let fault = faults.BadField (plan_parts.Node node) in
+    let known = both_gave (check (faults.UnknownField (plan_parts.Node node)) (has_only node_fields fields)) _ _ h in
     let text = both_gave (some_or fault (text_at (codes "id") fields)) _ _ known.2 in
     let mode = both_gave (optional as_str fault (get_member (codes "mode") fields)) _ _ text.2 in
     let isolated = both_gave (field_or false as_bool fault (get_member (codes "isolated") fields)) _ _ mode.2 in

@@ -25,9 +25,9 @@ too_many labels f (a ∷ b ∷ c ∷ d ∷ e ∷ g ∷ more) h = refl
 
 -- ---- heights
 
-height_at : (is : Bool) (place : Option ℕ) → place ≡ None → (if is then option_map suc place else None) ≡ None
-height_at true place e = ap (option_map suc) e
-height_at false place e = refl
+height_at : (is : Bool) (index : Option ℕ) → index ≡ None → (if is then option_map suc index else None) ≡ None
+height_at true index e = ap (option_map suc) e
+height_at false index e = refl
 
 same_heights : (number : List ℕ) → position (λ height. bytes_eq height number) heights ≡ position (λ height. bytes_eq height.now number) HEIGHTS
 same_heights number = position-map (λ height. height.now) (λ height. bytes_eq height number) HEIGHTS

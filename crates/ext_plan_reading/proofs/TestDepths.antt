@@ -12,8 +12,8 @@ begins [] rest = refl
 begins (pair ∷ above) rest = rw ((pair_eq-Decides pair pair).1 refl) (begins above rest)
 
 -- the test tells it
-pub told_below : (above id : Id) → IsAtOrBelow above id → is_at_or_below above id ≡ true
-told_below above id below = ap (is_at_or_below above) below.1 ∙ begins above below.0
+pub below_is_true : (above id : Id) → IsAtOrBelow above id → is_at_or_below above id ≡ true
+below_is_true above id below = ap (is_at_or_below above) below.1 ∙ begins above below.0
 
 lower : (b : Bool) (least depth : ℕ) → (if b then min least depth else least) ≤ least
 lower true least depth = min-le_left least depth
@@ -42,4 +42,4 @@ least_from above least (node ∷ nodes) (suc k) d less is = least_from above (wi
 
 pub least_is_below : (nodes : List Outline) (above : Id) (k : ℕ) (d : Outline) → k < length nodes → (get_or nodes k d).1 ≡ true → IsAtOrBelow above (get_or nodes k d).0
     → least_test_depth nodes above ≤ length (get_or nodes k d).0
-least_is_below nodes above k d less test below = least_from above 16 nodes k d less (rw (test, told_below above (get_or nodes k d).0 below) refl)
+least_is_below nodes above k d less test below = least_from above 16 nodes k d less (rw (test, below_is_true above (get_or nodes k d).0 below) refl)

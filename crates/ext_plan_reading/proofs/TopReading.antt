@@ -5,7 +5,7 @@ use Rattle.ext_model.specs.declared.size.Size.{Size}
 use Rattle.ext_plan.specs.Plans.{PlanText}
 use Rattle.ext_plan_reading.specs.declared.fault.PlanFault.{PlanFault}
 use Rattle.ext_plan_reading.specs.declared.fault.PlanFault.TheVariants as faults
-use Rattle.ext_plan_reading.specs.declared.fault.Place.TheVariants as places
+use Rattle.ext_plan_reading.specs.declared.fault.PlanPart.TheVariants as plan_parts
 use Rattle.ext_plan_reading.specs.Faults.{check, ◌>>=◌}
 use Rattle.ext_plan_reading.specs.Fields.{has_only, array_of, places_in, field_or}
 use Rattle.ext_plan_reading.specs.Reading.{top_fields, plan_of, plan_of_tables}
@@ -23,8 +23,8 @@ first_step (Err e) whole part rest h = refl
 pub top_first : (size : Size) (top : Members) → plan_of size top ≡ (top_at top >>= plan_with size)
 unfolding plan_of top_at
 top_first size top =
-    let fault = faults.BadField places.Whole in
-    first_step (check (faults.UnknownField places.Whole) (has_only top_fields top)) _ _ (plan_with size) (λ _.
+    let fault = faults.BadField plan_parts.Whole in
+    first_step (check (faults.UnknownField plan_parts.Whole) (has_only top_fields top)) _ _ (plan_with size) (λ _.
     first_step (field_or false as_bool fault (get_member (codes "keep_faults") top)) _ _ (plan_with size) (λ keep_faults.
     first_step (field_or 64 places_in fault (get_member (codes "keys") top)) _ _ (plan_with size) (λ key_places.
     first_step (field_or [] (array_of as_table) fault (get_member (codes "key") top)) _ _ (plan_with size) (λ key_tables.

@@ -18,8 +18,8 @@ pub Fails-whole : {A B : Type 0} (e : PlanFault) (part : Result A PlanFault) (wh
 Fails-whole faults.Memory part whole f h = tt
 Fails-whole faults.NotUtf8 part whole f h = f h
 Fails-whole faults.NotToml part whole f h = f h
-Fails-whole (faults.UnknownField place) part whole f h = f h
-Fails-whole (faults.BadField place) part whole f h = f h
+Fails-whole (faults.UnknownField at) part whole f h = f h
+Fails-whole (faults.BadField at) part whole f h = f h
 Fails-whole (faults.BadLabel key) part whole f h = f h
 Fails-whole (faults.BadId node) part whole f h = f h
 Fails-whole faults.BadTree part whole f h = f h

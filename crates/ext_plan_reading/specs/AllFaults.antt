@@ -1,7 +1,7 @@
 -- All faults of a text that is no plan, in the order in which they are read. They come in stages: the document, its top
 -- fields, the tables, the tree of the ids, the nodes, the limits. A stage is looked at only where the stages before it
 -- have no fault, since it rests on what they gave. Within a stage no fault hides another, but of each table only the
--- first is told.
+-- first is noted.
 use Rattle.std.specs.Prelude.{◌≡◌, ℕ, ◌+◌, ◌==◌, Bool, false, codes, List, [], ◌∷◌, ◌++◌, if◌then◌else◌, Option, Some, None, option_to_list, Result, Ok, Err}
 use Rattle.std.specs.Result.{result_err}
 use Rattle.toml.specs.Data.{Members}
@@ -59,34 +59,34 @@ sketch_faults number (fields ∷ more) = fault_of (sketch_at number fields) ++ s
 
 -- ---- nodes
 
--- The fault of this table is told.
-abbrev pub is_told : Option ℕ → ℕ → Bool
-is_told None table = false
-is_told (Some told) table = told == table
+-- The fault of this table is noted.
+abbrev pub is_noted : Option ℕ → ℕ → Bool
+is_noted None table = false
+is_noted (Some noted) table = noted == table
 
--- A node's fault, unless one of the same table is told. The nodes of one table follow each other: they are a repeated
+-- A node's fault, unless one of the same table is noted. The nodes of one table follow each other: they are a repeated
 -- test and its repetitions.
 abbrev pub new_fault : Option ℕ → ℕ → Option PlanFault → List PlanFault
-new_fault told table None = []
-new_fault told table (Some fault) = if is_told told table then [] else fault ∷ []
+new_fault noted table None = []
+new_fault noted table (Some fault) = if is_noted noted table then [] else fault ∷ []
 
--- The table whose fault was told last.
-abbrev pub told_after : Option ℕ → ℕ → Option PlanFault → Option ℕ
-told_after told table None = told
-told_after told table (Some fault) = Some table
+-- The table whose fault was noted last.
+abbrev pub noted_after : Option ℕ → ℕ → Option PlanFault → Option ℕ
+noted_after noted table None = noted
+noted_after noted table (Some fault) = Some table
 
 -- What the second pass makes of the node with this number, one of them all.
 abbrev pub node_fault : List (List ℕ) → List Sketch → ℕ → Sketch → Option PlanFault
 node_fault labels all number sketch =
     result_err (node_at labels (has_children (ids_of all) number) (least_test_depth (outlines_of all) sketch.id) sketch)
 
--- The first fault of each table in the second pass over these nodes, which begin with this number. `told` is the table
--- whose fault was told last.
+-- The first fault of each table in the second pass over these nodes, which begin with this number. `noted` is the table
+-- whose fault was noted last.
 unfoldable pub node_faults : List (List ℕ) → List Sketch → Option ℕ → ℕ → List Sketch → List PlanFault
-node_faults labels all told number [] = []
-node_faults labels all told number (sketch ∷ more) =
-    new_fault told sketch.table (node_fault labels all number sketch)
-    ++ node_faults labels all (told_after told sketch.table (node_fault labels all number sketch)) (number + 1) more
+node_faults labels all noted number [] = []
+node_faults labels all noted number (sketch ∷ more) =
+    new_fault noted sketch.table (node_fault labels all number sketch)
+    ++ node_faults labels all (noted_after noted sketch.table (node_fault labels all number sketch)) (number + 1) more
 
 -- The faults of all nodes: that of the tree of their ids, or those of the nodes.
 unfoldable pub faults_of_nodes : Size → List (List ℕ) → List Sketch → List PlanFault

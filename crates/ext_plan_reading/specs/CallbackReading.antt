@@ -6,7 +6,7 @@ use Rattle.ext_plan.specs.Plans.{StepText}
 use Rattle.ext_plan.specs.Steps.{callback_limit}
 use Rattle.ext_plan_reading.specs.declared.fault.PlanFault.{PlanFault}
 use Rattle.ext_plan_reading.specs.declared.fault.PlanFault.TheVariants as faults
-use Rattle.ext_plan_reading.specs.declared.fault.Place.TheVariants as places
+use Rattle.ext_plan_reading.specs.declared.fault.PlanPart.TheVariants as plan_parts
 use Rattle.ext_plan_reading.specs.Faults.{check, ◌>>=◌}
 use Rattle.ext_plan_reading.specs.Fields.{texts_in, array_of, optional}
 use Rattle.ext_plan_reading.specs.StepReading.{steps_at}
@@ -23,10 +23,10 @@ pub record CallbackTexts : Type 0 where
 -- The callbacks in the table of the node with this number.
 unfoldable pub callback_texts_at : ℕ → Members → Result CallbackTexts PlanFault
 callback_texts_at node fields = do
-  before_all ← optional (array_of texts_in) (faults.BadField (places.Node node)) (get_member (codes "before_all") fields)
-  after_all ← optional (array_of texts_in) (faults.BadField (places.Node node)) (get_member (codes "after_all") fields)
-  before_each ← optional (array_of texts_in) (faults.BadField (places.Node node)) (get_member (codes "before_each") fields)
-  after_each ← optional (array_of texts_in) (faults.BadField (places.Node node)) (get_member (codes "after_each") fields)
+  before_all ← optional (array_of texts_in) (faults.BadField (plan_parts.Node node)) (get_member (codes "before_all") fields)
+  after_all ← optional (array_of texts_in) (faults.BadField (plan_parts.Node node)) (get_member (codes "after_all") fields)
+  before_each ← optional (array_of texts_in) (faults.BadField (plan_parts.Node node)) (get_member (codes "before_each") fields)
+  after_each ← optional (array_of texts_in) (faults.BadField (plan_parts.Node node)) (get_member (codes "after_each") fields)
   Ok (record { before_all = before_all; after_all = after_all; before_each = before_each; after_each = after_each })
 
 -- A field that no test may have is given, even as an empty array.

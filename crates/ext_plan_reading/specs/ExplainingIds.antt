@@ -20,7 +20,7 @@ words_of ids.Memory = codes "memory was refused"
 abbrev pub IsMark : ℕ → Type 0
 IsMark c = (c ≡ percent) ⊎ (c ≡ plus) ⊎ (c ≡ left_bracket) ⊎ (c ≡ right_bracket) ⊎ (c ≡ colon) ⊎ (c ≡ slash)
 
--- A segment's `]` stands just before this place.
+-- A segment's `]` stands just before this index.
 abbrev pub is_bracket : Option ℕ → Bool
 is_bracket None = false
 is_bracket (Some c) = c == right_bracket
@@ -29,7 +29,7 @@ abbrev pub is_behind : List ℕ → ℕ → Bool
 is_behind text zero = false
 is_behind text (suc last) = is_bracket (slice_get text last)
 
--- The character at a place within a segment.
+-- The character at an index within a segment.
 abbrev pub within : List ℕ → ℕ → Option ℕ
 within text at = if is_behind text at then None else slice_get text at
 

@@ -3,7 +3,7 @@ pub mod CallbackReading
 pub mod Depths
 pub mod Explaining
 pub mod ExplainingIds
-pub mod FaultPlaces
+pub mod FaultParts
 pub mod Faults
 pub mod Fields
 pub mod InnerSketches

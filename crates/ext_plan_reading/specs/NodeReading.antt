@@ -13,7 +13,7 @@ use Rattle.ext_tree.specs.Trees.{children_of, Id}
 use Rattle.ext_plan.specs.Plans.{StepText, NodeText}
 use Rattle.ext_plan_reading.specs.declared.fault.PlanFault.{PlanFault}
 use Rattle.ext_plan_reading.specs.declared.fault.PlanFault.TheVariants as faults
-use Rattle.ext_plan_reading.specs.declared.fault.Place.TheVariants as places
+use Rattle.ext_plan_reading.specs.declared.fault.PlanPart.TheVariants as plan_parts
 use Rattle.ext_plan_reading.specs.Faults.{some_or, check, ◌>>=◌}
 use Rattle.ext_plan_reading.specs.Fields.{has_only, text_at, texts_in, repeats_in, field_or, optional}
 use Rattle.ext_plan_reading.specs.CallbackReading.{CallbackTexts, callback_texts_at, are_of_container, node_callbacks_at}
@@ -46,15 +46,15 @@ id_or e (Err _) = Err e
 -- The node of a table; `node` is its number. Only tests are repeated, and only where an id can have a segment more.
 unfoldable pub sketch_at : ℕ → Members → Result Sketch PlanFault
 sketch_at node fields = do
-  _ ← check (faults.UnknownField (places.Node node)) (has_only node_fields fields)
-  text ← some_or (faults.BadField (places.Node node)) (text_at (codes "id") fields)
-  mode ← optional as_str (faults.BadField (places.Node node)) (get_member (codes "mode") fields)
-  isolated ← field_or false as_bool (faults.BadField (places.Node node)) (get_member (codes "isolated") fields)
-  locks ← optional texts_in (faults.BadField (places.Node node)) (get_member (codes "locks") fields)
+  _ ← check (faults.UnknownField (plan_parts.Node node)) (has_only node_fields fields)
+  text ← some_or (faults.BadField (plan_parts.Node node)) (text_at (codes "id") fields)
+  mode ← optional as_str (faults.BadField (plan_parts.Node node)) (get_member (codes "mode") fields)
+  isolated ← field_or false as_bool (faults.BadField (plan_parts.Node node)) (get_member (codes "isolated") fields)
+  locks ← optional texts_in (faults.BadField (plan_parts.Node node)) (get_member (codes "locks") fields)
   callbacks ← callback_texts_at node fields
-  test ← optional texts_in (faults.BadField (places.Node node)) (get_member (codes "test") fields)
-  repeat ← optional repeats_in (faults.BadField (places.Node node)) (get_member (codes "repeat") fields)
-  _ ← check (faults.BadField (places.Node node)) (not (is_some repeat && not (is_some test)))
+  test ← optional texts_in (faults.BadField (plan_parts.Node node)) (get_member (codes "test") fields)
+  repeat ← optional repeats_in (faults.BadField (plan_parts.Node node)) (get_member (codes "repeat") fields)
+  _ ← check (faults.BadField (plan_parts.Node node)) (not (is_some repeat && not (is_some test)))
   id ← id_or (faults.BadId node) (read_id text)
   _ ← check (faults.BadId node) (not (is_some repeat && nat_le 16 (length id)))
   Ok (record {

@@ -9,7 +9,7 @@ use Rattle.ext_plan.specs.StoreKeys.{different_keys}
 use Rattle.ext_plan.specs.LockNames.{lock_names, lock_limit}
 use Rattle.ext_plan_reading.specs.declared.fault.PlanFault.{PlanFault}
 use Rattle.ext_plan_reading.specs.declared.fault.PlanFault.TheVariants as faults
-use Rattle.ext_plan_reading.specs.declared.fault.Place.TheVariants as places
+use Rattle.ext_plan_reading.specs.declared.fault.PlanPart.TheVariants as plan_parts
 use Rattle.ext_plan_reading.specs.Faults.{some_or, check, ◌>>=◌}
 use Rattle.ext_plan_reading.specs.Fields.{has_only, array_of, places_in, field_or}
 use Rattle.ext_plan_reading.specs.KeyReading.{keys_after}
@@ -30,11 +30,11 @@ plan_of_tables size keep_faults key_places key_tables node_tables = do
 -- The plan of a document, which may be as large as this.
 unfoldable pub plan_of : Size → Members → Result PlanText PlanFault
 plan_of size top = do
-  _ ← check (faults.UnknownField places.Whole) (has_only top_fields top)
-  keep_faults ← field_or false as_bool (faults.BadField places.Whole) (get_member (codes "keep_faults") top)
-  key_places ← field_or 64 places_in (faults.BadField places.Whole) (get_member (codes "keys") top)
-  key_tables ← field_or [] (array_of as_table) (faults.BadField places.Whole) (get_member (codes "key") top)
-  node_tables ← field_or [] (array_of as_table) (faults.BadField places.Whole) (get_member (codes "node") top)
+  _ ← check (faults.UnknownField plan_parts.Whole) (has_only top_fields top)
+  keep_faults ← field_or false as_bool (faults.BadField plan_parts.Whole) (get_member (codes "keep_faults") top)
+  key_places ← field_or 64 places_in (faults.BadField plan_parts.Whole) (get_member (codes "keys") top)
+  key_tables ← field_or [] (array_of as_table) (faults.BadField plan_parts.Whole) (get_member (codes "key") top)
+  node_tables ← field_or [] (array_of as_table) (faults.BadField plan_parts.Whole) (get_member (codes "node") top)
   plan_of_tables size keep_faults key_places key_tables node_tables
 
 -- The plan of a text, which may be as large as this.

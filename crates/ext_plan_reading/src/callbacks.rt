@@ -6,7 +6,7 @@ ghost use Rattle.ext_plan_reading.specs.CallbackReading.{are_of_container, callb
 ghost use Rattle.ext_plan_reading.specs.Faults.{Gives};
 ghost use Rattle.ext_plan_reading.specs.InnerSketches.{callback_steps_view, callback_texts_view, lists_view, words_view};
 
-use crate::fault::{Place, PlanFault};
+use crate::fault::{PlanFault, PlanPart};
 use crate::fields::text_lists_at;
 use crate::labels::Labels;
 use crate::steps::steps_of;
@@ -42,7 +42,7 @@ impl<'a> CallbackSketch<'a> {
     pub fn of(alloc: Global, node: usize, table: &'a Table) -> Result<CallbackSketch<'a>, PlanFault>
         ensures { Gives callback_texts_view result (callback_texts_at node (table_view table.now)) }
     {
-        let fault = PlanFault::BadField(Place::Node(node));
+        let fault = PlanFault::BadField(PlanPart::Node(node));
         let before_all = text_lists_at(alloc, table, "before_all", fault)?;
         let after_all = text_lists_at(alloc, table, "after_all", fault)?;
         let before_each = text_lists_at(alloc, table, "before_each", fault)?;

@@ -1,6 +1,6 @@
 //! Explanations of the faults of plans.
 ghost use Rattle.std.specs.Prelude.{◌≡◌, ◌++◌, string_bytes, IfOk, OnOk};
-ghost use Rattle.ext_plan_reading.specs.Explaining.{Explains, place_words};
+ghost use Rattle.ext_plan_reading.specs.Explaining.{Explains, part_words};
 
 mod ends;
 mod fields;
@@ -8,11 +8,11 @@ mod headers;
 mod ids;
 mod near;
 mod nodes;
-mod places;
+mod spots;
 mod steps;
 mod words;
 
-use crate::fault::{Place, PlanFault};
+use crate::fault::{PlanFault, PlanPart};
 use ends::with_end;
 use ext_model::Size;
 use fields::{bad_field, bad_label, unknown_field};
@@ -27,12 +27,12 @@ use toml::de::Error;
 use words::{Meaning, of_no_field, said};
 
 /// Explains why the bytes of a plan were refused, in a line without a line feed. The line begins
-/// with the place that the fault names (`the plan`, `key 1` or `node 2`) and a colon. Then it names
-/// the field, the label, the id with its own fault, the lock or the step at fault, or the place in
+/// with the part that the fault names (`the plan`, `key 1` or `node 2`) and a colon. Then it names
+/// the field, the label, the id with its own fault, the lock or the step at fault, or where in
 /// the text. It says what was meant where that is likely, such as the nearest name of a field.
 /// Texts of the plan are quoted, with a line feed as `\n`. At the end are the node's id, if it has
 /// one, and the line of the plan where the field or the step at fault stands, or else the table of
-/// the key or node begins, if the table has a header of its own. The contract covers only the place
+/// the key or node begins, if the table has a header of its own. The contract covers only the part
 /// that the fault names.
 ///
 /// The fault is one of `all_faults` of this text and size, such as the answer of
@@ -49,34 +49,39 @@ pub fn explain(
 ) -> Result<String, AllocError>
     ensures { IfOk result (λ line. Explains fault (string_bytes line)) }
 {
-    let meaning = told(alloc, input, size, fault)?;
+    let meaning = meaning_or_none(alloc, input, size, fault)?;
     line_of(alloc, fault, meaning.as_str())
 }
 
-/// The line with this meaning of a fault, after its place.
+/// The line with this meaning of a fault, after its part.
 fn line_of(alloc: Global, fault: PlanFault, meaning: &str) -> Result<String, AllocError>
     ensures { IfOk result (λ line. Explains fault (string_bytes line)) }
 {
     let mut line = String::new(alloc);
-    write_place(&mut line, fault.place())?;
+    write_part(&mut line, fault.part())?;
     line.push_str(": ")?;
     line.push_str(meaning)?;
     Ok(line)
 }
 
-/// Writes a place in words at the end of a line.
-fn write_place(line: &mut String, place: Place) -> Result<(), AllocError>
-    ensures { OnOk result (string_bytes line.new ≡ string_bytes line.old ++ place_words place) }
+/// Writes a part in words at the end of a line.
+fn write_part(line: &mut String, part: PlanPart) -> Result<(), AllocError>
+    ensures { OnOk result (string_bytes line.new ≡ string_bytes line.old ++ part_words part) }
 {
-    match place {
-        Place::Whole => line.push_str("the plan"),
-        Place::Key(key) => write!(line, "key {key}"),
-        Place::Node(node) => write!(line, "node {node}"),
+    match part {
+        PlanPart::Whole => line.push_str("the plan"),
+        PlanPart::Key(key) => write!(line, "key {key}"),
+        PlanPart::Node(node) => write!(line, "node {node}"),
     }
 }
 
 /// The meaning of a fault of these bytes, or that they do not have it.
-fn told(alloc: Global, input: &[u8], size: Size, fault: PlanFault) -> Result<String, AllocError> {
+fn meaning_or_none(
+    alloc: Global,
+    input: &[u8],
+    size: Size,
+    fault: PlanFault,
+) -> Result<String, AllocError> {
     match meaning(alloc, input, size, fault) {
         Ok(Some(meaning)) => Ok(meaning),
         Ok(None) => String::from_str(alloc, "it has no such fault"),
@@ -171,8 +176,8 @@ fn meaning_in(
 ) -> Result<Option<Meaning>, PlanFault> {
     match fault {
         PlanFault::NotUtf8 | PlanFault::NotToml => Ok(None),
-        PlanFault::UnknownField(place) => unknown_field(alloc, top, place),
-        PlanFault::BadField(place) => bad_field(alloc, top, place),
+        PlanFault::UnknownField(part) => unknown_field(alloc, top, part),
+        PlanFault::BadField(part) => bad_field(alloc, top, part),
         PlanFault::BadLabel(key) => bad_label(alloc, top, key),
         PlanFault::BadId(node) => bad_id(alloc, top, node),
         PlanFault::BadStep(node) => bad_step(alloc, top, size, node),

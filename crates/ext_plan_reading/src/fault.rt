@@ -1,17 +1,17 @@
 //! Why a text is no plan.
 ghost use Rattle.std.specs.Prelude.{◌≡◌};
-ghost use Rattle.ext_plan_reading.specs.FaultPlaces.{code_of, place_of};
+ghost use Rattle.ext_plan_reading.specs.FaultParts.{code_of, part_of};
 ghost use Rattle.ext_plan_reading.specs.declared.fault.PlanFault.TheVariants.{Memory};
 
 use std::alloc::{AllocError, AllocFailed};
 use std::fmt;
 use thiserror::Error;
 
-/// Where in a plan a fault is. Keys and nodes are numbered from 0 in the order of their tables.
+/// The part of a plan in which a fault is. Keys and nodes are numbered from 0 in the order of their tables.
 ///
 /// It is printed after a fault's code: nothing for the plan as a whole, else ` key 1` or ` node 2`.
 #[derive(Clone, Copy, Debug, PartialEq, Eq)]
-pub enum Place {
+pub enum PlanPart {
     /// The plan as a whole.
     Whole,
     /// The key of this number.
@@ -20,17 +20,17 @@ pub enum Place {
     Node(usize),
 }
 
-impl fmt::Display for Place {
+impl fmt::Display for PlanPart {
     ghost use Rattle.std.specs.Prelude.{Some};
-    ghost use Rattle.ext_plan_reading.specs.FaultPlaces.{place_text};
+    ghost use Rattle.ext_plan_reading.specs.FaultParts.{part_text};
 
-    ghost output = { λ place. Some (place_text place) };
+    ghost output = { λ part. Some (part_text part) };
 
     fn fmt<W: fmt::Write>(&self, f: &mut fmt::Formatter<W>) -> fmt::Result {
         match self {
-            Place::Whole => Ok(()),
-            Place::Key(key) => write!(f, " key {key}"),
-            Place::Node(node) => write!(f, " node {node}"),
+            PlanPart::Whole => Ok(()),
+            PlanPart::Key(key) => write!(f, " key {key}"),
+            PlanPart::Node(node) => write!(f, " node {node}"),
         }
     }
 }
@@ -58,13 +58,13 @@ pub enum PlanFault {
     /// P3: there is a field other than `keep_faults`, `keys`, `key` and `node` at the top, `label`,
     /// `name` and `namespace` in a key, or `id`, `test`, `repeat`, `mode`, `isolated`, `locks`,
     /// `before_all`, `after_all`, `before_each` and `after_each` in a node.
-    UnknownField(Place),
+    UnknownField(PlanPart),
     /// P4: `key` or `node` is no array of tables; `label` or `id` is missing or no text; `name` or
     /// `mode` is no text; `namespace`, `test` or `locks` is no array of texts; `keep_faults` or
     /// `isolated` is neither true nor false; `keys` is no whole number from 1 to 1,024;
     /// `before_all`, `after_all`, `before_each` or `after_each` is no array of arrays of texts;
     /// `repeat` is no whole number from 1 to 65,535, or stands without `test`.
-    BadField(Place),
+    BadField(PlanPart),
     /// P5: a key's label is empty, has a space or is that of a key before it, or its namespace is
     /// an empty array.
     BadLabel(usize),
@@ -94,22 +94,22 @@ pub enum PlanFault {
 }
 
 impl PlanFault {
-    /// Returns the place in the plan where the fault is.
-    pub fn place(self) -> Place
-        ensures { result ≡ place_of self }
+    /// Returns the part of the plan in which the fault is.
+    pub fn part(self) -> PlanPart
+        ensures { result ≡ part_of self }
     {
         match self {
-            PlanFault::UnknownField(place) | PlanFault::BadField(place) => place,
-            PlanFault::BadLabel(key) => Place::Key(key),
+            PlanFault::UnknownField(part) | PlanFault::BadField(part) => part,
+            PlanFault::BadLabel(key) => PlanPart::Key(key),
             PlanFault::BadId(node)
             | PlanFault::BadStep(node)
             | PlanFault::BadLock(node)
-            | PlanFault::BadTest(node) => Place::Node(node),
+            | PlanFault::BadTest(node) => PlanPart::Node(node),
             PlanFault::NotUtf8
             | PlanFault::NotToml
             | PlanFault::BadTree
             | PlanFault::TooMany
-            | PlanFault::Memory => Place::Whole,
+            | PlanFault::Memory => PlanPart::Whole,
         }
     }
 
@@ -136,12 +136,12 @@ impl PlanFault {
 
 impl fmt::Display for PlanFault {
     ghost use Rattle.std.specs.Prelude.{Some};
-    ghost use Rattle.ext_plan_reading.specs.FaultPlaces.{line_of};
+    ghost use Rattle.ext_plan_reading.specs.FaultParts.{line_of};
 
     ghost output = { λ fault. Some (line_of fault) };
 
     fn fmt<W: fmt::Write>(&self, f: &mut fmt::Formatter<W>) -> fmt::Result {
-        write!(f, "plan: P{}{}", self.code(), self.place())
+        write!(f, "plan: P{}{}", self.code(), self.part())
     }
 }
 

@@ -8,7 +8,7 @@ ghost use Rattle.ext_plan_reading.specs.Faults.{Gives};
 ghost use Rattle.ext_plan_reading.specs.KeyReading.{has_parts, key_at, keys_after};
 ghost use Rattle.ext_plan_reading.specs.declared.fault.PlanFault.TheVariants.{Memory};
 
-use crate::fault::{Place, PlanFault};
+use crate::fault::{PlanFault, PlanPart};
 use crate::fields::{has_only, text_at, text_if_given, texts_at};
 use crate::labels::Labels;
 use ext_plan::PlanKey;
@@ -54,17 +54,17 @@ pub(crate) fn key_of<'a>(
     ensures parts { IfOk result (λ key. HasParts (key_view key)) }
 {
     if !has_only(&KEY_FIELDS, table) {
-        return Err(PlanFault::UnknownField(Place::Key(number)));
+        return Err(PlanFault::UnknownField(PlanPart::Key(number)));
     }
     let Some(label) = text_at(table, "label") else {
-        return Err(PlanFault::BadField(Place::Key(number)));
+        return Err(PlanFault::BadField(PlanPart::Key(number)));
     };
-    let name = text_if_given(table, "name", PlanFault::BadField(Place::Key(number)))?;
+    let name = text_if_given(table, "name", PlanFault::BadField(PlanPart::Key(number)))?;
     let namespace = texts_at(
         alloc,
         table,
         "namespace",
-        PlanFault::BadField(Place::Key(number)),
+        PlanFault::BadField(PlanPart::Key(number)),
     )?;
     if !is_word(label) || !has_parts(&namespace) {
         return Err(PlanFault::BadLabel(number));

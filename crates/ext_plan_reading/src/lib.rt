@@ -26,7 +26,7 @@ mod top;
 
 pub use explaining::{explain, explain_id, nearest};
 pub use ext_plan::{LabelNo, Plan, PlanKey, PlanLock, PlanNode, Step, StepKey};
-pub use fault::{Place, PlanFault};
+pub use fault::{PlanFault, PlanPart};
 pub(crate) use keys::{Keys, keys_of};
 pub(crate) use labels::Labels;
 pub(crate) use locks::locks_are_few;

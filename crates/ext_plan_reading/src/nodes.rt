@@ -11,7 +11,7 @@ ghost use Rattle.ext_plan_reading.specs.NodeReading.{id_or, sketch_at, sketches_
 
 use crate::callbacks::CallbackSketch;
 use crate::depths::least_test_depth;
-use crate::fault::{Place, PlanFault};
+use crate::fault::{PlanFault, PlanPart};
 use crate::fields::{has_only, repeats_at, text_at, text_if_given, texts_at, truth_at};
 use crate::labels::Labels;
 use crate::locks::locks_of;
@@ -112,9 +112,9 @@ pub(crate) fn sketch_of<'a>(
     ensures { Gives sketch_view result (sketch_at node (table_view table.now)) }
 {
     if !has_only(&NODE_FIELDS, table) {
-        return Err(PlanFault::UnknownField(Place::Node(node)));
+        return Err(PlanFault::UnknownField(PlanPart::Node(node)));
     }
-    let fault = PlanFault::BadField(Place::Node(node));
+    let fault = PlanFault::BadField(PlanPart::Node(node));
     let Some(text) = text_at(table, "id") else {
         return Err(fault);
     };

@@ -33,7 +33,7 @@ use toml::Table;
 ///    key before, also where that key is refused.
 /// 4. `BadTree`.
 /// 5. Of each node the first of `BadTest`, `BadLock` and `BadStep`. A repeated test and its
-///    repetitions are one table, of which the first fault is told.
+///    repetitions are one table, of which the first fault is listed.
 /// 6. `TooMany`.
 ///
 /// Neither `NotUtf8` nor `Memory` is among them. Fails with `AllocError` only if memory is refused.

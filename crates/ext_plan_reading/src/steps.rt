@@ -23,7 +23,7 @@ const HEIGHTS: [&str; 15] = [
 const STEP_LIMIT: usize = 4_294_967_295;
 
 /// The steps that the texts of a test or a callback are, in order, if they are not too many. `node`
-/// is the place of its node in the plan, and `depth` how many segments the id of a test or
+/// is the index of its node in the plan, and `depth` how many segments the id of a test or
 /// container in which it runs has at least.
 #[tactic(auto, unfolding(crate::specs::StepReading::steps_at))]
 pub(crate) fn steps_of(
@@ -216,14 +216,14 @@ fn height_of(word: &str, number: &str) -> Option<usize>
     if word != "up" {
         return None;
     }
-    let place = place_among(&HEIGHTS, number)?;
-    Some(place + 1)
+    let index = index_among(&HEIGHTS, number)?;
+    Some(index + 1)
 }
 
-/// The place of a text among others.
-fn place_among(texts: &[&str], text: &str) -> Option<usize>
-    ensures place { result ≡ position (λ t. bytes_eq t.now text.now) texts.now }
-    ensures within { IfSome result (λ place. place < length texts.now) }
+/// The index of a text among others.
+fn index_among(texts: &[&str], text: &str) -> Option<usize>
+    ensures index { result ≡ position (λ t. bytes_eq t.now text.now) texts.now }
+    ensures within { IfSome result (λ index. index < length texts.now) }
 {
     texts.iter().position(|other| *other == text)
 }

@@ -5,7 +5,7 @@ ghost use Rattle.ext_plan_reading.specs.Faults.{Gives};
 ghost use Rattle.ext_plan_reading.specs.InnerTop.{top_view};
 ghost use Rattle.ext_plan_reading.specs.TopReading.{top_at};
 
-use crate::fault::{Place, PlanFault};
+use crate::fault::{PlanFault, PlanPart};
 use crate::fields::{TOP_FIELDS, has_only, key_places_at, tables_at, truth_at};
 use std::alloc::Global;
 use toml::Table;
@@ -25,9 +25,9 @@ pub(crate) fn top_of<'a>(alloc: Global, top: &'a Table) -> Result<Top<'a>, PlanF
     ensures exact { Gives top_view result (top_at (table_view top.now)) }
     ensures few { IfOk result (λ top. top.key_places ≤ 1024) }
 {
-    let fault = PlanFault::BadField(Place::Whole);
+    let fault = PlanFault::BadField(PlanPart::Whole);
     if !has_only(&TOP_FIELDS, top) {
-        return Err(PlanFault::UnknownField(Place::Whole));
+        return Err(PlanFault::UnknownField(PlanPart::Whole));
     }
     let keep_faults = truth_at(top, "keep_faults", fault)?;
     let key_places = key_places_at(top, "keys", fault)?;

@@ -17,10 +17,10 @@ use Rattle.ext_plan.specs.Plans.{KeyText, PlanText, StepText, step_view}
 use Rattle.ext_plan.specs.ReadPlans.{ids_of_nodes}
 use Rattle.ext_plan.specs.StepCalls.{start_of}
 use Rattle.ext_plan.specs.StepWords.{gives_value, word_eq}
-use Rattle.ext_plan.specs.StoreKeys.{is_there, key_of_step, place_of_key}
+use Rattle.ext_plan.specs.StoreKeys.{is_there, key_of_step, number_of_key}
 use Rattle.ext_plan.specs.declared.plan.Step.{Step}
 use Rattle.ext_plan.specs.declared.word.Word.TheVariants as words
-use Rattle.ext_plan.proofs.KeyLists.{has_place, not_contained, place_within}
+use Rattle.ext_plan.proofs.KeyLists.{has_key_number, not_contained, key_number_within}
 use Rattle.ext_races.specs.declared.made.MadeStep.{MadeStep}
 use Rattle.ext_races.specs.declared.standing.Compute.{Compute}
 use Rattle.ext_races.specs.declared.standing.Standing.{Standing}
@@ -73,9 +73,9 @@ noted_before computes one key is = elim (cases_eq one.key key) [
 -- ---- keys and their numbers
 
 module _ (declared : List KeyText) (directory : List KeyValue) where
-  other_place : (one other : KeyValue) → is_there directory one ≡ true → is_there directory other ≡ true → key_eq one other ≡ false → place_of_key directory one ≢ place_of_key directory other
-  other_place one other there other_there differ same =
-      let both : Some one ≡ Some other = sym (has_place directory one there) ∙ ap (slice_get directory) same ∙ has_place directory other other_there in
+  other_number : (one other : KeyValue) → is_there directory one ≡ true → is_there directory other ≡ true → key_eq one other ≡ false → number_of_key directory one ≢ number_of_key directory other
+  other_number one other there other_there differ same =
+      let both : Some one ≡ Some other = sym (has_key_number directory one there) ∙ ap (slice_get directory) same ∙ has_key_number directory other other_there in
       let equal : one ≡ other = cc both in
       true≢false (sym ((keys_Decides one other).1 equal) ∙ differ)
 
@@ -86,16 +86,16 @@ module _ (declared : List KeyText) (directory : List KeyValue) where
     | inr differ ↦ differ
   ]
 
-  same_place : (one other : KeyValue) → is_there directory one ≡ true → is_there directory other ≡ true → (place_of_key directory one == place_of_key directory other) ≡ key_eq one other
-  same_place one other there other_there = elim (cases_Bool (key_eq one other)) [
-    | inl same ↦ eq-eqb (place_of_key directory one) (place_of_key directory other) (ap (place_of_key directory) ((keys_Decides one other).0 same)) ∙ sym same
-    | inr differ ↦ ne_eqb (place_of_key directory one) (place_of_key directory other) (other_place one other there other_there differ) ∙ sym differ
+  same_number : (one other : KeyValue) → is_there directory one ≡ true → is_there directory other ≡ true → (number_of_key directory one == number_of_key directory other) ≡ key_eq one other
+  same_number one other there other_there = elim (cases_Bool (key_eq one other)) [
+    | inl same ↦ eq-eqb (number_of_key directory one) (number_of_key directory other) (ap (number_of_key directory) ((keys_Decides one other).0 same)) ∙ sym same
+    | inr differ ↦ ne_eqb (number_of_key directory one) (number_of_key directory other) (other_number one other there other_there differ) ∙ sym differ
   ]
 
   -- ---- one step more
 
   pub first_more : (path : List ℕ) (before : List (Option ActText)) (act : Option ActText) (old new : List Compute) → AreFirst declared directory path before old
-      → ((key : KeyValue) → is_there directory key ≡ true → compute_at new (place_of_key directory key) ≡ or_above (compute_at old (place_of_key directory key)) (first_compute declared key path (act ∷ [])))
+      → ((key : KeyValue) → is_there directory key ≡ true → compute_at new (number_of_key directory key) ≡ or_above (compute_at old (number_of_key directory key)) (first_compute declared key path (act ∷ [])))
       → AreFirst declared directory path (before ++ act ∷ []) new
   first_more path before act old new are more = record {
     each = λ key there. more key there ∙ ap (λ found. or_above found (first_compute declared key path (act ∷ []))) (are.each key there) ∙ sym (first_push declared key path before act);
@@ -104,7 +104,7 @@ module _ (declared : List KeyText) (directory : List KeyValue) where
   -- an act that computes no key of the directory
   pub first_same : (path : List ℕ) (before : List (Option ActText)) (act : Option ActText) (computes : List Compute) → ((key : KeyValue) → is_there directory key ≡ true → computes_key declared key act ≡ false)
       → AreFirst declared directory path before computes → AreFirst declared directory path (before ++ act ∷ []) computes
-  first_same path before act computes none are = first_more path before act computes computes are (λ key there. sym (ap (or_above (compute_at computes (place_of_key directory key))) (no_compute key act (none key there)) ∙ or_none _))
+  first_same path before act computes none are = first_more path before act computes computes are (λ key there. sym (ap (or_above (compute_at computes (number_of_key directory key))) (no_compute key act (none key there)) ∙ or_none _))
     where
       no_compute : (key : KeyValue) (act : Option ActText) → computes_key declared key act ≡ false → first_compute declared key path (act ∷ []) ≡ None
       no_compute key None is = refl
@@ -122,17 +122,17 @@ module _ (declared : List KeyText) (directory : List KeyValue) where
 
   -- one that does
   pub first_pushed : (path : List ℕ) (before : List (Option ActText)) (act : ActText) (one : Compute) (old new : List Compute) → gives_value act.word ≡ true → is_there directory (key_of_step declared act.key) ≡ true
-      → one.key ≡ place_of_key directory (key_of_step declared act.key) → compute_view one ≡ record { context = start_of (drop act.up path); word = act.word; text = act.text }
+      → one.key ≡ number_of_key directory (key_of_step declared act.key) → compute_view one ≡ record { context = start_of (drop act.up path); word = act.word; text = act.text }
       → ((key : ℕ) → compute_at new key ≡ or_above (compute_at old key) (compute_at (one ∷ []) key)) → AreFirst declared directory path before old → AreFirst declared directory path (before ++ Some act ∷ []) new
-  first_pushed path before act one old new gives there number is push are = first_more path before (Some act) old new are (λ key key_there. push (place_of_key directory key) ∙ ap (or_above (compute_at old (place_of_key directory key))) (same key key_there))
+  first_pushed path before act one old new gives there number is push are = first_more path before (Some act) old new are (λ key key_there. push (number_of_key directory key) ∙ ap (or_above (compute_at old (number_of_key directory key))) (same key key_there))
     where
       own : KeyValue
       own = key_of_step declared act.key
 
-      same : (key : KeyValue) → is_there directory key ≡ true → compute_at (one ∷ []) (place_of_key directory key) ≡ first_compute declared key path (Some act ∷ [])
+      same : (key : KeyValue) → is_there directory key ≡ true → compute_at (one ∷ []) (number_of_key directory key) ≡ first_compute declared key path (Some act ∷ [])
       same key key_there =
-          ap (λ n. option_map compute_view (if n == place_of_key directory key then Some one else None)) number
-          ∙ ap (λ b. option_map compute_view (if b then Some one else None)) (same_place own key there key_there)
+          ap (λ n. option_map compute_view (if n == number_of_key directory key then Some one else None)) number
+          ∙ ap (λ b. option_map compute_view (if b then Some one else None)) (same_number own key there key_there)
           ∙ by (key_eq own key)
           ∙ ap (λ g. if g && key_eq own key then Some (record { context = start_of (drop act.up path); word = act.word; text = act.text }) else None) (sym gives)
         where
@@ -164,9 +164,9 @@ module _ (declared : List KeyText) (directory : List KeyValue) where
       never false = refl
 
   pub removed_set : (before : List MadeText) (made : MadeText) (act : ActText) (number : ℕ) (removed : List Bool) → act_of made.step ≡ Some act → word_eq act.word words.Remove ≡ true
-      → is_there directory (key_of_step declared act.key) ≡ true → number ≡ place_of_key directory (key_of_step declared act.key) → AreRemoved declared directory before removed
+      → is_there directory (key_of_step declared act.key) ≡ true → number ≡ number_of_key directory (key_of_step declared act.key) → AreRemoved declared directory before removed
       → AreRemoved declared directory (before ++ made ∷ []) (set removed number true)
-  removed_set before made act number removed is word there place are = record {
+  removed_set before made act number removed is word there numbered are = record {
     count = length-set removed number true ∙ are.count;
     each = λ key key_there. one key key_there ∙ sym (any_push (λ m. removes_key declared key (act_of m.step)) before made ∙ ap (λ b. list_any (λ m. removes_key declared key (act_of m.step)) before || b) (removes key));
   }
@@ -181,22 +181,22 @@ module _ (declared : List KeyText) (directory : List KeyValue) where
       all true = refl
       all false = refl
 
-      one : (key : KeyValue) → is_there directory key ≡ true → removed_at (set removed number true) (place_of_key directory key) ≡ (list_any (λ m. removes_key declared key (act_of m.step)) before || key_eq own key)
+      one : (key : KeyValue) → is_there directory key ≡ true → removed_at (set removed number true) (number_of_key directory key) ≡ (list_any (λ m. removes_key declared key (act_of m.step)) before || key_eq own key)
       one key key_there = elim (cases_Bool (key_eq own key)) [
         | inl same ↦
-            let at : place_of_key directory key ≡ number = ap (place_of_key directory) (sym ((keys_Decides own key).0 same)) ∙ sym place in
-            let within = place_within directory own there in
+            let at : number_of_key directory key ≡ number = ap (number_of_key directory) (sym ((keys_Decides own key).0 same)) ∙ sym numbered in
+            let within = key_number_within directory own there in
             let long = are.count in
-            ap (λ n. get_or (set removed number true) n false) at ∙ get_or-set_same removed number true false (omega (arith, within, place, long))
+            ap (λ n. get_or (set removed number true) n false) at ∙ get_or-set_same removed number true false (omega (arith, within, numbered, long))
             ∙ all (list_any (λ m. removes_key declared key (act_of m.step)) before) ∙ ap (λ b. list_any (λ m. removes_key declared key (act_of m.step)) before || b) (sym same)
         | inr differ ↦
-            let far : place_of_key directory key ≢ number = λ at. other_place own key there key_there differ (sym place ∙ sym at) in
-            get_or-set_other removed number (place_of_key directory key) true false far ∙ are.each key key_there
+            let far : number_of_key directory key ≢ number = λ at. other_number own key there key_there differ (sym numbered ∙ sym at) in
+            get_or-set_other removed number (number_of_key directory key) true false far ∙ are.each key key_there
             ∙ sym (ap (λ b. list_any (λ m. removes_key declared key (act_of m.step)) before || b) differ ∙ or-false _)
       ]
 
   pub removed_none : (removed : List Bool) → length removed ≡ length directory → ((key : ℕ) → removed_at removed key ≡ false) → AreRemoved declared directory [] removed
-  removed_none removed long none = record { count = long; each = λ key there. none (place_of_key directory key) }
+  removed_none removed long none = record { count = long; each = λ key there. none (number_of_key directory key) }
 
 -- ---- all of it
 
@@ -212,15 +212,15 @@ module _ (plan : PlanText) (ids : List Id) (tree : IsTree ids) (nodes : ids ≡ 
       contains_nothing child (subst (λ xs. Contains xs child) (ap (λ i. children_of i parent) nodes ∙ none) there)
 
   module _ (lists : List (List Compute)) (are : AreComputed plan plan.keys directory (length ids) lists) (key : KeyValue) (there : is_there directory key ≡ true) where
-    along : (node : ℕ) (walk : List ℕ) → IsWalk ids node walk → computed_in lists (place_of_key directory key) walk ≡ computed_above plan key walk
+    along : (node : ℕ) (walk : List ℕ) → IsWalk ids node walk → computed_in lists (number_of_key directory key) walk ≡ computed_above plan key walk
     along node [] walks = refl
     along node (parent ∷ rest) (is, walks) =
         let path : plan_path plan parent ≡ parent ∷ rest = sym (path_is ids tree parent (parent ∷ rest) is.parent_within (refl, walks) ∙ ap (λ i. path_of i parent) nodes) in
         let here = (are.each parent is.parent_within (has_child parent node rest (is, walks))).each key there in
-        ap (λ found. or_above found (computed_in lists (place_of_key directory key) rest)) (here ∙ ap (λ p. first_compute plan.keys key p (map act_of (steps_before plan parent))) path)
+        ap (λ found. or_above found (computed_in lists (number_of_key directory key) rest)) (here ∙ ap (λ p. first_compute plan.keys key p (map act_of (steps_before plan parent))) path)
         ∙ ap (or_above (first_compute plan.keys key (parent ∷ rest) (map act_of (steps_before plan parent)))) (along parent rest walks)
 
-    above : (node : ℕ) (path : List ℕ) → node < length ids → IsPathOf ids node path → computed_in lists (place_of_key directory key) (drop 1 path) ≡ computed_above plan key (drop 1 (plan_path plan node))
+    above : (node : ℕ) (path : List ℕ) → node < length ids → IsPathOf ids node path → computed_in lists (number_of_key directory key) (drop 1 path) ≡ computed_above plan key (drop 1 (plan_path plan node))
     above node [] less is = absurd is
     above node (first ∷ walk) less (same, walks) =
         along node walk walks ∙ ap (λ p. computed_above plan key (drop 1 p)) (path_is ids tree node (first ∷ walk) less (same, walks) ∙ ap (λ i. path_of i node) nodes)
@@ -232,7 +232,7 @@ module _ (plan : PlanText) (ids : List Id) (tree : IsTree ids) (nodes : ids ≡ 
         let found = above (computes_view noted.computes.items) (subst (λ d. AreComputed plan d directory (length ids) (computes_view noted.computes.items)) keys computes) key there node path less is in
         let gone = removed.each key there ∙ ap (λ d. list_any (λ m. removes_key d key (act_of m.step)) (map made_view made)) keys ∙ any_same (λ s. removes_key plan.keys key (act_of s)) [] made
         ∙ ap (list_any (λ m. removes_key plan.keys key (act_of m.step))) steps in
-        ap (λ b. if b then None else computed_in (computes_view noted.computes.items) (place_of_key directory key) (drop 1 path)) gone
+        ap (λ b. if b then None else computed_in (computes_view noted.computes.items) (number_of_key directory key) (drop 1 path)) gone
         ∙ ap (λ f. if list_any (λ m. removes_key plan.keys key (act_of m.step)) (steps_made plan) then None else f) found;
   }
 
@@ -248,7 +248,7 @@ not_false false is = absurd (true≢false is)
 
 pub number_is : (directory : List KeyValue) (key : KeyValue) (result : Option ℕ) → ((number : ℕ) → HasNumber directory key number → result ≡ Some number) → ((result ≡ None) ↔ ¬ (Contains directory key)) → IsNumber directory key result
 number_is directory key result found absent = elim (cases_Bool (is_there directory key)) [
-  | inl there ↦ subst (IsNumber directory key) (sym (found (place_of_key directory key) (has_place directory key there))) (there, refl)
+  | inl there ↦ subst (IsNumber directory key) (sym (found (number_of_key directory key) (has_key_number directory key there))) (there, refl)
   | inr missing ↦ subst (IsNumber directory key) (sym (absent.1 (not_contained directory key missing))) missing
 ]
 
@@ -270,4 +270,4 @@ acts_more before steps i step less read =
     append_assoc before acts (act_of (step_view step) ∷ []) ∙ ap (λ xs. before ++ xs) (sym (ap (map act_of) (map-take_more step_view steps i step less read) ∙ map-append act_of (map step_view (take i steps)) (step_view step ∷ [])))
 
 pub first_none : (declared : List KeyText) (directory : List KeyValue) (path : List ℕ) (computes : List Compute) → computes ≡ [] → AreFirst declared directory path [] computes
-first_none declared directory path computes none = record { each = λ key there. ap (λ xs. compute_at xs (place_of_key directory key)) none }
+first_none declared directory path computes none = record { each = λ key there. ap (λ xs. compute_at xs (number_of_key directory key)) none }

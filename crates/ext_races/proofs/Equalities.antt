@@ -10,7 +10,7 @@ use Rattle.ext_plan.specs.declared.word.Word.{Word}
 use Rattle.ext_plan.specs.StepWords.{word_eq}
 use Rattle.ext_races.specs.declared.race.Race.{Race}
 use Rattle.ext_races.specs.declared.race.Side.{Side}
-use Rattle.ext_races.specs.InnerTold.{race_eq, side_eq, touch_eq}
+use Rattle.ext_races.specs.InnerListed.{race_eq, side_eq, touch_eq}
 use Rattle.ext_races.specs.Touches.{TouchText}
 
 pub both : (a b : Bool) → (a && b) ≡ true → (a ≡ true) × (b ≡ true)

@@ -16,8 +16,8 @@ use Rattle.ext_races.specs.declared.made.MadeStep.{MadeStep}
 use Rattle.ext_races.specs.declared.race.Race.{Race}
 use Rattle.ext_races.specs.Acts.{draws}
 use Rattle.ext_races.specs.InnerGroups.{IsGrouped}
-use Rattle.ext_races.specs.InnerNaming.{keys_of, keys_told}
-use Rattle.ext_races.specs.InnerTold.{groups_told}
+use Rattle.ext_races.specs.InnerNaming.{keys_listed, keys_of}
+use Rattle.ext_races.specs.InnerListed.{groups_listed}
 use Rattle.ext_races.specs.InnerMade.{made_views}
 use Rattle.ext_races.specs.MadeSteps.{MadeText, steps_made}
 use Rattle.ext_races.specs.Found.{HasRaces, IsWithin}
@@ -28,15 +28,15 @@ use Rattle.ext_races.proofs.Exact.{are_races}
 use Rattle.ext_races.proofs.Within.{nodes_within}
 
 module _ (plan : PlanText) (made : List MadeText) (steps : made ≡ steps_made plan) where
-  -- the keys, however they are told
-  pub named_is : (declared : List KeyText) (directory : List KeyValue) → declared ≡ plan.keys → directory ≡ keys_told declared made → directory ≡ keys_named plan
-  named_is declared directory keys is = is ∙ ap (λ d. keys_told d made) keys ∙ ap (keys_told plan.keys) steps
+  -- the keys, however they are listed
+  pub named_is : (declared : List KeyText) (directory : List KeyValue) → declared ≡ plan.keys → directory ≡ keys_listed declared made → directory ≡ keys_named plan
+  named_is declared directory keys is = is ∙ ap (λ d. keys_listed d made) keys ∙ ap (keys_listed plan.keys) steps
 
   pub drawn_is : (drawn : ℕ) → drawn ≡ count_by (λ m. draws plan.keep_faults m.step) made → drawn ≡ numbers_drawn plan
   drawn_is drawn is = is ∙ ap (count_by (λ m. draws plan.keep_faults m.step)) steps
 
   -- no limit is exceeded
-  pub within_limits : (declared : List KeyText) (directory : List KeyValue) (names : List (Bor StepKey)) (drawn : ℕ) → declared ≡ plan.keys → directory ≡ keys_told declared made → length directory ≤ plan.key_places
+  pub within_limits : (declared : List KeyText) (directory : List KeyValue) (names : List (Bor StepKey)) (drawn : ℕ) → declared ≡ plan.keys → directory ≡ keys_listed declared made → length directory ≤ plan.key_places
       → keys_of declared names ≡ directory → drawn ≡ count_by (λ m. draws plan.keep_faults m.step) made → drawn ≤ most_numbers plan.size → IsWithin plan names
   within_limits declared directory names drawn keys is few words count fits =
       let named = named_is declared directory keys is in
@@ -45,7 +45,7 @@ module _ (plan : PlanText) (made : List MadeText) (steps : made ≡ steps_made p
       record { keys = omega (arith, long, few); numbers = omega (arith, draws_in, fits); named = ap (λ d. keys_of d names) (sym keys) ∙ words ∙ named }
 
   -- the groups have the plan's touches
-  pub touches_in : (declared : List KeyText) (directory : List KeyValue) (ids : List Id) (groups : List (List TouchText)) → declared ≡ plan.keys → ids ≡ ids_of_nodes plan.nodes → directory ≡ keys_told declared made
+  pub touches_in : (declared : List KeyText) (directory : List KeyValue) (ids : List Id) (groups : List (List TouchText)) → declared ≡ plan.keys → ids ≡ ids_of_nodes plan.nodes → directory ≡ keys_listed declared made
       → IsGrouped (length directory) (flat_map (touches_of ids declared directory (standing plan)) made) groups → IsGrouped (length directory) (touches_made plan) groups
   touches_in declared directory ids groups keys nodes is grouped =
       let above = standing plan in
@@ -56,26 +56,26 @@ module _ (plan : PlanText) (made : List MadeText) (steps : made ≡ steps_made p
 -- ---- the races, or none
 
 -- races were looked for, and there are none; or there are some, if any were looked for
-pub none_is : (most : ℕ) (told : List Race) (free : Bool) → free ≡ (nat_lt 0 most && (length told == 0)) → free ≡ true → (0 < most) × (length told ≡ 0)
-none_is most told free is so = let parts = and_parts (nat_lt 0 most) (length told == 0) (sym is ∙ so) in (ltb-true 0 most parts.0, eqb-true (length told) 0 parts.1)
+pub none_is : (most : ℕ) (listed : List Race) (free : Bool) → free ≡ (nat_lt 0 most && (length listed == 0)) → free ≡ true → (0 < most) × (length listed ≡ 0)
+none_is most listed free is so = let parts = and_parts (nat_lt 0 most) (length listed == 0) (sym is ∙ so) in (ltb-true 0 most parts.0, eqb-true (length listed) 0 parts.1)
 
-pub some_are : (most : ℕ) (told : List Race) (free : Bool) → free ≡ (nat_lt 0 most && (length told == 0)) → free ≡ false → 0 < most → 0 < length told
-some_are most told free is so some = elim (and_cases (nat_lt 0 most) (length told == 0) (sym is ∙ so)) [
+pub some_are : (most : ℕ) (listed : List Race) (free : Bool) → free ≡ (nat_lt 0 most && (length listed == 0)) → free ≡ false → 0 < most → 0 < length listed
+some_are most listed free is so some = elim (and_cases (nat_lt 0 most) (length listed == 0) (sym is ∙ so)) [
   | inl none ↦ absurd (both_ways (nat_lt 0 most) none (lt-ltb 0 most some))
-  | inr there ↦ elim (cases_eq (length told) 0) [
-    | inl empty ↦ absurd (both_ways (length told == 0) there (eq-eqb (length told) 0 empty))
+  | inr there ↦ elim (cases_eq (length listed) 0) [
+    | inl empty ↦ absurd (both_ways (length listed == 0) there (eq-eqb (length listed) 0 empty))
     | inr other ↦ omega (arith, other)
   ]
 ]
 
-module _ (plan : PlanText) (most : ℕ) (groups : List (List TouchText)) (keys : ℕ) (grouped : IsGrouped keys (touches_made plan) groups) (told : List Race) (tells : told ≡ groups_told plan most groups) where
-  are : AreRaces plan most told
+module _ (plan : PlanText) (most : ℕ) (groups : List (List TouchText)) (keys : ℕ) (grouped : IsGrouped keys (touches_made plan) groups) (listed : List Race) (tells : listed ≡ groups_listed plan most groups) where
+  are : AreRaces plan most listed
   are = subst (AreRaces plan most) (sym tells) (are_races plan most groups keys grouped)
 
-  pub has_races : (0 < most → 0 < length told) → HasRaces plan most told
+  pub has_races : (0 < most → 0 < length listed) → HasRaces plan most listed
   has_races some = record { are = are; some = some }
 
-  pub no_races : 0 < most → length told ≡ 0 → (race : Race) → ¬ IsRace plan race
+  pub no_races : 0 < most → length listed ≡ 0 → (race : Race) → ¬ IsRace plan race
   no_races some empty race is = let at = are.all (omega (arith, empty, some)) race is in let less = at.1 in omega (arith, less, empty)
 
 pub nodes_in : (plan : PlanText) (made : List MadeStep) (ids : List Id) → made_views [] made ≡ steps_made plan → ids ≡ ids_of_nodes plan.nodes → All (λ m. m.node < length ids) made

@@ -15,10 +15,10 @@ use Rattle.ext_races.proofs.Equalities.{both}
 -- two touches of one place clash, where the first may change it and they don't agree
 clash : (t u : TouchText) → t.changes ≡ true → t.context ≡ u.context → t.key ≡ u.key → agree t u ≡ false → clashes t u ≡ true
 clash t u changing at named none =
-    let place = and_from t.changes (t.context == u.context) changing (eq-eqb t.context u.context at) in
+    let meets = and_from t.changes (t.context == u.context) changing (eq-eqb t.context u.context at) in
     let differ : (if t.key == u.key then not (agree t u) else closes_differ t u) ≡ true =
     ap (λ (b : Bool). if b then not (agree t u) else closes_differ t u) (eq-eqb t.key u.key named) ∙ ap not none in
-    and_from (t.changes && (t.context == u.context)) (if t.key == u.key then not (agree t u) else closes_differ t u) place differ
+    and_from (t.changes && (t.context == u.context)) (if t.key == u.key then not (agree t u) else closes_differ t u) meets differ
 
 pub race_free_shares_values : RaceFreeSharesValues
 race_free_shares_values plan free = record {
@@ -64,8 +64,8 @@ race_free_closes_agree plan free = record {
   where
     clash_of : (t u : TouchText) → t.changes ≡ true → t.context ≡ u.context → may_fail t ≡ true → may_fail u ≡ true → bytes_eq t.text u.text ≡ false → clashes t u ≡ true
     clash_of t u changing at fails fails_too other =
-        let place = and_from t.changes (t.context == u.context) changing (eq-eqb t.context u.context at) in
-        and_from (t.changes && (t.context == u.context)) (if t.key == u.key then not (agree t u) else closes_differ t u) place (differ (cases_Bool (t.key == u.key)))
+        let meets = and_from t.changes (t.context == u.context) changing (eq-eqb t.context u.context at) in
+        and_from (t.changes && (t.context == u.context)) (if t.key == u.key then not (agree t u) else closes_differ t u) meets (differ (cases_Bool (t.key == u.key)))
       where
         closes : closes_differ t u ≡ true
         closes = and_from (may_fail t && may_fail u) (not (bytes_eq t.text u.text)) (and_from (may_fail t) (may_fail u) fails fails_too) (ap not other)

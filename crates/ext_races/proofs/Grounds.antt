@@ -18,7 +18,7 @@ use Rattle.ext_races.proofs.Equalities.{both, both_true, equal}
 use Rattle.ext_races.proofs.Free.{free_keeps_apart, race_free_closes_agree, race_free_shares_values}
 use Rattle.ext_races.proofs.Grouped.{any_contains}
 use Rattle.ext_races.proofs.Searches.{shared_in, sharing}
-use Rattle.ext_races.proofs.Sides.{nodes_found, nodes_told}
+use Rattle.ext_races.proofs.Sides.{nodes_found, nodes_tested}
 use Rattle.ext_races.proofs.TouchNodes.{touch_within}
 
 module _ (plan : PlanText) (groups : List (List TouchText)) (keys : ℕ) (are : IsGrouped keys (touches_made plan) groups) where
@@ -28,9 +28,9 @@ module _ (plan : PlanText) (groups : List (List TouchText)) (keys : ℕ) (are : 
     none = λ t u one two beside changes at named agrees. false_from_ne_true (gives_value t.word) (λ gives.
         let same : place_group keys u ≡ place_group keys t = sym (ap (λ c. c * (keys + 1) + t.key) at ∙ ap (λ k. u.context * (keys + 1) + k) named) in
         let there : Contains (group_at groups (place_group keys t)) u = subst (λ k. Contains (group_at groups k) u) same (are.places u two) in
-        let told = nodes_told plan t.node u.node (touch_within plan t one) (touch_within plan u two) beside in
+        let tested = nodes_tested plan t.node u.node (touch_within plan t one) (touch_within plan u two) beside in
         let shares : shares_value t u ≡ true = both_true _ _ (both_true _ _ (both_true _ _ (both_true _ _ changes gives) (eq-eqb t.context u.context at)) (eq-eqb t.key u.key named)) agrees in
-        both_ways (groups_share plan groups) none (shared_in plan groups (place_group keys t) t u (are.places t one) there (both_true (shares_value t u) (nodes_beside plan t.node u.node) shares told)));
+        both_ways (groups_share plan groups) none (shared_in plan groups (place_group keys t) t u (are.places t one) there (both_true (shares_value t u) (nodes_beside plan t.node u.node) shares tested)));
   }
 
   -- two nodes that share a value do not keep apart

@@ -6,7 +6,7 @@ use Rattle.std.specs.Prelude.{Vec}
 use Rattle.std.proofs.lemmas.Bool.{cases_Bool, cases_eq}
 use Rattle.std.proofs.lemmas.List.{length-map, map-set, length-reverse, get_or-reverse}
 use Rattle.ext_plan.proofs.Lists.{map-push}
-use Rattle.ext_races.specs.InnerTold.{touch_eq}
+use Rattle.ext_races.specs.InnerListed.{touch_eq}
 use Rattle.ext_races.proofs.Equalities.{touch_is}
 use Rattle.std.proofs.lemmas.List.Elements.{Contains-append_left, Contains-append_right, Contains-append_cases}
 use Rattle.ext_races.specs.declared.touch.Touch.{Touch}

@@ -8,6 +8,7 @@ pub mod Finds
 pub mod Free
 pub mod Grounds
 pub mod Grouped
+pub mod Listed
 pub mod Lists
 pub mod Named
 pub mod Noted
@@ -16,6 +17,5 @@ pub mod Reaches
 pub mod Searches
 pub mod Sides
 pub mod StepTouches
-pub mod Told
 pub mod TouchNodes
 pub mod Within

@@ -11,7 +11,7 @@ use Rattle.std.proofs.lemmas.List.Elements.{All-cons, All-nil, Contains-append_l
 use Rattle.std.proofs.lemmas.Map.Views.{list_any-from_Contains}
 use Rattle.ext_tree.specs.Traits.{key_eq_equiv}
 use Rattle.ext_races.specs.declared.made.MadeStep.{MadeStep}
-use Rattle.ext_races.specs.InnerNaming.{keys_told}
+use Rattle.ext_races.specs.InnerNaming.{keys_listed}
 use Rattle.ext_races.specs.InnerMade.{made_view}
 use Rattle.ext_races.specs.MadeSteps.{MadeText}
 use Rattle.ext_races.specs.Touches.{key_of_made, keys_of_steps, with_key_of}
@@ -75,8 +75,8 @@ there_all declared keys (step ∷ more) =
     All-cons (λ s. IfSome (key_of_made declared s) (λ key. is_there (keys_of_steps declared keys (step ∷ more)) key ≡ true)) step more
     (there_first declared keys more (key_of_made declared step)) (there_all declared (with_key_of keys (key_of_made declared step)) more)
 
-pub there_at : (declared : List KeyText) (directory : List KeyValue) (made : List MadeStep) (i : ℕ) (x : MadeStep) → directory ≡ keys_told declared (map made_view made) → i < length made → x ≡ get_or made i x
+pub there_at : (declared : List KeyText) (directory : List KeyValue) (made : List MadeStep) (i : ℕ) (x : MadeStep) → directory ≡ keys_listed declared (map made_view made) → i < length made → x ≡ get_or made i x
     → IfSome (key_of_made declared (made_view x)) (λ key. is_there directory key ≡ true)
 there_at declared directory made i x is less read =
     subst (λ keys. IfSome (key_of_made declared (made_view x)) (λ key. is_there keys key ≡ true)) (sym is)
-    (All-map-at (λ step. IfSome (key_of_made declared step) (λ key. is_there (keys_told declared (map made_view made)) key ≡ true)) made_view made i x less read (there_all declared [] (map made_view made)))
+    (All-map-at (λ step. IfSome (key_of_made declared step) (λ key. is_there (keys_listed declared (map made_view made)) key ≡ true)) made_view made i x less read (there_all declared [] (map made_view made)))

@@ -16,13 +16,13 @@ use Rattle.ext_races.specs.declared.touch.Touch.{Touch}
 use Rattle.ext_races.specs.Beside.{PassesBy, nodes_beside}
 use Rattle.ext_races.specs.Clashes.{agree, clashes, closes_differ}
 use Rattle.ext_races.specs.InnerPassing.{AreNoted, HasNoted, HasNotedIf, IsNoted, Keeps, KeepsIf, alike, may_meet, meets, passed_at}
-use Rattle.ext_races.specs.InnerTold.{race, touch_told}
+use Rattle.ext_races.specs.InnerListed.{race, touch_listed}
 use Rattle.ext_races.specs.MadeSteps.{path_of, plan_path}
 use Rattle.ext_races.specs.Touches.{TouchText, touch_view}
 use Rattle.ext_races.proofs.Equalities.{both, both_true, word_is}
 use Rattle.ext_races.proofs.Lists.{contains_cases, contains_nothing, contains-map, contains_at, map-take_at}
-use Rattle.ext_races.proofs.Sides.{nodes_found, turn_told}
-use Rattle.ext_races.proofs.Told.{touch_alone}
+use Rattle.ext_races.proofs.Sides.{nodes_found, turn_tested}
+use Rattle.ext_races.proofs.Listed.{touch_alone}
 
 -- ---- touches that are all alike to one don't clash
 
@@ -96,35 +96,35 @@ module _ (plan : PlanText) (passed : List (Option Passed)) (group : List TouchTe
       let one = (noted.each t t_in t_less).each are.child are.container are.below are.concurrent in
       let two = (noted.each u u_in u_less).each are.other are.container are.other_below are.other_concurrent in
       let here = apart_if differing t u clash (passed_at passed are.container) are.child are.other one two are.differ in
-      both_true _ _ within.0 (turn_told (λ turn. concurrent_of plan turn.0 && meets differing (passed_at passed turn.1)) (plan_path plan t.node) are.child are.container are.below (both_true _ _ are.concurrent here))
+      both_true _ _ within.0 (turn_tested (λ turn. concurrent_of plan turn.0 && meets differing (passed_at passed turn.1)) (plan_path plan t.node) are.child are.container are.below (both_true _ _ are.concurrent here))
 
   races_where : (t u : TouchText) → Contains group t → Contains group u → race plan t u ≡ true → may_meet plan passed true t.node ≡ true
   races_where t u t_in u_in h = let parts = both (clashes t u) (nodes_beside plan t.node u.node) h in meets_where true t u t_in u_in (λ so. parts.0) parts.1
 
   -- a touch that may not race is not compared
-  pub passed_over : (most : ℕ) (told : List Race) (t : TouchText) → Contains group t → may_meet plan passed true t.node ≡ false → touch_told plan most group told t ≡ told
-  passed_over most told t t_in none = touch_alone plan most group told t (λ u u_in is. true≢false (sym (races_where t u t_in u_in is) ∙ none))
+  pub passed_over : (most : ℕ) (listed : List Race) (t : TouchText) → Contains group t → may_meet plan passed true t.node ≡ false → touch_listed plan most group listed t ≡ listed
+  passed_over most listed t t_in none = touch_alone plan most group listed t (λ u u_in is. true≢false (sym (races_where t u t_in u_in is) ∙ none))
 
 fold_push : {A B : Type 0} (f : B → A → B) (start : B) (xs : List A) (x : A) → fold f start (xs ++ x ∷ []) ≡ f (fold f start xs) x
 fold_push f start [] x = refl
 fold_push f start (y ∷ xs) x = fold_push f (f start y) xs x
 
--- one touch more is told
-pub told_next : (plan : PlanText) (most : ℕ) (group : List Touch) (start told after : List Race) (i : ℕ) (d : Touch) → i < length group → told ≡ fold (touch_told plan most (map touch_view group)) start (map touch_view (take i group))
-    → after ≡ touch_told plan most (map touch_view group) told (touch_view (get_or group i d)) → after ≡ fold (touch_told plan most (map touch_view group)) start (map touch_view (take (i + 1) group))
-told_next plan most group start told after i d less so_far is =
-    let f = touch_told plan most (map touch_view group) in
+-- one touch more is listed
+pub listed_next : (plan : PlanText) (most : ℕ) (group : List Touch) (start listed after : List Race) (i : ℕ) (d : Touch) → i < length group → listed ≡ fold (touch_listed plan most (map touch_view group)) start (map touch_view (take i group))
+    → after ≡ touch_listed plan most (map touch_view group) listed (touch_view (get_or group i d)) → after ≡ fold (touch_listed plan most (map touch_view group)) start (map touch_view (take (i + 1) group))
+listed_next plan most group start listed after i d less so_far is =
+    let f = touch_listed plan most (map touch_view group) in
     let touch = touch_view (get_or group i d) in
     is ∙ ap (λ r. f r touch) so_far ∙ sym (fold_push f start (map touch_view (take i group)) touch) ∙ ap (fold f start) (sym (map-take_at touch_view group i d less))
 
 -- one that may not race is passed over
-pub told_over : (plan : PlanText) (passed : List (Option Passed)) (most : ℕ) (group : List Touch) (start told after : List Race) (i : ℕ) (d : Touch) → AreNoted plan passed (map touch_view group) → i < length group
-    → may_meet plan passed true (get_or group i d).node ≡ false → told ≡ fold (touch_told plan most (map touch_view group)) start (map touch_view (take i group)) → after ≡ told
-    → after ≡ fold (touch_told plan most (map touch_view group)) start (map touch_view (take (i + 1) group))
-told_over plan passed most group start told after i d noted less none so_far same =
+pub listed_over : (plan : PlanText) (passed : List (Option Passed)) (most : ℕ) (group : List Touch) (start listed after : List Race) (i : ℕ) (d : Touch) → AreNoted plan passed (map touch_view group) → i < length group
+    → may_meet plan passed true (get_or group i d).node ≡ false → listed ≡ fold (touch_listed plan most (map touch_view group)) start (map touch_view (take i group)) → after ≡ listed
+    → after ≡ fold (touch_listed plan most (map touch_view group)) start (map touch_view (take (i + 1) group))
+listed_over plan passed most group start listed after i d noted less none so_far same =
     let touch = get_or group i d in
     let t_in = contains-map touch_view group touch (contains_at group i d less) in
-    told_next plan most group start told after i d less so_far (same ∙ sym (passed_over plan passed (map touch_view group) noted most told (touch_view touch) t_in none))
+    listed_next plan most group start listed after i d less so_far (same ∙ sym (passed_over plan passed (map touch_view group) noted most listed (touch_view touch) t_in none))
 
 -- ---- one note
 

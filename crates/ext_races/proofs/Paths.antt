@@ -8,7 +8,7 @@ use Rattle.ext_tree.proofs.Children.{is_parent_Decides}
 use Rattle.ext_tree.proofs.TreeFacts.{child_not_root, one_parent, parent_first}
 use Rattle.ext_races.specs.MadeSteps.{parent_in, path_above, path_from, path_of}
 
--- ---- the only place that passes
+-- ---- the only index that passes
 
 module _ {X : Type 0} (p : X → Bool) (d : X) where
   at_only : (xs : List X) (i : ℕ) → i < length xs → p (get_or xs i d) ≡ true → ((k : ℕ) → k < i → p (get_or xs k d) ≡ false) → position_or_len p xs ≡ i

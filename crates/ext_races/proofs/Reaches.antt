@@ -13,8 +13,8 @@ use Rattle.ext_tree.specs.Traits.{key_eq}
 use Rattle.ext_tree.proofs.Equalities.{keys_Decides}
 use Rattle.ext_plan.specs.Plans.{KeyText, StepText}
 use Rattle.ext_plan.specs.StepWords.{changes, gives_value}
-use Rattle.ext_plan.specs.StoreKeys.{is_there, key_of_step, place_of_key}
-use Rattle.ext_plan.proofs.KeyLists.{has_place, place_within}
+use Rattle.ext_plan.specs.StoreKeys.{is_there, key_of_step, number_of_key}
+use Rattle.ext_plan.proofs.KeyLists.{has_key_number, key_number_within}
 use Rattle.ext_races.specs.declared.made.MadeStep.{MadeStep}
 use Rattle.ext_races.specs.Acts.{ActText, act_of}
 use Rattle.ext_races.specs.InnerMade.{before_in}
@@ -70,11 +70,11 @@ module _ (declared : List KeyText) (directory : List KeyValue) where
   whole_tells below long whole = record {
     count = long;
     each = λ key path there short.
-        let within = place_within directory key there in
-        ap (λ n. take n path) (whole (place_of_key directory key) (omega (arith, within, long))) ∙ take_all 17 path (omega (arith, short));
+        let within = key_number_within directory key there in
+        ap (λ n. take n path) (whole (number_of_key directory key) (omega (arith, within, long))) ∙ take_all 17 path (omega (arith, short));
     own = λ key there.
-        let within = place_within directory key there in
-        ap (λ n. nat_lt n 17) (whole (place_of_key directory key) (omega (arith, within, long)));
+        let within = key_number_within directory key there in
+        ap (λ n. nat_lt n 17) (whole (number_of_key directory key) (omega (arith, within, long)));
   }
 
   -- as a step begins
@@ -94,15 +94,15 @@ module _ (declared : List KeyText) (directory : List KeyValue) where
         ∙ sym (any_push (λ s. computes_key declared key (act_of s)) before step ∙ ap (λ act. list_any (λ s. computes_key declared key (act_of s)) before || computes_key declared key act) is ∙ or-false _);
   }
 
-  apart : (one other : KeyValue) → is_there directory one ≡ true → is_there directory other ≡ true → key_eq one other ≡ false → place_of_key directory other ≢ place_of_key directory one
+  apart : (one other : KeyValue) → is_there directory one ≡ true → is_there directory other ≡ true → key_eq one other ≡ false → number_of_key directory other ≢ number_of_key directory one
   apart one other there other_there differ same =
-      let both : Some one ≡ Some other = sym (has_place directory one there) ∙ ap (slice_get directory) (sym same) ∙ has_place directory other other_there in
+      let both : Some one ≡ Some other = sym (has_key_number directory one there) ∙ ap (slice_get directory) (sym same) ∙ has_key_number directory other other_there in
       let equal : one ≡ other = cc both in
       true≢false (sym ((keys_Decides one other).1 equal) ∙ differ)
 
   -- behind an act
   module _ (before : List StepText) (step : StepText) (act : ActText) (below : List ℕ) (number : ℕ) (is : act_of step ≡ Some act) (there : is_there directory (key_of_step declared act.key) ≡ true)
-      (place : number ≡ place_of_key directory (key_of_step declared act.key)) (tells : Tells declared directory before below) where
+      (numbered : number ≡ number_of_key directory (key_of_step declared act.key)) (tells : Tells declared directory before below) where
     abbrev own : KeyValue
     own = key_of_step declared act.key
 
@@ -118,27 +118,27 @@ module _ (declared : List KeyText) (directory : List KeyValue) where
     -- the part of a path that is noted for the act's own key
     own_below : (path : List ℕ) (gives less : Bool) → gives_value act.word ≡ gives → nat_lt up (below_at below number) ≡ less → length path ≤ 16
         → take (below_at (if gives && less then set below number up else below) number) path ≡ (if gives && true then take act.up (below_computes declared own path before) else below_computes declared own path before)
-    own_below path false less gives is short = ap (λ n. take (below_at below n) path) place ∙ tells.each own path there short
+    own_below path false less gives is short = ap (λ n. take (below_at below n) path) numbered ∙ tells.each own path there short
     own_below path true true gives is short =
-        let within = place_within directory own there in
+        let within = key_number_within directory own there in
         let long = tells.count in
         let up_less : up < below_at below number = lt_of up (below_at below number) is in
         let few : length (take (below_at below number) path) ≤ 16 = (let e = length-take (below_at below number) path in let le = min-le_right (below_at below number) (length path) in omega (arith, e, le, short)) in
-        ap (λ n. take n path) (get_or-set_same below number up 0 (omega (arith, within, long, place))) ∙ sym (take_fewer up (below_at below number) path (omega (arith, up_less)))
-        ∙ take_up act.up (take (below_at below number) path) few ∙ ap (take act.up) (ap (λ n. take (below_at below n) path) place ∙ tells.each own path there short)
+        ap (λ n. take n path) (get_or-set_same below number up 0 (omega (arith, within, long, numbered))) ∙ sym (take_fewer up (below_at below number) path (omega (arith, up_less)))
+        ∙ take_up act.up (take (below_at below number) path) few ∙ ap (take act.up) (ap (λ n. take (below_at below n) path) numbered ∙ tells.each own path there short)
     own_below path true false gives is short =
         let up_more : below_at below number ≤ up = ge_of up (below_at below number) is in
         let least = min-le_left act.up 16 in
-        let same = ap (λ n. take (below_at below n) path) place ∙ tells.each own path there short in
+        let same = ap (λ n. take (below_at below n) path) numbered ∙ tells.each own path there short in
         same ∙ sym (ap (take act.up) (sym same) ∙ take_short act.up (below_at below number) path (omega (arith, up_more, least)) ∙ same)
 
     -- a key of its own is computed then
     own_computed : (less : Bool) → nat_lt up (below_at below number) ≡ less → is_computed (if less then set below number up else below) number ≡ true
     own_computed true is =
-        let within = place_within directory own there in
+        let within = key_number_within directory own there in
         let long = tells.count in
         let least = min-le_right act.up 16 in
-        let now : below_at (set below number up) number ≡ up = get_or-set_same below number up 0 (omega (arith, within, long, place)) in
+        let now : below_at (set below number up) number ≡ up = get_or-set_same below number up 0 (omega (arith, within, long, numbered)) in
         ap (λ n. nat_lt n 17) now ∙ lt_so up 17 (omega (arith, least))
     own_computed false is =
         let up_more : below_at below number ≤ up = ge_of up (below_at below number) is in
@@ -146,11 +146,11 @@ module _ (declared : List KeyText) (directory : List KeyValue) where
         lt_so (below_at below number) 17 (omega (arith, up_more, least))
 
     other_below : (key : KeyValue) (path : List ℕ) (gives less : Bool) → key_eq own key ≡ false → is_there directory key ≡ true → length path ≤ 16
-        → take (below_at (if gives && less then set below number up else below) (place_of_key directory key)) path
+        → take (below_at (if gives && less then set below number up else below) (number_of_key directory key)) path
         ≡ (if gives && false then take act.up (below_computes declared key path before) else below_computes declared key path before)
     other_below key path gives less differ key_there short =
-        let far : place_of_key directory key ≢ number = λ same. apart own key there key_there differ (same ∙ place) in
-        ap (λ n. take n path) (noted_other below number (place_of_key directory key) up (gives && less) far) ∙ tells.each key path key_there short ∙ sym (unless gives (below_computes declared key path before))
+        let far : number_of_key directory key ≢ number = λ same. apart own key there key_there differ (same ∙ numbered) in
+        ap (λ n. take n path) (noted_other below number (number_of_key directory key) up (gives && less) far) ∙ tells.each key path key_there short ∙ sym (unless gives (below_computes declared key path before))
       where
         unless : (gives : Bool) (whole : List ℕ) → (if gives && false then take act.up whole else whole) ≡ whole
         unless true whole = refl
@@ -166,27 +166,27 @@ module _ (declared : List KeyText) (directory : List KeyValue) where
     }
       where
         one : (key : KeyValue) (path : List ℕ) → is_there directory key ≡ true → length path ≤ 16
-            → take (below_at (noted below number act) (place_of_key directory key)) path ≡ below_act declared key (below_computes declared key path before) (Some act)
+            → take (below_at (noted below number act) (number_of_key directory key)) path ≡ below_act declared key (below_computes declared key path before) (Some act)
         one key path key_there short = elim (cases_Bool (key_eq own key)) [
           | inl same ↦
               let equal : own ≡ key = (keys_Decides own key).0 same in
-              subst (λ k. take (below_at (noted below number act) (place_of_key directory k)) path ≡ below_act declared k (below_computes declared k path before) (Some act)) equal
-              (rw ((keys_Decides own own).1 refl) (subst (λ n. take (below_at (noted below number act) n) path ≡ (if gives_value act.word && true then take act.up (below_computes declared own path before) else below_computes declared own path before)) place
+              subst (λ k. take (below_at (noted below number act) (number_of_key directory k)) path ≡ below_act declared k (below_computes declared k path before) (Some act)) equal
+              (rw ((keys_Decides own own).1 refl) (subst (λ n. take (below_at (noted below number act) n) path ≡ (if gives_value act.word && true then take act.up (below_computes declared own path before) else below_computes declared own path before)) numbered
               (own_below path (gives_value act.word) (nat_lt up (below_at below number)) refl refl short)))
           | inr differ ↦ rw differ (other_below key path (gives_value act.word) (nat_lt up (below_at below number)) differ key_there short)
         ]
 
         computed : (key : KeyValue) → is_there directory key ≡ true
-            → is_computed (noted below number act) (place_of_key directory key) ≡ (list_any (λ s. computes_key declared key (act_of s)) before || computes_key declared key (Some act))
+            → is_computed (noted below number act) (number_of_key directory key) ≡ (list_any (λ s. computes_key declared key (act_of s)) before || computes_key declared key (Some act))
         computed key key_there = elim (cases_Bool (key_eq own key)) [
           | inl same ↦
               let equal : own ≡ key = (keys_Decides own key).0 same in
-              subst (λ k. is_computed (noted below number act) (place_of_key directory k) ≡ (list_any (λ s. computes_key declared k (act_of s)) before || computes_key declared k (Some act))) equal
-              (rw ((keys_Decides own own).1 refl) (subst (λ n. is_computed (noted below number act) n ≡ (list_any (λ s. computes_key declared own (act_of s)) before || (gives_value act.word && true))) place
+              subst (λ k. is_computed (noted below number act) (number_of_key directory k) ≡ (list_any (λ s. computes_key declared k (act_of s)) before || computes_key declared k (Some act))) equal
+              (rw ((keys_Decides own own).1 refl) (subst (λ n. is_computed (noted below number act) n ≡ (list_any (λ s. computes_key declared own (act_of s)) before || (gives_value act.word && true))) numbered
               (own_case (gives_value act.word))))
           | inr differ ↦
-              let far : place_of_key directory key ≢ number = λ at. apart own key there key_there differ (at ∙ place) in
-              ap (λ n. nat_lt n 17) (noted_other below number (place_of_key directory key) up (gives_value act.word && nat_lt up (below_at below number)) far) ∙ tells.own key key_there
+              let far : number_of_key directory key ≢ number = λ at. apart own key there key_there differ (at ∙ numbered) in
+              ap (λ n. nat_lt n 17) (noted_other below number (number_of_key directory key) up (gives_value act.word && nat_lt up (below_at below number)) far) ∙ tells.own key key_there
               ∙ sym (ap (λ b. list_any (λ s. computes_key declared key (act_of s)) before || (gives_value act.word && b)) differ ∙ never (gives_value act.word) (list_any (λ s. computes_key declared key (act_of s)) before))
         ]
           where
@@ -200,18 +200,18 @@ module _ (declared : List KeyText) (directory : List KeyValue) where
 
             own_case : (gives : Bool) → is_computed (if gives && nat_lt up (below_at below number) then set below number up else below) number ≡ (list_any (λ s. computes_key declared own (act_of s)) before || (gives && true))
             own_case true = own_computed (nat_lt up (below_at below number)) refl ∙ all (list_any (λ s. computes_key declared own (act_of s)) before)
-            own_case false = ap (is_computed below) place ∙ tells.own own there ∙ sym (or-false (list_any (λ s. computes_key declared own (act_of s)) before))
+            own_case false = ap (is_computed below) numbered ∙ tells.own own there ∙ sym (or-false (list_any (λ s. computes_key declared own (act_of s)) before))
 
   -- so much an act reaches
   pub reached : (before : List StepText) (below : List ℕ) (act : ActText) (number : ℕ) (path : List ℕ) → Tells declared directory before below → is_there directory (key_of_step declared act.key) ≡ true
-      → number ≡ place_of_key directory (key_of_step declared act.key) → length path ≤ 16 → (if changes act.word then path else take (below_at below number) path) ≡ reach declared before path act
-  reached before below act number path tells there place short =
-      ap (λ part. if changes act.word then path else part) (ap (λ n. take (below_at below n) path) place ∙ tells.each (key_of_step declared act.key) path there short)
+      → number ≡ number_of_key directory (key_of_step declared act.key) → length path ≤ 16 → (if changes act.word then path else take (below_at below number) path) ≡ reach declared before path act
+  reached before below act number path tells there numbered short =
+      ap (λ part. if changes act.word then path else part) (ap (λ n. take (below_at below n) path) numbered ∙ tells.each (key_of_step declared act.key) path there short)
 
   -- and so much was found above it
   pub found : (before : List StepText) (below : List ℕ) (act : ActText) (number : ℕ) (above : KeyValue → Option ComputeText) (stood : Option ComputeText) → Tells declared directory before below
-      → is_there directory (key_of_step declared act.key) ≡ true → number ≡ place_of_key directory (key_of_step declared act.key) → stood ≡ above (key_of_step declared act.key)
+      → is_there directory (key_of_step declared act.key) ≡ true → number ≡ number_of_key directory (key_of_step declared act.key) → stood ≡ above (key_of_step declared act.key)
       → (if changes act.word || is_computed below number then None else stood) ≡ found_above declared before above act
-  found before below act number above stood tells there place same =
-      ap (λ b. if changes act.word || b then None else stood) (ap (is_computed below) place ∙ tells.own (key_of_step declared act.key) there)
+  found before below act number above stood tells there numbered same =
+      ap (λ b. if changes act.word || b then None else stood) (ap (is_computed below) numbered ∙ tells.own (key_of_step declared act.key) there)
       ∙ ap (λ s. if changes act.word || list_any (λ step. computes_key declared (key_of_step declared act.key) (act_of step)) before then None else s) same

@@ -21,13 +21,13 @@ module _ (p : ℕ × ℕ → Bool) where
     | inr not_here ↦ let rest = turn_found (next ∷ above) (rw not_here at h) in (rest.0, rest.1, inr rest.2, rest.3)
   ]
 
-  pub turn_told : (path : List ℕ) (child container : ℕ) → PassesBy path child container → p (child, container) ≡ true → list_any p (turns path) ≡ true
-  turn_told [] child container by h = absurd by
-  turn_told (first ∷ []) child container by h = absurd by
-  turn_told (first ∷ next ∷ above) child container (inl (one, two)) h = rw (ap (λ a. p (a, next)) one ∙ ap (λ b. p (child, b)) two ∙ h) refl
-  turn_told (first ∷ next ∷ above) child container (inr later) h = elim (cases_Bool (p (first, next))) [
+  pub turn_tested : (path : List ℕ) (child container : ℕ) → PassesBy path child container → p (child, container) ≡ true → list_any p (turns path) ≡ true
+  turn_tested [] child container by h = absurd by
+  turn_tested (first ∷ []) child container by h = absurd by
+  turn_tested (first ∷ next ∷ above) child container (inl (one, two)) h = rw (ap (λ a. p (a, next)) one ∙ ap (λ b. p (child, b)) two ∙ h) refl
+  turn_tested (first ∷ next ∷ above) child container (inr later) h = elim (cases_Bool (p (first, next))) [
     | inl here ↦ rw here refl
-    | inr not_here ↦ rw not_here (turn_told (next ∷ above) child container later h)
+    | inr not_here ↦ rw not_here (turn_tested (next ∷ above) child container later h)
   ]
 
 -- ---- beside
@@ -60,17 +60,17 @@ module _ (plan : PlanText) where
         other_concurrent = rest.1;
       }
 
-  beside_told : (path other : List ℕ) → AreBeside plan path other → are_beside plan path other ≡ true
-  beside_told path other are =
-      turn_told (λ turn. concurrent_of plan turn.0 && comes_by_other plan turn.0 turn.1 other) path are.child are.container are.below
+  beside_tested : (path other : List ℕ) → AreBeside plan path other → are_beside plan path other ≡ true
+  beside_tested path other are =
+      turn_tested (λ turn. concurrent_of plan turn.0 && comes_by_other plan turn.0 turn.1 other) path are.child are.container are.below
       (both_true _ _ are.concurrent
-      (turn_told (λ turn. (turn.1 == are.container) && not (turn.0 == are.child) && concurrent_of plan turn.0) other are.other are.container are.other_below
+      (turn_tested (λ turn. (turn.1 == are.container) && not (turn.0 == are.child) && concurrent_of plan turn.0) other are.other are.container are.other_below
       (both_true _ _ (both_true _ _ ((Decides-eqb are.container are.container).1 refl) (is_other are.other are.child are.differ)) are.other_concurrent)))
 
   pub nodes_found : (first second : ℕ) → nodes_beside plan first second ≡ true → IsBeside plan first second
   nodes_found first second h = beside_found (plan_path plan first) (plan_path plan second) (both _ _ h).1
 
-  pub nodes_told : (first second : ℕ) → first < length plan.nodes → second < length plan.nodes → IsBeside plan first second → nodes_beside plan first second ≡ true
-  nodes_told first second one two are =
+  pub nodes_tested : (first second : ℕ) → first < length plan.nodes → second < length plan.nodes → IsBeside plan first second → nodes_beside plan first second ≡ true
+  nodes_tested first second one two are =
       both_true _ _ (both_true _ _ (let e : nat_lt first (length plan.nodes) ≡ true = grind (arith, one) in e) (let e : nat_lt second (length plan.nodes) ≡ true = grind (arith, two) in e))
-      (beside_told (plan_path plan first) (plan_path plan second) are)
+      (beside_tested (plan_path plan first) (plan_path plan second) are)

@@ -7,7 +7,7 @@ use Rattle.ext_tree.specs.Traits.{key_eq}
 use Rattle.ext_tree.specs.Trees.{Id}
 use Rattle.std.specs.Prelude.{◌&&◌, if◌then◌else◌}
 use Rattle.ext_plan.specs.Plans.{KeyText, StepText}
-use Rattle.ext_plan.specs.StoreKeys.{is_there, key_of_step, place_of_key}
+use Rattle.ext_plan.specs.StoreKeys.{is_there, key_of_step, number_of_key}
 use Rattle.ext_plan.specs.StepWords.{changes, gives_value}
 use Rattle.ext_races.specs.Acts.{ActText, act_of}
 use Rattle.ext_races.specs.InnerGroups.{HasGroups}
@@ -15,11 +15,11 @@ use Rattle.ext_races.specs.MadeSteps.{MadeText, path_of}
 use Rattle.ext_races.specs.Touches.{ComputeText, below_act, below_computes, found_above, key_of_act, key_of_made, reach, touches_along, touches_of, touches_of_act}
 
 pub touches_are : (ids : List Id) (declared : List KeyText) (keys : List KeyValue) (above : ℕ → KeyValue → Option ComputeText) (made : MadeText) (act : ActText) (number : ℕ) (found : Option ComputeText) (path : List ℕ)
-    → act_of made.step ≡ Some act → number ≡ place_of_key keys (key_of_step declared act.key) → found ≡ found_above declared made.before (above made.node) act
+    → act_of made.step ≡ Some act → number ≡ number_of_key keys (key_of_step declared act.key) → found ≡ found_above declared made.before (above made.node) act
     → path ≡ drop act.up (reach declared made.before (path_of ids made.node) act) → touches_along made.node number act found path ≡ touches_of ids declared keys above made
-touches_are ids declared keys above made act number found path is place same along =
-    ap (λ n. touches_along made.node n act found path) place ∙ ap (λ f. touches_along made.node (place_of_key keys (key_of_step declared act.key)) act f path) same
-    ∙ ap (touches_along made.node (place_of_key keys (key_of_step declared act.key)) act (found_above declared made.before (above made.node) act)) along
+touches_are ids declared keys above made act number found path is numbered same along =
+    ap (λ n. touches_along made.node n act found path) numbered ∙ ap (λ f. touches_along made.node (number_of_key keys (key_of_step declared act.key)) act f path) same
+    ∙ ap (touches_along made.node (number_of_key keys (key_of_step declared act.key)) act (found_above declared made.before (above made.node) act)) along
     ∙ ap (touches_of_act declared keys made.node (path_of ids made.node) made.before (above made.node)) (sym is)
 
 pub key_there : (declared : List KeyText) (keys : List KeyValue) (made : MadeText) (act : ActText) → act_of made.step ≡ Some act → IfSome (key_of_made declared made) (λ key. is_there keys key ≡ true)

@@ -5,7 +5,7 @@ use Rattle.std.proofs.lemmas.Bool.{true≢false}
 use Rattle.std.proofs.lemmas.List.Elements.{All-contains}
 use Rattle.ext_tree.specs.Keys.{KeyValue}
 use Rattle.ext_plan.specs.Plans.{KeyText, PlanText, StepText}
-use Rattle.ext_plan.specs.StoreKeys.{key_of_step, place_of_key}
+use Rattle.ext_plan.specs.StoreKeys.{key_of_step, number_of_key}
 use Rattle.ext_plan.specs.ReadPlans.{ids_of_nodes}
 use Rattle.ext_plan.specs.StepWords.{changes, looks_along}
 use Rattle.ext_races.specs.Acts.{ActText, act_of}
@@ -16,11 +16,11 @@ use Rattle.ext_races.proofs.Within.{nodes_within}
 
 look_node : (node key : ℕ) (act : ActText) (found : Option ComputeText) (context : ℕ) → (look_at node key act found context).node ≡ node
 look_node node key act None context = refl
-look_node node key act (Some found) context = by_place (context == found.context)
+look_node node key act (Some found) context = by_context (context == found.context)
   where
-    by_place : (here : Bool) → (if here then record (touch_of node key act false context) { acts = found.word; text = found.text } else touch_of node key act false context).node ≡ node
-    by_place true = refl
-    by_place false = refl
+    by_context : (here : Bool) → (if here then record (touch_of node key act false context) { acts = found.word; text = found.text } else touch_of node key act false context).node ≡ node
+    by_context true = refl
+    by_context false = refl
 
 first_node : (node key : ℕ) (act : ActText) (found : Option ComputeText) (context : ℕ) → (touch_first node key act found context).node ≡ node
 first_node node key act found context = by_word (changes act.word)
@@ -44,7 +44,7 @@ node_of_act : (declared : List KeyText) (keys : List KeyValue) (node : ℕ) (pat
     → Contains (touches_of_act declared keys node path before above act) t → t.node ≡ node
 node_of_act declared keys node path before above None t h = contains_nothing t h
 node_of_act declared keys node path before above (Some act) t h =
-    node_along node (place_of_key keys (key_of_step declared act.key)) act (found_above declared before above act) (drop act.up (reach declared before path act)) t h
+    node_along node (number_of_key keys (key_of_step declared act.key)) act (found_above declared before above act) (drop act.up (reach declared before path act)) t h
 
 pub touch_within : (plan : PlanText) (t : TouchText) → Contains (touches_made plan) t → t.node < length plan.nodes
 touch_within plan t h =
@@ -61,11 +61,11 @@ ActsItself t = t.changes ≡ true → t.acts ≡ t.word
 
 look_itself : (node key : ℕ) (act : ActText) (found : Option ComputeText) (context : ℕ) → ActsItself (look_at node key act found context)
 look_itself node key act None context changing = absurd (true≢false (sym changing))
-look_itself node key act (Some found) context changing = by_place (context == found.context) changing
+look_itself node key act (Some found) context changing = by_context (context == found.context) changing
   where
-    by_place : (here : Bool) → ActsItself (if here then record (touch_of node key act false context) { acts = found.word; text = found.text } else touch_of node key act false context)
-    by_place true changing = absurd (true≢false (sym changing))
-    by_place false changing = absurd (true≢false (sym changing))
+    by_context : (here : Bool) → ActsItself (if here then record (touch_of node key act false context) { acts = found.word; text = found.text } else touch_of node key act false context)
+    by_context true changing = absurd (true≢false (sym changing))
+    by_context false changing = absurd (true≢false (sym changing))
 
 first_itself : (node key : ℕ) (act : ActText) (found : Option ComputeText) (context : ℕ) → ActsItself (touch_first node key act found context)
 first_itself node key act found context = by_word (changes act.word)
@@ -89,7 +89,7 @@ act_itself : (declared : List KeyText) (keys : List KeyValue) (node : ℕ) (path
     → Contains (touches_of_act declared keys node path before above act) t → ActsItself t
 act_itself declared keys node path before above None t h = contains_nothing t h
 act_itself declared keys node path before above (Some act) t h =
-    along_itself node (place_of_key keys (key_of_step declared act.key)) act (found_above declared before above act) (drop act.up (reach declared before path act)) t h
+    along_itself node (number_of_key keys (key_of_step declared act.key)) act (found_above declared before above act) (drop act.up (reach declared before path act)) t h
 
 pub acts_itself : (plan : PlanText) (t : TouchText) → Contains (touches_made plan) t → t.changes ≡ true → t.acts ≡ t.word
 acts_itself plan t h =

@@ -12,5 +12,5 @@ abbrev pub keys_of : List KeyText → List (Bor StepKey) → List KeyValue
 keys_of keys names = map (λ k. key_of_step keys (step_key_view k.now)) names
 
 -- The keys that these steps name.
-abbrev pub keys_told : List KeyText → List MadeText → List KeyValue
-keys_told declared steps = keys_of_steps declared [] steps
+abbrev pub keys_listed : List KeyText → List MadeText → List KeyValue
+keys_listed declared steps = keys_of_steps declared [] steps

@@ -3,7 +3,7 @@ use Rattle.std.specs.Prelude.{ℕ, ◌≡◌, ◌<◌, ◌≤◌, ◌&&◌, Bool
 use Rattle.std.specs.List.{list_any}
 use Rattle.ext_tree.specs.Keys.{KeyValue}
 use Rattle.ext_plan.specs.Plans.{KeyText, StepText}
-use Rattle.ext_plan.specs.StoreKeys.{is_there, place_of_key}
+use Rattle.ext_plan.specs.StoreKeys.{is_there, number_of_key}
 use Rattle.ext_plan.specs.StepWords.{gives_value}
 use Rattle.ext_races.specs.Acts.{ActText, act_of}
 use Rattle.ext_races.specs.Touches.{below_computes, computes_key}
@@ -23,11 +23,11 @@ abbrev pub noted : List ℕ → ℕ → ActText → List ℕ
 noted below key act = if gives_value act.word && nat_lt (min act.up 16) (below_at below key)
     then slice_set below key (min act.up 16) else below
 
--- So it is after these steps. It is also told whether one of them computes the key.
+-- So it is after these steps. It is also noted whether one of them computes the key.
 pub record Tells (declared : List KeyText) (directory : List KeyValue) (before : List StepText) (below : List ℕ)
     : Type 0 where
   pub count : length below ≡ length directory
   pub each : (key : KeyValue) (path : List ℕ) → is_there directory key ≡ true → length path ≤ 16
-      → take (below_at below (place_of_key directory key)) path ≡ below_computes declared key path before
-  pub own : (key : KeyValue) → is_there directory key ≡ true → is_computed below (place_of_key directory key)
+      → take (below_at below (number_of_key directory key)) path ≡ below_computes declared key path before
+  pub own : (key : KeyValue) → is_there directory key ≡ true → is_computed below (number_of_key directory key)
       ≡ list_any (λ step. computes_key declared key (act_of step)) before

@@ -8,7 +8,7 @@ use Rattle.ext_tree.specs.Keys.{KeyValue}
 use Rattle.ext_tree.specs.Trees.{Id, IsPathOf, children_of}
 use Rattle.ext_plan.specs.Plans.{KeyText, PlanText}
 use Rattle.ext_plan.specs.ReadPlans.{ids_of_nodes}
-use Rattle.ext_plan.specs.StoreKeys.{is_there, place_of_key}
+use Rattle.ext_plan.specs.StoreKeys.{is_there, number_of_key}
 use Rattle.ext_races.specs.declared.standing.Compute.{Compute}
 use Rattle.ext_races.specs.declared.standing.Standing.{Standing}
 use Rattle.ext_races.specs.Acts.{ActText, act_of}
@@ -43,29 +43,29 @@ abbrev pub stands : Standing → List ℕ → ℕ → Option ComputeText
 stands noted path key = if removed_at noted.removed.items key then None
     else computed_in (computes_view noted.computes.items) key (drop 1 path)
 
--- So it is told what was computed above each node for each key of the directory.
+-- So it is noted what was computed above each node for each key of the directory.
 pub record TellsAbove (ids : List Id) (directory : List KeyValue) (above : ℕ → KeyValue → Option ComputeText)
     (noted : Standing) : Type 0 where
   pub each : (node : ℕ) (path : List ℕ) (key : KeyValue) → node < length ids → IsPathOf ids node path
-      → is_there directory key ≡ true → stands noted path (place_of_key directory key) ≡ above node key
+      → is_there directory key ≡ true → stands noted path (number_of_key directory key) ≡ above node key
 
 -- ---- how it is noted
 
 -- The number of a key, if it has one.
 abbrev pub IsNumber : List KeyValue → KeyValue → Option ℕ → Type 0
 IsNumber directory key None = is_there directory key ≡ false
-IsNumber directory key (Some number) = (is_there directory key ≡ true) × (number ≡ place_of_key directory key)
+IsNumber directory key (Some number) = (is_there directory key ≡ true) × (number ≡ number_of_key directory key)
 
 module _ (declared : List KeyText) (directory : List KeyValue) where
   -- These have the first compute of each key in these acts of a node with this path.
   pub record AreFirst (path : List ℕ) (acts : List (Option ActText)) (computes : List Compute) : Type 0 where
     pub each : (key : KeyValue) → is_there directory key ≡ true
-        → compute_at computes (place_of_key directory key) ≡ first_compute declared key path acts
+        → compute_at computes (number_of_key directory key) ≡ first_compute declared key path acts
 
-  -- For each key it is told whether one of these steps removes it.
+  -- For each key it is noted whether one of these steps removes it.
   pub record AreRemoved (steps : List MadeText) (removed : List Bool) : Type 0 where
     pub count : length removed ≡ length directory
-    pub each : (key : KeyValue) → is_there directory key ≡ true → removed_at removed (place_of_key directory key)
+    pub each : (key : KeyValue) → is_there directory key ≡ true → removed_at removed (number_of_key directory key)
         ≡ list_any (λ made. removes_key declared key (act_of made.step)) steps
 
 -- So it is for each of the first so many nodes that has children.

@@ -3,13 +3,13 @@ pub mod Beside
 pub mod Clashes
 pub mod Found
 pub mod InnerGroups
+pub mod InnerListed
 pub mod InnerMade
 pub mod InnerNaming
 pub mod InnerPassing
 pub mod InnerProving
 pub mod InnerReach
 pub mod InnerStanding
-pub mod InnerTold
 pub mod MadeSteps
 pub mod OneReports
 pub mod Proving

@@ -58,7 +58,7 @@ proved_value (found.Races races names) = null
 proved_value (found.NoRaces proved) = string (proved_word proved)
 
 module _ (plan : PlanText) where
-  -- A member whose value is the id of the plan's node at this place.
+  -- A member whose value is the id of the plan's node at this index.
   abbrev pub id_member : List ℕ → ℕ → List Token
   id_member name node = text_member name (id_of_node plan node)
 
@@ -97,12 +97,12 @@ module _ (plan : PlanText) where
 
   -- The members that tell of races.
   abbrev pub race_members : Found → List Token
-  race_members told = key (codes "races") ∷ (races_value told ++ key (codes "more") ∷ more_value told ∷ [])
+  race_members answer = key (codes "races") ∷ (races_value answer ++ key (codes "more") ∷ more_value answer ∷ [])
 
   unfoldable pub found_object : Found → List Token
-  found_object told =
-      begin_object ∷ (race_members told ++ key (codes "proved") ∷ proved_value told ∷ key (codes "limit")
-      ∷ (limit_value told ++ end_object ∷ []))
+  found_object answer =
+      begin_object ∷ (race_members answer ++ key (codes "proved") ∷ proved_value answer ∷ key (codes "limit")
+      ∷ (limit_value answer ++ end_object ∷ []))
 
   abbrev pub found_json : Found → List ℕ
-  found_json told = print (found_object told) ++ codes "\n"
+  found_json answer = print (found_object answer) ++ codes "\n"

@@ -39,7 +39,7 @@ id_if None = []
 id_if (Some node) = id_text node.id
 
 module _ (plan : PlanText) where
-  -- The id of the plan's node at this place.
+  -- The id of the plan's node at this index.
   abbrev pub id_of_node : ℕ → List ℕ
   id_of_node node = id_if (slice_get plan.nodes node)
 

@@ -10,7 +10,7 @@ use Rattle.ext_tree.specs.Trees.{Id}
 use Rattle.ext_plan.specs.Plans.{KeyText, PlanText, StepText}
 use Rattle.ext_plan.specs.ReadPlans.{ids_of_nodes}
 use Rattle.ext_plan.specs.StepCalls.{start_of}
-use Rattle.ext_plan.specs.StoreKeys.{key_of_step, place_of_key, with_key}
+use Rattle.ext_plan.specs.StoreKeys.{key_of_step, number_of_key, with_key}
 use Rattle.ext_plan.specs.declared.word.Word.{Word}
 use Rattle.ext_plan.specs.declared.word.Word.TheVariants as words
 use Rattle.ext_plan.specs.StepWords.{changes, gives_value, has_text, looks_along, word_eq}
@@ -36,7 +36,7 @@ key_of_made declared made = key_of_act declared (act_of made.step)
 abbrev pub keys_of_steps : List KeyText → List KeyValue → List MadeText → List KeyValue
 keys_of_steps declared keys steps = fold (λ before made. with_key_of before (key_of_made declared made)) keys steps
 
--- The different keys that a plan's steps name, in the order in which they first do. A key's number is its place here.
+-- The different keys that a plan's steps name, in the order in which they first do. A key's number is its index here.
 abbrev pub keys_named : PlanText → List KeyValue
 keys_named plan = keys_of_steps plan.keys [] (steps_made plan)
 
@@ -71,7 +71,7 @@ touch_view t = record {
 }
 
 abbrev pub text_if : Bool → List ℕ → List ℕ
-text_if told text = if told then text else []
+text_if shown text = if shown then text else []
 
 -- How an act of a node touches a place.
 abbrev pub touch_of : ℕ → ℕ → ActText → Bool → ℕ → TouchText
@@ -201,7 +201,7 @@ abbrev pub touches_of_act : List KeyText → List KeyValue → ℕ → List ℕ 
     → Option ActText → List TouchText
 touches_of_act declared keys node path before above None = []
 touches_of_act declared keys node path before above (Some act) =
-    touches_along node (place_of_key keys (key_of_step declared act.key)) act (found_above declared before above act)
+    touches_along node (number_of_key keys (key_of_step declared act.key)) act (found_above declared before above act)
     (drop act.up (reach declared before path act))
 
 -- The touches of one step that a run may make, after what was computed above each node for each key.

@@ -7,11 +7,11 @@ ghost use Rattle.ext_races.specs.InnerGroups.{IsGrouped, groups_view};
 ghost use Rattle.ext_races.specs.Touches.{touches_made};
 
 use crate::groups::groups_of;
+use crate::listing::races_listed;
 use crate::made::steps_made;
 use crate::naming::{keys_named, numbers_drawn};
 use crate::proving::proved_of;
 use crate::standing::standing_of;
-use crate::telling::races_told;
 use crate::touch::Touch;
 use crate::{Found, Race};
 use ext_plan::{Plan, StepKey, StepKeys};
@@ -72,7 +72,7 @@ fn found_in<'p>(
     requires within { IsWithin (plan_view plan.now) names.items }
     ensures { IfOk result (IsFound (plan_view plan.now) most) }
 {
-    let races = races_told(alloc, plan, groups, most)?;
+    let races = races_listed(alloc, plan, groups, most)?;
     if !is_free(races.as_slice(), most) {
         return Ok(Found::Races { races, names });
     }

@@ -4,15 +4,15 @@ ghost use Rattle.std.specs.List.{flat_map, list_any};
 ghost use Rattle.ext_plan.specs.StepCalls.{keys_in};
 ghost use Rattle.ext_plan.specs.Plans.{StepText, step_key_view};
 ghost use Rattle.ext_plan.specs.StepWords.{changes};
-ghost use Rattle.ext_plan.specs.StoreKeys.{is_there, key_of_step, place_of_key};
+ghost use Rattle.ext_plan.specs.StoreKeys.{is_there, key_of_step, number_of_key};
 ghost use Rattle.ext_tree.specs.Keys.{KeyValue};
 ghost use Rattle.ext_races.specs.Acts.{act_view};
 ghost use Rattle.ext_races.specs.InnerGroups.{AreEmpty, HasGroups, IsAdded, IsGrouped, IsPushed, groups_view};
 ghost use Rattle.ext_races.specs.InnerMade.{left_by, made_behind, made_view, made_views};
-ghost use Rattle.ext_races.specs.InnerNaming.{keys_told};
+ghost use Rattle.ext_races.specs.InnerNaming.{keys_listed};
 ghost use Rattle.ext_races.specs.InnerReach.{AreWhole, Tells, is_computed};
 ghost use Rattle.ext_races.specs.InnerStanding.{TellsAbove, compute_view, stands};
-ghost use Rattle.ext_races.specs.InnerTold.{touch_eq};
+ghost use Rattle.ext_races.specs.InnerListed.{touch_eq};
 ghost use Rattle.ext_races.specs.Touches.{ComputeText, key_of_made, touch_view, touches_above, touches_along, touches_of};
 
 use crate::act::act_of;
@@ -40,7 +40,7 @@ pub(crate) fn groups_of<'p>(
     standing: &Standing<'p>,
     made: &[MadeStep<'p>],
 ) -> Result<Vec<Vec<Touch<'p>>>, AllocError>
-    requires keys { directory.now ≡ keys_told (keys_in keys.now) (map made_view made.now) }
+    requires keys { directory.now ≡ keys_listed (keys_in keys.now) (map made_view made.now) }
     requires nodes { All (λ m. m.node < length tree.now) made.now }
     ensures count { IfOk result (λ v. vec_len v ≡ length tree.now * (length directory.now + 1)) }
     ensures groups { IfOk result (λ v. (above : ℕ → KeyValue → Option ComputeText) → TellsAbove tree.now directory.now above standing.now → IsGrouped (length directory.now) (flat_map (touches_of tree.now (keys_in keys.now) directory.now above) (made_views [] made.now)) (groups_view v.items)) }
@@ -125,7 +125,7 @@ fn key_number(
     key: &StepKey,
 ) -> Result<KeyNo, AllocError>
     requires { is_there directory.now (key_of_step (keys_in keys.now) (step_key_view key.now)) ≡ true }
-    ensures number { IfOk result (λ n. n ≡ place_of_key directory.now (key_of_step (keys_in keys.now) (step_key_view key.now))) }
+    ensures number { IfOk result (λ n. n ≡ number_of_key directory.now (key_of_step (keys_in keys.now) (step_key_view key.now))) }
     ensures few { IfOk result (λ n. n < length directory.now) }
 {
     let called = store_key(alloc, keys, key)?;

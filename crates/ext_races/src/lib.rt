@@ -14,6 +14,7 @@ mod counting;
 mod finding;
 mod found;
 mod groups;
+mod listing;
 mod made;
 mod naming;
 mod passing;
@@ -23,7 +24,6 @@ mod race;
 mod race_json;
 mod reach;
 mod standing;
-mod telling;
 mod text;
 mod touch;
 

@@ -20,9 +20,9 @@ use std::alloc::{AllocError, Global};
 /// one have succeeded when it runs.
 #[derive(Clone, Copy, Debug)]
 pub(crate) struct MadeStep<'p> {
-    pub node: ContextNo,
-    pub step: &'p Step,
-    pub first: bool,
+    pub(crate) node: ContextNo,
+    pub(crate) step: &'p Step,
+    pub(crate) first: bool,
 }
 
 /// A plan, seen as the number of callbacks that each node registers.

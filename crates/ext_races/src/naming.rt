@@ -7,7 +7,7 @@ ghost use Rattle.ext_plan.specs.StepCalls.{keys_in};
 ghost use Rattle.ext_plan.specs.StoreKeys.{key_of_step, with_key};
 ghost use Rattle.ext_races.specs.Acts.{draws};
 ghost use Rattle.ext_races.specs.InnerMade.{made_view};
-ghost use Rattle.ext_races.specs.InnerNaming.{keys_of, keys_told};
+ghost use Rattle.ext_races.specs.InnerNaming.{keys_listed, keys_of};
 ghost use Rattle.ext_races.specs.Touches.{key_of_made, with_key_of};
 
 use crate::act::{act_of, draws};
@@ -27,10 +27,10 @@ pub(crate) fn keys_named<'p>(
     most: usize,
 ) -> Result<(Directory, Vec<&'p StepKey>), TreeFault>
     requires most { most ≤ 1024 }
-    ensures keys { IfOk result (λ named. named.0 ≡ keys_told (keys_in keys.now) (map made_view made.now)) }
+    ensures keys { IfOk result (λ named. named.0 ≡ keys_listed (keys_in keys.now) (map made_view made.now)) }
     ensures names { IfOk result (λ named. keys_of (keys_in keys.now) named.1.items ≡ named.0) }
     ensures few { IfOk result (λ named. length named.0 ≤ most) }
-    ensures full { result ≡ Err fault.TooMany → most < length (keys_told (keys_in keys.now) (map made_view made.now)) }
+    ensures full { result ≡ Err fault.TooMany → most < length (keys_listed (keys_in keys.now) (map made_view made.now)) }
 {
     let mut directory = Directory::new(alloc);
     let mut names = Vec::new(alloc);

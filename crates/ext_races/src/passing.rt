@@ -17,12 +17,12 @@ use std::alloc::{AllocError, Global};
 #[derive(Clone, Copy, Debug)]
 pub(crate) struct Passed<'p> {
     /// The child by which the first touch passes.
-    pub child: ContextNo,
-    pub touch: Touch<'p>,
+    pub(crate) child: ContextNo,
+    pub(crate) touch: Touch<'p>,
     /// Whether touches pass by other children.
-    pub several: bool,
+    pub(crate) several: bool,
     /// Whether touches pass that are not alike to the first.
-    pub differ: bool,
+    pub(crate) differ: bool,
 }
 
 impl<'p> Passed<'p> {

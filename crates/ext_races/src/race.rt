@@ -30,7 +30,7 @@ pub struct Race {
 }
 
 impl Side {
-    ghost use Rattle.ext_races.specs.InnerTold.{side_eq};
+    ghost use Rattle.ext_races.specs.InnerListed.{side_eq};
 
     fn is_same(&self, other: &Side) -> bool
         ensures { result ≡ side_eq self.now other.now }
@@ -40,7 +40,7 @@ impl Side {
 }
 
 impl Race {
-    ghost use Rattle.ext_races.specs.InnerTold.{race_eq};
+    ghost use Rattle.ext_races.specs.InnerListed.{race_eq};
 
     pub(crate) fn is_same(&self, other: &Race) -> bool
         ensures { result ≡ race_eq self.now other.now }

@@ -25,10 +25,10 @@ use std::alloc::{AllocError, Global};
 /// A compute: for which key, in which context, with which word and text.
 #[derive(Clone, Copy, Debug)]
 pub(crate) struct Compute<'p> {
-    pub key: KeyNo,
-    pub context: ContextNo,
-    pub word: Word,
-    pub text: &'p str,
+    pub(crate) key: KeyNo,
+    pub(crate) context: ContextNo,
+    pub(crate) word: Word,
+    pub(crate) text: &'p str,
 }
 
 /// What is noted of a plan.

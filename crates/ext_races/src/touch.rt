@@ -14,13 +14,13 @@ use ext_plan::{KeyedStep, Word};
 /// text is that of a factory or of a closeable value, if it decides whether the step races.
 #[derive(Clone, Copy, Debug)]
 pub(crate) struct Touch<'p> {
-    pub node: ContextNo,
-    pub context: ContextNo,
-    pub key: KeyNo,
-    pub word: Word,
-    pub changes: bool,
-    pub acts: Word,
-    pub text: &'p str,
+    pub(crate) node: ContextNo,
+    pub(crate) context: ContextNo,
+    pub(crate) key: KeyNo,
+    pub(crate) word: Word,
+    pub(crate) changes: bool,
+    pub(crate) acts: Word,
+    pub(crate) text: &'p str,
 }
 
 /// The touch by which an act of a node touches the place of this key in a context.
@@ -104,7 +104,7 @@ impl Touch<'_> {
     ghost use Rattle.ext_races.specs.Clashes.{agree, clashes, closes_differ, may_fail};
     ghost use Rattle.ext_races.specs.InnerPassing.{alike};
     ghost use Rattle.ext_races.specs.InnerProving.{computes_value, shares_value};
-    ghost use Rattle.ext_races.specs.InnerTold.{touch_eq};
+    ghost use Rattle.ext_races.specs.InnerListed.{touch_eq};
     ghost use Rattle.ext_races.specs.Races.{race_of, side_of};
 
     /// Tests whether the touches are equal.

@@ -42,14 +42,14 @@ module _ (plan : PlanText) (lanes : ℕ) (results : List NodeOutcome) (lacked : 
   one_is has true run = plain_is run
   one_is has false run =
       let on = run.0 in
-      on.told ∙ one_report plan lanes on.ran read has on.run (tells_lacks plan lanes on.ran read on.run (ap may_have_lacked (sym on.told) ∙ spared run))
+      on.texts ∙ one_report plan lanes on.ran read has on.run (tells_lacks plan lanes on.ran read on.run (ap may_have_lacked (sym on.texts) ∙ spared run))
 
   near_is : HasNearReport plan → (plain : Bool) → IsRunBy plain lanes plan results lacked → AreNearReports (shares_in plan) results (plain_run plan)
   near_is has true run = subst (AreNearReports (shares_in plan) results) (plain_is run) (near_itself (shares_in plan) results)
   near_is has false run =
       let on = run.0 in
-      subst (λ here. AreNearReports (shares_in plan) here (plain_run plan)) (sym on.told)
-      (near_report plan lanes on.ran read has on.run (tells_lacks plan lanes on.ran read on.run (ap may_have_lacked (sym on.told) ∙ spared run)))
+      subst (λ here. AreNearReports (shares_in plan) here (plain_run plan)) (sym on.texts)
+      (near_report plan lanes on.ran read has on.run (tells_lacks plan lanes on.ran read on.run (ap may_have_lacked (sym on.texts) ∙ spared run)))
 
 -- ---- forms that tell the sums alone
 

@@ -38,8 +38,8 @@ refused_with : (fault : PlanFault) (read : Result PlanText PlanFault) → Fails 
 refused_with plan.Memory read h = tt
 refused_with plan.NotUtf8 read h = rw h refl
 refused_with plan.NotToml read h = rw h refl
-refused_with (plan.UnknownField place) read h = rw h refl
-refused_with (plan.BadField place) read h = rw h refl
+refused_with (plan.UnknownField part) read h = rw h refl
+refused_with (plan.BadField part) read h = rw h refl
 refused_with (plan.BadLabel key) read h = rw h refl
 refused_with (plan.BadId node) read h = rw h refl
 refused_with plan.BadTree read h = rw h refl
@@ -123,6 +123,6 @@ pub reported : (Gives : RunReport → Type 0) (report wrote : List ℕ) (failed 
 reported Gives report wrote failed lacked Written given is done = (report, given, subst Written is done)
 
 -- the write of it failed
-pub unwritten : {A : Type 0} (options : Options) (text : PlanText) (r : Result A RunFault) (told : RunFault) → IsErrAnd r (λ e. e ≡ told) → told ≡ faults.Write → IfErr r (λ fault. RefusedAs options fault (Ok text))
-unwritten options text (Ok x) told errs is = tt
-unwritten options text (Err e) told errs is = subst (λ fault. RefusedAs options fault (Ok text)) (sym (errs ∙ is)) refl
+pub unwritten : {A : Type 0} (options : Options) (text : PlanText) (r : Result A RunFault) (given : RunFault) → IsErrAnd r (λ e. e ≡ given) → given ≡ faults.Write → IfErr r (λ fault. RefusedAs options fault (Ok text))
+unwritten options text (Ok x) given errs is = tt
+unwritten options text (Err e) given errs is = subst (λ fault. RefusedAs options fault (Ok text)) (sym (errs ∙ is)) refl

@@ -52,16 +52,16 @@ is_free (found.NoRaces proved) = true
 
 -- What was found, in this form.
 abbrev pub races_as : ListForm → PlanText → Found → List ℕ
-races_as forms.Lines plan told = found_text plan told
-races_as forms.Json plan told = found_json plan told
+races_as forms.Lines plan answer = found_text plan answer
+races_as forms.Json plan answer = found_json plan answer
 
 -- What is written of a plan's races, or of what is proved of a plan without any; and whether there is one or a limit
 -- was passed.
 pub record TellsRaces (form : ListForm) (plan : PlanText) (text : List ℕ) (failed : Bool) : Type 0 where
-  pub told : Found
-  pub races : IsFound plan race_limit told
-  pub text_is : text ≡ races_as form plan told
-  pub failed_is : failed ≡ not (is_free told)
+  pub answer : Found
+  pub races : IsFound plan race_limit answer
+  pub text_is : text ≡ races_as form plan answer
+  pub failed_is : failed ≡ not (is_free answer)
 
 -- The same of what was read. A refused plan has no races.
 abbrev pub IsRacesOf : ListForm → Result PlanText RunFault → List ℕ → Bool → Type 0

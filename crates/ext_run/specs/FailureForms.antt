@@ -4,7 +4,7 @@ use Rattle.std.specs.Prelude.{Bool, codes, List, [], ◌++◌, ℕ, if◌then◌
 use Rattle.ext_plan_reading.specs.Plans.{PlanText}
 use Rattle.ext_plan_reading.specs.ReadPlans.{ids_of_nodes}
 use Rattle.ext_tree.specs.Trees.{Id}
-use Rattle.ext_run.specs.declared.failures.ToldFaults.{ToldFaults}
+use Rattle.ext_run.specs.declared.failures.ReportedFaults.{ReportedFaults}
 use Rattle.ext_run.specs.declared.list_form.ListForm.{ListForm}
 use Rattle.ext_run.specs.declared.list_form.ListForm.TheVariants as forms
 use Rattle.ext_run.specs.FailureJson.{failure_json}
@@ -23,7 +23,7 @@ lost_line forms.Json = codes "{\"lost\":true}"
 abbrev pub lost_as : ListForm → Bool → List ℕ
 lost_as form are_lost = if are_lost then lost_line form ++ codes "\n" else []
 
-abbrev pub told_as : ListForm → ToldFaults → PlanText → List ℕ
-told_as form told plan =
-    failures_of (line_in form (ids_of_nodes plan.nodes)) (ids_of_nodes plan.nodes) told.faults.items
-    ++ lost_as form told.lost
+abbrev pub reported_as : ListForm → ReportedFaults → PlanText → List ℕ
+reported_as form reported plan =
+    failures_of (line_in form (ids_of_nodes plan.nodes)) (ids_of_nodes plan.nodes) reported.faults.items
+    ++ lost_as form reported.lost

@@ -10,7 +10,7 @@ use Rattle.ext_lifecycle.specs.declared.fault_origin.FaultOrigin.{FaultOrigin}
 use Rattle.ext_lifecycle.specs.declared.fault_origin.FaultOrigin.TheVariants as origins
 use Rattle.ext_tree.specs.Trees.{Id, id_at}
 use Rattle.ext_run.specs.declared.failures.NodeFault.{NodeFault}
-use Rattle.ext_run.specs.declared.failures.ToldFaults.{ToldFaults}
+use Rattle.ext_run.specs.declared.failures.ReportedFaults.{ReportedFaults}
 
 -- ---- what is kept
 
@@ -20,7 +20,7 @@ IsAdded old new node origin text = (fault : NodeFault) × (new ≡ old ++ fault 
     × (fault.origin ≡ origin) × (string_bytes fault.text ≡ text)
 
 -- The fault is appended to the others, or it is lost, and that is noted.
-pub data NotesFault (old new : ToldFaults) (node : ℕ) (origin : FaultOrigin) (text : List ℕ) : Type 0 where
+pub data NotesFault (old new : ReportedFaults) (node : ℕ) (origin : FaultOrigin) (text : List ℕ) : Type 0 where
   added : IsAdded old.faults.items new.faults.items node origin text → new.lost ≡ old.lost
       → NotesFault old new node origin text
   lost : new.faults.items ≡ old.faults.items → new.lost ≡ true → NotesFault old new node origin text

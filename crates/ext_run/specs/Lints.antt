@@ -4,7 +4,7 @@ use Rattle.ext_lint.specs.NoteLines.{has_notes, lint_text}
 use Rattle.ext_plan_reading.specs.Plans.{PlanText}
 use Rattle.ext_run.specs.declared.fault.RunFault.{RunFault}
 
--- The text is that of the plan's notes, and it is told whether there is one.
+-- The text is that of the plan's notes, and `failed` is whether there is one.
 pub record TellsNotes (plan : PlanText) (text : List ℕ) (failed : Bool) : Type 0 where
   pub text_is : text ≡ lint_text plan
   pub failed_is : failed ≡ has_notes plan

@@ -51,7 +51,7 @@ plan_of_input size input = if nat_lt (input_limit size) (length input) then Err 
 pub record RunsOnLanes (plan : PlanText) (lanes : ℕ) (results : List NodeOutcome) : Type 0 where
   pub ran : List (ResultOf Fault)
   pub run : ParallelRun plan lanes ran
-  pub told : results ≡ map (with_fault_told fault_text) ran
+  pub texts : results ≡ map (with_fault_told fault_text) ran
 
 -- The results of the nodes, and whether a step may have lacked something. A plain run can only lack memory. A run on
 -- several lanes may lack anything, as the results show.

@@ -10,7 +10,7 @@ use Rattle.ext_ids.specs.Grammar.{Pair, IsId}
 use Rattle.ext_ids.specs.Making.{parts_fault}
 use Rattle.ext_parallel.specs.EngineFault.{EngineFault}
 use Rattle.ext_parallel.specs.EngineFault.TheVariants as engine
-use Rattle.ext_plan_reading.specs.FaultPlaces.{line_of as plan_line}
+use Rattle.ext_plan_reading.specs.FaultParts.{line_of as plan_line}
 use Rattle.ext_run.specs.declared.fault.RunFault.{RunFault}
 use Rattle.ext_run.specs.declared.fault.RunFault.TheVariants as runs
 use Rattle.ext_run.specs.declared.options.Summary.{Summary}

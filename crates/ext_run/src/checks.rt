@@ -100,7 +100,7 @@ fn races_of(
     size: Size,
     form: ListForm,
 ) -> Result<(Vec<u8>, bool), RunFault>
-    ensures told { IfOk result (λ told. IsRacesOf form (plan_of_bytes size input.now) told.0.items told.1) }
+    ensures races { IfOk result (λ found. IsRacesOf form (plan_of_bytes size input.now) found.0.items found.1) }
     ensures refused { IfErr result (λ fault. RefusedUnrun fault (plan_of_bytes size input.now)) }
     ensures unwritten { IfErr result (λ fault. fault ≢ RunFault.Write) }
 {
@@ -114,7 +114,7 @@ fn races_of(
 /// The text of a plan's races, and whether there is one or a limit is exceeded.
 fn races_in(alloc: Global, plan: &Plan, form: ListForm) -> Result<(Vec<u8>, bool), AllocError>
     requires { IsRunnablePlan (plan_view plan.now) }
-    ensures { IfOk result (λ told. TellsRaces form (plan_view plan.now) told.0.items told.1) }
+    ensures { IfOk result (λ found. TellsRaces form (plan_view plan.now) found.0.items found.1) }
 {
     let found = races(alloc, plan, RACES)?;
     Ok((races_as(alloc, form, plan, &found)?, !is_free(&found)))

@@ -65,17 +65,17 @@ fn drawing_in(alloc: Global, nodes: &[PlanNode], order: &[usize]) -> Result<Stri
     ensures { IfOk result (λ text. string_bytes text ≡ flat_map (λ context. node_line (slice_get (nodes_view nodes.now) context)) order.now) }
 {
     let mut text = String::new(alloc);
-    for place in order {
-        write_line_at(&mut text, nodes, *place)?;
+    for index in order {
+        write_line_at(&mut text, nodes, *index)?;
     }
     Ok(text)
 }
 
 /// Writes the line of the node with this index at the end of a text, if there is one.
-fn write_line_at(text: &mut String, nodes: &[PlanNode], place: usize) -> Result<(), AllocError>
-    ensures { OnOk result (string_bytes text.new ≡ string_bytes text.old ++ node_line (slice_get (nodes_view nodes.now) place)) }
+fn write_line_at(text: &mut String, nodes: &[PlanNode], index: usize) -> Result<(), AllocError>
+    ensures { OnOk result (string_bytes text.new ≡ string_bytes text.old ++ node_line (slice_get (nodes_view nodes.now) index)) }
 {
-    match nodes.get(place) {
+    match nodes.get(index) {
         None => Ok(()),
         Some(node) => write_line(text, node),
     }

@@ -3,7 +3,7 @@ ghost use Rattle.std.specs.Prelude.{◌≡◌, ◌++◌, [], false, string_bytes
 ghost use Rattle.ext_lifecycle.specs.FaultTexts.{fault_text};
 ghost use Rattle.ext_plan_reading.specs.Plans.{plan_view};
 ghost use Rattle.ext_report.specs.Groups.{shown};
-ghost use Rattle.ext_run.specs.FailureForms.{line_in, lost_as, lost_line, told_as};
+ghost use Rattle.ext_run.specs.FailureForms.{line_in, lost_as, lost_line, reported_as};
 ghost use Rattle.ext_run.specs.Failures.{IsAdded, NotesFault, call_text, callback_of, failure_line, failures_of, origin_text};
 ghost use Rattle.ext_run.specs.InnerFailures.{lines_of, nodes_of};
 ghost use Rattle.ext_tree.specs.Trees.{id_at};
@@ -33,20 +33,20 @@ pub struct NodeFault {
 
 /// The faults that were reported so far, in that order.
 #[derive(Debug, Drop)]
-pub struct ToldFaults {
+pub struct ReportedFaults {
     /// The faults for which there was memory.
     pub faults: Vec<NodeFault>,
     /// Whether a fault was lost for want of memory.
     pub lost: bool,
 }
 
-impl ToldFaults {
+impl ReportedFaults {
     /// Makes an empty list of faults, with none lost.
-    pub fn new(alloc: Global) -> ToldFaults
+    pub fn new(alloc: Global) -> ReportedFaults
         ensures none { result.faults.items ≡ [] }
         ensures lost { result.lost ≡ false }
     {
-        ToldFaults {
+        ReportedFaults {
             faults: Vec::new(alloc),
             lost: false,
         }
@@ -98,7 +98,7 @@ pub struct Failures<'a, R, L> {
     rt: &'a R,
     alloc: Global,
     listener: &'a L,
-    told: Mutex<ToldFaults>,
+    reported: Mutex<ReportedFaults>,
 }
 
 impl<'a, R: Wait, L: RunListener> Failures<'a, R, L> {
@@ -108,13 +108,13 @@ impl<'a, R: Wait, L: RunListener> Failures<'a, R, L> {
             rt,
             alloc,
             listener,
-            told: Mutex::new(ToldFaults::new(alloc)),
+            reported: Mutex::new(ReportedFaults::new(alloc)),
         }
     }
 
     /// Returns the faults that were reported to it.
-    pub fn into_told(self) -> ToldFaults {
-        self.told.into_inner()
+    pub fn into_reported(self) -> ReportedFaults {
+        self.reported.into_inner()
     }
 }
 
@@ -125,7 +125,7 @@ impl<R: Wait, L: RunListener> RunListener for Failures<'_, R, L> {
 
     /// Keeps the fault and forwards it. It may wait for other threads that add one.
     fn faulted(&self, node: ContextNo, origin: FaultOrigin, fault: &Fault) {
-        self.told
+        self.reported
             .lock(self.rt)
             .note(self.alloc, node, origin, fault);
         self.listener.faulted(node, origin, fault);
@@ -152,13 +152,13 @@ impl<R: Wait, L: RunListener> RunListener for Failures<'_, R, L> {
 pub fn failures_text(
     alloc: Global,
     plan: &Plan,
-    told: &ToldFaults,
+    reported: &ReportedFaults,
     form: ListForm,
 ) -> Result<String, AllocError>
-    ensures { IfOk result (λ text. string_bytes text ≡ told_as form told.now (plan_view plan.now)) }
+    ensures { IfOk result (λ text. string_bytes text ≡ reported_as form reported.now (plan_view plan.now)) }
 {
-    let mut text = failures_of_tree(alloc, plan.tree(), told.faults.as_slice(), form)?;
-    write_lost(&mut text, told.lost, form)?;
+    let mut text = failures_of_tree(alloc, plan.tree(), reported.faults.as_slice(), form)?;
+    write_lost(&mut text, reported.lost, form)?;
     Ok(text)
 }
 

@@ -40,12 +40,12 @@ pub use ext_model::Size;
 pub use ext_parallel::EngineFault;
 pub use ext_plain::plain_run_laws;
 pub use ext_plan_reading::{
-    LabelNo, Place, Plan, PlanFault, PlanKey, PlanLock, PlanNode, Step, explain, explain_id,
+    LabelNo, Plan, PlanFault, PlanKey, PlanLock, PlanNode, PlanPart, Step, explain, explain_id,
     read_plan_within,
 };
 pub use ext_report::ReportForm;
 pub use ext_tree::Tree;
-pub use failures::{Failures, NodeFault, ToldFaults, failures_text, lost_line};
+pub use failures::{Failures, NodeFault, ReportedFaults, failures_text, lost_line};
 pub use fault::RunFault;
 pub use id_lines::{id_text, make_id, read_id};
 pub use input::{input_limit, read_input};

@@ -55,7 +55,7 @@ pub fn check_lint<I: Read, W: Write>(
 
 /// The text of the notes of the plan in these bytes, and whether there is one.
 fn notes_of(alloc: Global, input: &[u8], size: Size) -> Result<(String, bool), RunFault>
-    ensures told { IfOk result (λ told. IsNotesOf (plan_of_bytes size input.now) (string_bytes told.0) told.1) }
+    ensures notes { IfOk result (λ notes. IsNotesOf (plan_of_bytes size input.now) (string_bytes notes.0) notes.1) }
     ensures refused { IfErr result (λ fault. RefusedUnrun fault (plan_of_bytes size input.now)) }
     ensures unwritten { IfErr result (λ fault. fault ≢ RunFault.Write) }
 {
@@ -69,8 +69,8 @@ fn notes_of(alloc: Global, input: &[u8], size: Size) -> Result<(String, bool), R
 /// The text of a plan's notes, and whether there is one.
 fn notes_in(alloc: Global, plan: &Plan) -> Result<(String, bool), AllocError>
     requires { IsRunnablePlan (plan_view plan.now) }
-    ensures { IfOk result (λ told. TellsNotes (plan_view plan.now) (string_bytes told.0) told.1) }
+    ensures { IfOk result (λ notes. TellsNotes (plan_view plan.now) (string_bytes notes.0) notes.1) }
 {
-    let told = lint(alloc, plan)?;
-    Ok((told.text, told.found))
+    let notes = lint(alloc, plan)?;
+    Ok((notes.text, notes.found))
 }

@@ -35,8 +35,8 @@ pub(crate) fn results_of<R: Threads + Wait + Sync, L: RunListener + Sync>(
 ) -> Result<PlanResults, RunFault>
     requires lanes { options.plain ≡ false → (1 ≤ options.lanes) × (options.lanes ≤ 16) }
     requires runnable { IsRunnablePlan (plan_view plan.now) }
-    ensures run { IfOk result (λ told. IsRunAs options (plan_view plan.now) (results_view told.results.items) told.lacked) }
-    ensures in_tree { IfOk result (λ told. All (λ r. r.node < length plan.now.nodes.items) told.results.items) }
+    ensures run { IfOk result (λ ran. IsRunAs options (plan_view plan.now) (results_view ran.results.items) ran.lacked) }
+    ensures in_tree { IfOk result (λ ran. All (λ r. r.node < length plan.now.nodes.items) ran.results.items) }
     ensures fault { IfErr result (IsPlanFault options (plan_view plan.now)) }
 {
     if options.plain {
@@ -58,8 +58,8 @@ fn plain_results<L: RunListener>(
     listener: &L,
 ) -> Result<PlanResults, AllocError>
     requires { IsRunnablePlan (plan_view plan.now) }
-    ensures run { IfOk result (λ told. ArePlain (plan_view plan.now) (results_view told.results.items) told.lacked) }
-    ensures in_tree { IfOk result (λ told. All (λ r. r.node < length plan.now.nodes.items) told.results.items) }
+    ensures run { IfOk result (λ ran. ArePlain (plan_view plan.now) (results_view ran.results.items) ran.lacked) }
+    ensures in_tree { IfOk result (λ ran. All (λ r. r.node < length plan.now.nodes.items) ran.results.items) }
 {
     let run = run_plain(alloc, plan, listener)?;
     Ok(PlanResults {

@@ -168,14 +168,14 @@ fn output_of<R: Threads + Wait + Sync, L: RunListener + Sync>(
     ensures one { IfOk result (λ o. ReportsOne options (Ok (plan_view plan.now)) (output_view o)) }
     ensures fault { IfErr result (IsPlanFault options (plan_view plan.now)) }
 {
-    let told = match results_of(rt, alloc, plan, options, listener) {
-        Ok(told) => told,
+    let ran = match results_of(rt, alloc, plan, options, listener) {
+        Ok(ran) => ran,
         Err(fault) => return Err(fault),
     };
-    let report = report_in(alloc, options.form, plan.tree(), told.results.as_slice())?;
+    let report = report_in(alloc, options.form, plan.tree(), ran.results.as_slice())?;
     Ok(Output {
         report,
-        failed: any_failed(told.results.as_slice()),
-        lacked: told.lacked,
+        failed: any_failed(ran.results.as_slice()),
+        lacked: ran.lacked,
     })
 }

@@ -21,7 +21,7 @@ none-left text (b ∷ rest) whole none before = absurd (omega (arith, none))
 no_memory-ascii : IsAscii (codes "no memory")
 no_memory-ascii = IsAscii-cons 110 (111 ∷ 32 ∷ 109 ∷ 101 ∷ 109 ∷ 111 ∷ 114 ∷ 121 ∷ []) (omega arith) (IsAscii-cons 111 (32 ∷ 109 ∷ 101 ∷ 109 ∷ 111 ∷ 114 ∷ 121 ∷ []) (omega arith) (IsAscii-cons 32 (109 ∷ 101 ∷ 109 ∷ 111 ∷ 114 ∷ 121 ∷ []) (omega arith) (IsAscii-cons 109 (101 ∷ 109 ∷ 111 ∷ 114 ∷ 121 ∷ []) (omega arith) (IsAscii-cons 101 (109 ∷ 111 ∷ 114 ∷ 121 ∷ []) (omega arith) (IsAscii-cons 109 (111 ∷ 114 ∷ 121 ∷ []) (omega arith) (IsAscii-cons 111 (114 ∷ 121 ∷ []) (omega arith) (IsAscii-cons 114 (121 ∷ []) (omega arith) (IsAscii-cons 121 [] (omega arith) IsAscii-nil))))))))
 
--- a lack of memory is told on one line
+-- a lack of memory is written on one line
 pub no_memory_stays : indented (codes "no memory") ≡ codes "no memory"
 unfolding lib.Utf8.encode
 no_memory_stays = ap (flat_map indented_character) (chars-IsAscii (codes "no memory") no_memory-ascii)

@@ -1,6 +1,6 @@
 -- Lemmas of this crate.
-pub mod Places
+pub mod Indices
 pub mod Indenting
 pub mod EarlierLines
 pub mod Nodes
-pub mod Told
+pub mod Reported

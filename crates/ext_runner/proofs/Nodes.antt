@@ -9,10 +9,10 @@ use Rattle.ext_lifecycle.specs.declared.node_result.NodeResult.{NodeResult}
 abbrev node_of : NodeResult → ℕ
 node_of r = r.node
 
-pub nodes_within : (count : ℕ) (results told : List NodeResult) → map (λ (r : NodeResult). r.node) told ≡ map (λ (r : NodeResult). r.node) results → All (λ (r : NodeResult). r.node < count) results → All (λ (r : NodeResult). r.node < count) told
-nodes_within count results told same within k d short =
+pub nodes_within : (count : ℕ) (results reported : List NodeResult) → map (λ (r : NodeResult). r.node) reported ≡ map (λ (r : NodeResult). r.node) results → All (λ (r : NodeResult). r.node < count) results → All (λ (r : NodeResult). r.node < count) reported
+nodes_within count results reported same within k d short =
     let all = subst (All (λ (n : ℕ). n < count)) (sym same) (All-map (λ (n : ℕ). n < count) node_of results within) in
-    let long = length-map told node_of in
+    let long = length-map reported node_of in
     let below = all k (node_of d) (omega (arith, long, short)) in
-    let is = get_or-map node_of told k d in
+    let is = get_or-map node_of reported k d in
     omega (arith, below, is)

@@ -1,4 +1,4 @@
--- What is told of a run, and how the program ends. `ext_report` has the forms of a report.
+-- What is reported of a run, and how the program ends. `ext_report` has the forms of a report.
 use Rattle.std.specs.Prelude.{ℕ, ◌/◌, ◌^◌, ◌==◌, ◌&&◌, nat_lt, Bool, true, false, codes, encode_utf8, List, ◌++◌, Option, Some, None, if◌then◌else◌, slice_get}
 use Rattle.std.specs.List.{flat_map}
 use Rattle.std.specs.Str.{chars}
@@ -15,7 +15,7 @@ use Rattle.ext_runner.specs.declared.node_log.NodeLog.{NodeLog}
 use Rattle.ext_runner.specs.declared.ending.Ending.{Ending}
 use Rattle.ext_runner.specs.declared.ending.Ending.TheVariants.{Failed, NothingSelected, NotRun, Passed, WrongWords}
 
--- ---- which results are told
+-- ---- which results are reported
 
 -- Whether a node came: one in reserve may not.
 abbrev pub comes : Option LeftOut → Bool
@@ -27,11 +27,11 @@ abbrev pub has_come : Option NodeLog → Bool
 has_come None = false
 has_come (Some log) = comes log.left_out
 
--- Whether a result is told in a tree of so many nodes, by what is known of each.
-abbrev pub is_told : ℕ → List NodeLog → NodeResult → Bool
-is_told count logs r = nat_lt r.node count && has_come (slice_get logs r.node)
+-- Whether a result is reported in a tree of so many nodes, by what is known of each.
+abbrev pub is_reported : ℕ → List NodeLog → NodeResult → Bool
+is_reported count logs r = nat_lt r.node count && has_come (slice_get logs r.node)
 
--- What is told of a node beside its fault: how it ended, and what it counted.
+-- What is reported of a node beside its fault: how it ended, and what it counted.
 abbrev pub without_faults : NodeResult → NodeResult
 without_faults r = record r { fault = None; more = 0 }
 
@@ -40,7 +40,7 @@ abbrev pub whole_millis : Option Duration → Option ℕ
 whole_millis None = None
 whole_millis (Some took) = if nat_lt (as_nanos took / 1_000_000) (2 ^ 64) then Some (as_nanos took / 1_000_000) else None
 
--- What is told of a node beside its result.
+-- What is reported of a node beside its result.
 abbrev pub extra_of : NodeLog → Extra
 extra_of log = record { millis = whole_millis log.took; attempt = log.attempt }
 

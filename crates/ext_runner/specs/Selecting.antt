@@ -14,21 +14,21 @@ use Rattle.ext_table.specs.declared.row.Row.{Row}
 abbrev pub node_of : {T : Type 0} → Row T → Node
 node_of row = record { is_test = is_some row.test; is_in_turn = not (is_concurrent row.mode); above = row.above }
 
--- These are the chosen places, in their own order or in that of a seed.
+-- These are the chosen indices, in their own order or in that of a seed.
 abbrev pub AreOrdered : Option ℕ → List Id → List Node → List ℕ → List ℕ → Type 0
-AreOrdered None ids nodes chosen places = places ≡ chosen
-AreOrdered (Some seed) ids nodes chosen places = IsPermutation chosen places × IsOrder nodes (drawn_at seed ids) places
+AreOrdered None ids nodes chosen indices = indices ≡ chosen
+AreOrdered (Some seed) ids nodes chosen indices = IsPermutation chosen indices × IsOrder nodes (drawn_at seed ids) indices
 
--- The places of the selected nodes, in their order.
-pub record IsInOrder (selection : Selection) (seed : Option ℕ) (ids : List Id) (nodes : List Node) (places : List ℕ)
+-- The indices of the selected nodes, in their order.
+pub record IsInOrder (selection : Selection) (seed : Option ℕ) (ids : List Id) (nodes : List Node) (indices : List ℕ)
     : Type 0 where
   pub chosen : List ℕ
   pub are_chosen : AreChosen nodes (wanted_of selection ids) chosen
-  pub order : AreOrdered seed ids nodes chosen places
+  pub order : AreOrdered seed ids nodes chosen indices
 
--- The table has the rows at these places, and no others.
+-- The table has the rows at these indices, and no others.
 pub record IsSelected {T : Type 0} (selection : Selection) (seed : Option ℕ) (ids : List Id) (rows : List (Row T))
     (new_ids : List Id) (new_rows : List (Row T)) : Type 0 where
-  pub places : List ℕ
-  pub in_order : IsInOrder selection seed ids (map node_of rows) places
-  pub arranged : IsArranged ids rows places new_ids new_rows
+  pub indices : List ℕ
+  pub in_order : IsInOrder selection seed ids (map node_of rows) indices
+  pub arranged : IsArranged ids rows indices new_ids new_rows

@@ -5,7 +5,7 @@ use std::time::{Duration, Instant};
 
 /// A fault of a node, and where in the node it came.
 #[derive(Drop)]
-pub(crate) struct ToldFault {
+pub(crate) struct ReportedFault {
     pub(crate) origin: FaultOrigin,
     pub(crate) text: String,
 }
@@ -29,14 +29,14 @@ pub(crate) struct NodeLog {
     /// The attempt that ran last, from 1.
     pub(crate) attempt: u32,
     /// Its faults, in the order in which they came.
-    pub(crate) faults: Vec<ToldFault>,
+    pub(crate) faults: Vec<ReportedFault>,
     /// The faults of attempts before the last.
     pub(crate) earlier: Vec<String>,
     /// How it ended, if it did.
     pub(crate) status: Option<Status>,
     pub(crate) left_out: Option<LeftOut>,
-    /// Whether it was told as slow.
-    pub(crate) is_told_slow: bool,
+    /// Whether it was reported as slow.
+    pub(crate) is_reported_slow: bool,
 }
 
 impl NodeLog {
@@ -55,7 +55,7 @@ impl NodeLog {
             earlier: Vec::new(alloc),
             status: None,
             left_out: None,
-            is_told_slow: false,
+            is_reported_slow: false,
         }
     }
 

@@ -1,7 +1,7 @@
 //! The program of an engine.
 use crate::command::{Asked, Options, read_words};
 use crate::ending::Ending;
-use crate::results::told_results;
+use crate::results::reported_results;
 use crate::run_log::{Listed, RunLog, Watching};
 use crate::selecting::selected_by;
 use crate::telling::{is_colored, tell};
@@ -166,11 +166,11 @@ where
     let (listed, state) = log.into_parts();
     let TableRun { store, results } = run;
     let tree = store.tree();
-    let told = told_results(rt.alloc(), tree, results, listed.as_slice(), &state)?;
+    let reported = reported_results(rt.alloc(), tree, results, listed.as_slice(), &state)?;
     tell(
         rt,
         tree,
-        &told,
+        &reported,
         listed.as_slice(),
         &state,
         took,

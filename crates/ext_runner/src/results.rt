@@ -1,9 +1,9 @@
-//! The results of a run as they are told: with all that failed, and without what did not come.
+//! The results of a run as they are reported: with all that failed, and without what did not come.
 ghost use Rattle.std.specs.Prelude.{◌≡◌, ◌<◌, ◌++◌, All, IfOk, OnOk, filter, length, map, option_map, string_bytes};
 ghost use Rattle.ext_lifecycle.specs.FaultTexts.{fault_text, result_view, results_view};
-ghost use Rattle.ext_runner.specs.InnerTelling.{extra_of, has_come, indented, indented_character, is_told, whole_millis, with_indented_fault, without_faults};
+ghost use Rattle.ext_runner.specs.InnerTelling.{extra_of, has_come, indented, indented_character, is_reported, whole_millis, with_indented_fault, without_faults};
 
-use crate::node_log::{NodeLog, ToldFault};
+use crate::node_log::{NodeLog, ReportedFault};
 use crate::run_log::{Listed, State};
 use ext_report::{Extra, NodeResult};
 use ext_table::{ContextNo, Fault, FaultOrigin, Kind, LeftOut};
@@ -11,34 +11,34 @@ use ext_tree::Tree;
 use std::alloc::{AllocError, Global};
 use std::time::Duration;
 
-/// The results as they are told, and what is known beside them.
+/// The results as they are reported, and what is known beside them.
 #[derive(Drop)]
-pub(crate) struct ToldResults {
+pub(crate) struct ReportedResults {
     pub(crate) results: Vec<NodeResult>,
     pub(crate) extras: Vec<Extra>,
 }
 
-/// What is told of these results. The fault of a node has all its faults, on lines of their own.
+/// What is reported of these results. The fault of a node has all its faults, on lines of their own.
 /// Nodes in reserve that did not come are left out.
-pub(crate) fn told_results(
+pub(crate) fn reported_results(
     alloc: Global,
     tree: &Tree,
     results: Vec<NodeResult>,
     listed: &[Listed],
     state: &State,
-) -> Result<ToldResults, AllocError>
-    ensures within { IfOk result (λ told. All (λ r. r.node < length tree.now) told.results.items) }
-    ensures same { IfOk result (λ told. map without_faults told.results.items ≡ map without_faults (filter (is_told (length tree.now) state.now.nodes.items) results.items)) }
-    ensures extras { IfOk result (λ told. told.extras.items ≡ map extra_of state.now.nodes.items) }
+) -> Result<ReportedResults, AllocError>
+    ensures within { IfOk result (λ reported. All (λ r. r.node < length tree.now) reported.results.items) }
+    ensures same { IfOk result (λ reported. map without_faults reported.results.items ≡ map without_faults (filter (is_reported (length tree.now) state.now.nodes.items) results.items)) }
+    ensures extras { IfOk result (λ reported. reported.extras.items ≡ map extra_of state.now.nodes.items) }
 {
     let logs = state.nodes.as_slice();
-    Ok(ToldResults {
+    Ok(ReportedResults {
         results: results_with_faults(alloc, tree.len(), results, listed, logs)?,
         extras: extras_of(alloc, logs)?,
     })
 }
 
-/// The results that are told, each with all faults of its node, in a tree of so many nodes.
+/// The results that are reported, each with all faults of its node, in a tree of so many nodes.
 fn results_with_faults(
     alloc: Global,
     count: usize,
@@ -46,21 +46,21 @@ fn results_with_faults(
     listed: &[Listed],
     logs: &[NodeLog],
 ) -> Result<Vec<NodeResult>, AllocError>
-    ensures within { IfOk result (λ told. All (λ r. r.node < count) told.items) }
-    ensures same { IfOk result (λ told. map without_faults told.items ≡ map without_faults (filter (is_told count logs.now) results.items)) }
+    ensures within { IfOk result (λ reported. All (λ r. r.node < count) reported.items) }
+    ensures same { IfOk result (λ reported. map without_faults reported.items ≡ map without_faults (filter (is_reported count logs.now) results.items)) }
 {
-    let mut told = Vec::new(alloc);
+    let mut reported = Vec::new(alloc);
     for ran in results {
-        if is_told(count, logs, &ran) {
-            told.push(with_all_faults(alloc, listed, ran, logs)?)?;
+        if is_reported(count, logs, &ran) {
+            reported.push(with_all_faults(alloc, listed, ran, logs)?)?;
         }
     }
-    Ok(told)
+    Ok(reported)
 }
 
-/// Whether what came of a node is told: not of one in reserve that did not come.
-fn is_told(count: usize, logs: &[NodeLog], ran: &NodeResult) -> bool
-    ensures { result ≡ is_told count logs.now ran.now }
+/// Whether what came of a node is reported: not of one in reserve that did not come.
+fn is_reported(count: usize, logs: &[NodeLog], ran: &NodeResult) -> bool
+    ensures { result ≡ is_reported count logs.now ran.now }
 {
     ran.node < count && has_come(logs.get(ran.node))
 }
@@ -109,7 +109,7 @@ fn with_all_faults(
     ran: NodeResult,
     logs: &[NodeLog],
 ) -> Result<NodeResult, AllocError>
-    ensures { IfOk result (λ told. without_faults told ≡ without_faults ran) }
+    ensures { IfOk result (λ reported. without_faults reported ≡ without_faults ran) }
 {
     match logs.get(ran.node) {
         Some(log) if !log.faults.is_empty() => {
@@ -155,7 +155,7 @@ fn text_of_all(
     alloc: Global,
     listed: &[Listed],
     node: ContextNo,
-    faults: &[ToldFault],
+    faults: &[ReportedFault],
 ) -> Result<String, AllocError> {
     let mut text = String::new(alloc);
     for (at, fault) in faults.iter().enumerate() {
@@ -216,20 +216,20 @@ fn word_of(kind: Kind) -> &'static str {
 
 /// The results, whose faults of several lines are indented behind the first.
 pub(crate) fn indented(alloc: Global, results: &[NodeResult]) -> Result<Vec<NodeResult>, AllocError>
-    ensures views { IfOk result (λ told. results_view told.items ≡ map with_indented_fault (results_view results.now)) }
-    ensures nodes { IfOk result (λ told. map (λ r. r.node) told.items ≡ map (λ r. r.node) results.now) }
+    ensures views { IfOk result (λ reported. results_view reported.items ≡ map with_indented_fault (results_view results.now)) }
+    ensures nodes { IfOk result (λ reported. map (λ r. r.node) reported.items ≡ map (λ r. r.node) results.now) }
 {
-    let mut told = Vec::new(alloc);
+    let mut reported = Vec::new(alloc);
     for ran in results {
-        told.push(with_indented_fault(alloc, ran)?)?;
+        reported.push(with_indented_fault(alloc, ran)?)?;
     }
-    Ok(told)
+    Ok(reported)
 }
 
 /// A copy of the result, whose fault is indented.
 fn with_indented_fault(alloc: Global, ran: &NodeResult) -> Result<NodeResult, AllocError>
-    ensures view { IfOk result (λ told. result_view told ≡ with_indented_fault (result_view ran.now)) }
-    ensures node { IfOk result (λ told. told.node ≡ ran.now.node) }
+    ensures view { IfOk result (λ reported. result_view reported ≡ with_indented_fault (result_view ran.now)) }
+    ensures node { IfOk result (λ reported. reported.node ≡ ran.now.node) }
 {
     let fault = indented_fault(alloc, &ran.fault)?;
     Ok(NodeResult {
@@ -248,7 +248,7 @@ fn with_indented_fault(alloc: Global, ran: &NodeResult) -> Result<NodeResult, Al
 
 #[tactic(auto, using(crate::proofs::Indenting::no_memory_stays))]
 fn indented_fault(alloc: Global, fault: &Option<Fault>) -> Result<Option<Fault>, AllocError>
-    ensures { IfOk result (λ told. option_map fault_text told ≡ option_map indented (option_map fault_text fault.now)) }
+    ensures { IfOk result (λ reported. option_map fault_text reported ≡ option_map indented (option_map fault_text fault.now)) }
 {
     match fault {
         Some(Fault::Text(text)) => Ok(Some(Fault::Text(indented_text(alloc, text.as_str())?))),
@@ -259,13 +259,13 @@ fn indented_fault(alloc: Global, fault: &Option<Fault>) -> Result<Option<Fault>,
 
 /// The text, whose lines behind the first are indented.
 fn indented_text(alloc: Global, text: &str) -> Result<String, AllocError>
-    ensures { IfOk result (λ told. string_bytes told ≡ indented text.now) }
+    ensures { IfOk result (λ reported. string_bytes reported ≡ indented text.now) }
 {
-    let mut told = String::new(alloc);
+    let mut reported = String::new(alloc);
     for c in text.chars() {
-        write_indented(&mut told, c)?;
+        write_indented(&mut reported, c)?;
     }
-    Ok(told)
+    Ok(reported)
 }
 
 /// Writes a character of a text, and behind a line feed four spaces.

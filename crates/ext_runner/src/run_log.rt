@@ -1,6 +1,6 @@
 //! What is known of a run while it lasts.
 use crate::live::{ended_line, progress_line, slow_line};
-use crate::node_log::{NodeLog, ToldFault};
+use crate::node_log::{NodeLog, ReportedFault};
 use ext_table::{
     Call, ContextNo, Fault, FaultOrigin, LeftOut, NodeResult, RunListener, TableListener,
 };
@@ -128,10 +128,10 @@ impl<'a, R: Wait + Clock> RunLog<'a, R> {
             if let Some(slow) = listed.slow_after
                 && let (Some(begun), Some(now)) = (node.called, now)
                 && node.is_running()
-                && !node.is_told_slow
+                && !node.is_reported_slow
                 && now.duration_since(begun).as_secs() >= u64::from(slow)
             {
-                node.is_told_slow = true;
+                node.is_reported_slow = true;
                 self.print(slow_line(self.rt.alloc(), slow, listed.id.as_str()));
             }
         }
@@ -164,10 +164,10 @@ impl<R: Wait + Clock> RunListener for RunLog<'_, R> {
     }
 
     fn faulted(&self, node: ContextNo, origin: FaultOrigin, fault: &Fault) {
-        let told = told_fault(self.rt.alloc(), origin, fault);
+        let reported = reported_fault(self.rt.alloc(), origin, fault);
         let mut state = self.state.lock(self.threads);
-        let kept = match (told, state.nodes.get_mut(node)) {
-            (Ok(told), Some(log)) => log.faults.push(told).is_ok(),
+        let kept = match (reported, state.nodes.get_mut(node)) {
+            (Ok(reported), Some(log)) => log.faults.push(reported).is_ok(),
             _ => false,
         };
         if !kept {
@@ -198,8 +198,12 @@ impl<R: Wait + Clock> RunListener for RunLog<'_, R> {
 }
 
 /// The fault with its origin. Takes memory for its text.
-fn told_fault(alloc: Global, origin: FaultOrigin, fault: &Fault) -> Result<ToldFault, AllocError> {
-    Ok(ToldFault {
+fn reported_fault(
+    alloc: Global,
+    origin: FaultOrigin,
+    fault: &Fault,
+) -> Result<ReportedFault, AllocError> {
+    Ok(ReportedFault {
         origin,
         text: format!(in alloc; "{fault}")?,
     })

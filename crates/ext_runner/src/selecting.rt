@@ -27,24 +27,24 @@ pub fn select<T: Drop>(
 {
     let nodes = nodes_of(alloc, table.rows.as_slice())?;
     let ids = table.ids.as_slice();
-    let places = places_of(alloc, ids, nodes.as_slice(), selection, seed)?;
-    table.arranged(places.as_slice())
+    let indices = indices_of(alloc, ids, nodes.as_slice(), selection, seed)?;
+    table.arranged(indices.as_slice())
 }
 
-/// The places of the selected nodes, in their order.
-fn places_of(
+/// The indices of the selected nodes, in their order.
+fn indices_of(
     alloc: Global,
     ids: &[UniqueId],
     nodes: &[Node],
     selection: &Selection,
     seed: Option<u64>,
 ) -> Result<Vec<usize>, AllocError>
-    ensures { IfOk result (λ places. IsInOrder selection.now seed ids.now nodes.now places.items) }
+    ensures { IfOk result (λ indices. IsInOrder selection.now seed ids.now nodes.now indices.items) }
 {
-    let places = chosen(alloc, ids, nodes, selection)?;
+    let indices = chosen(alloc, ids, nodes, selection)?;
     match seed {
-        Some(seed) => shuffled(alloc, ids, nodes, places.as_slice(), seed),
-        None => Ok(places),
+        Some(seed) => shuffled(alloc, ids, nodes, indices.as_slice(), seed),
+        None => Ok(indices),
     }
 }
 

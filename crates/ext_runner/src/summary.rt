@@ -114,7 +114,7 @@ fn counts_of(state: &State, results: &[NodeResult]) -> Counts {
             Some(log) => log.is_flaky(),
             None => false,
         };
-        let place = match (ran.is_test, ran.status) {
+        let count = match (ran.is_test, ran.status) {
             (true, Status::Successful) if is_flaky => &mut counts.flaky,
             (true, Status::Successful) => &mut counts.passed,
             (true, Status::Failed) => &mut counts.failed,
@@ -123,7 +123,7 @@ fn counts_of(state: &State, results: &[NodeResult]) -> Counts {
             (false, Status::Failed | Status::Aborted) => &mut counts.containers,
             (false, Status::Successful | Status::Skipped) => continue,
         };
-        *place = place.saturating_add(1);
+        *count = count.saturating_add(1);
     }
     counts
 }

@@ -1,4 +1,4 @@
-//! What is told once a run is over.
+//! What is reported once a run is over.
 ghost use Rattle.std.specs.Prelude.{◌≡◌, ◌<◌, All, IfOk, length, map, string_bytes};
 ghost use Rattle.ext_lifecycle.specs.FaultTexts.{results_view};
 ghost use Rattle.ext_report.specs.JsonLines.{json_with};
@@ -9,7 +9,7 @@ ghost use Rattle.ext_runner.specs.InnerTelling.{ending_of, with_indented_fault};
 use crate::command::{ColorChoice, Form, Telling};
 use crate::ending::Ending;
 use crate::live::write_seconds;
-use crate::results::{ToldResults, indented};
+use crate::results::{ReportedResults, indented};
 use crate::run_log::{Listed, State};
 use crate::summary::summary;
 use ext_report::{
@@ -26,16 +26,16 @@ use std::{env, fs};
 pub(crate) fn tell(
     rt: &HostRuntime,
     tree: &Tree,
-    told: &ToldResults,
+    reported: &ReportedResults,
     listed: &[Listed],
     state: &State,
     took: Option<Duration>,
     telling: &Telling,
 ) -> anyhow::Result<Ending>
-    requires { All (λ r. r.node < length tree.now) told.now.results.items }
+    requires { All (λ r. r.node < length tree.now) reported.now.results.items }
 {
     let alloc = rt.alloc();
-    write_files(rt, tree, told, telling)?;
+    write_files(rt, tree, reported, telling)?;
     if telling.durations > 0 {
         let text = slowest(alloc, listed, state, telling.durations as usize)?;
         eprint!(rt; "{}", text.as_str())?;
@@ -43,36 +43,36 @@ pub(crate) fn tell(
     match telling.form {
         Form::Summary => {
             let colored = is_colored(rt, telling.color, rt.stdout().is_terminal());
-            let results = told.results.as_slice();
+            let results = reported.results.as_slice();
             let text = summary(alloc, listed, state, results, took, colored)?;
             print!(rt; "{}", text.as_str())?;
         }
-        Form::Text => print!(rt; "{}", text_report(alloc, tree, told)?.as_str())?,
-        Form::Tree => print!(rt; "{}", tree_report(alloc, tree, told)?.as_str())?,
+        Form::Text => print!(rt; "{}", text_report(alloc, tree, reported)?.as_str())?,
+        Form::Tree => print!(rt; "{}", tree_report(alloc, tree, reported)?.as_str())?,
         Form::Json => {
-            let bytes = json_of(alloc, tree, told)?;
+            let bytes = json_of(alloc, tree, reported)?;
             io::writer(rt).write_all(bytes.as_slice())?;
         }
     }
-    Ok(ending_of(told.results.as_slice()))
+    Ok(ending_of(reported.results.as_slice()))
 }
 
 /// Writes the files that are asked for.
 fn write_files(
     rt: &HostRuntime,
     tree: &Tree,
-    told: &ToldResults,
+    reported: &ReportedResults,
     telling: &Telling,
 ) -> anyhow::Result<()>
-    requires { All (λ r. r.node < length tree.now) told.now.results.items }
+    requires { All (λ r. r.node < length tree.now) reported.now.results.items }
 {
     if let Some(file) = &telling.junit {
-        let (results, extras) = (told.results.as_slice(), told.extras.as_slice());
+        let (results, extras) = (reported.results.as_slice(), reported.extras.as_slice());
         let text = junit_report_with(rt.alloc(), tree, results, extras)?;
         fs::write(rt, file.as_str(), text.as_str())?;
     }
     if let Some(file) = &telling.json {
-        let bytes = json_of(rt.alloc(), tree, told)?;
+        let bytes = json_of(rt.alloc(), tree, reported)?;
         fs::write(rt, file.as_str(), bytes.as_slice())?;
     }
     Ok(())
@@ -90,29 +90,34 @@ fn ending_of(results: &[NodeResult]) -> Ending
 }
 
 /// The report in JSON.
-fn json_of(alloc: Global, tree: &Tree, told: &ToldResults) -> Result<Vec<u8>, AllocError>
-    requires { All (λ r. r.node < length tree.now) told.now.results.items }
-    ensures { IfOk result (λ bytes. bytes.items ≡ json_with told.now.extras.items tree.now (results_view told.now.results.items)) }
+fn json_of(alloc: Global, tree: &Tree, reported: &ReportedResults) -> Result<Vec<u8>, AllocError>
+    requires { All (λ r. r.node < length tree.now) reported.now.results.items }
+    ensures { IfOk result (λ bytes. bytes.items ≡ json_with reported.now.extras.items tree.now (results_view reported.now.results.items)) }
 {
-    json_report_with(alloc, tree, told.results.as_slice(), told.extras.as_slice())
+    json_report_with(
+        alloc,
+        tree,
+        reported.results.as_slice(),
+        reported.extras.as_slice(),
+    )
 }
 
 /// The report as text, with faults of several lines indented.
-fn text_report(alloc: Global, tree: &Tree, told: &ToldResults) -> Result<String, AllocError>
-    requires { All (λ r. r.node < length tree.now) told.now.results.items }
-    ensures { IfOk result (λ text. string_bytes text ≡ report_with told.now.extras.items tree.now (map with_indented_fault (results_view told.now.results.items))) }
+fn text_report(alloc: Global, tree: &Tree, reported: &ReportedResults) -> Result<String, AllocError>
+    requires { All (λ r. r.node < length tree.now) reported.now.results.items }
+    ensures { IfOk result (λ text. string_bytes text ≡ report_with reported.now.extras.items tree.now (map with_indented_fault (results_view reported.now.results.items))) }
 {
-    let results = indented(alloc, told.results.as_slice())?;
-    report_text_with(alloc, tree, results.as_slice(), told.extras.as_slice())
+    let results = indented(alloc, reported.results.as_slice())?;
+    report_text_with(alloc, tree, results.as_slice(), reported.extras.as_slice())
 }
 
 /// The report as a tree, with faults of several lines indented.
-fn tree_report(alloc: Global, tree: &Tree, told: &ToldResults) -> Result<String, AllocError>
-    requires { All (λ r. r.node < length tree.now) told.now.results.items }
-    ensures { IfOk result (λ text. string_bytes text ≡ tree_with told.now.extras.items tree.now (map with_indented_fault (results_view told.now.results.items))) }
+fn tree_report(alloc: Global, tree: &Tree, reported: &ReportedResults) -> Result<String, AllocError>
+    requires { All (λ r. r.node < length tree.now) reported.now.results.items }
+    ensures { IfOk result (λ text. string_bytes text ≡ tree_with reported.now.extras.items tree.now (map with_indented_fault (results_view reported.now.results.items))) }
 {
-    let results = indented(alloc, told.results.as_slice())?;
-    tree_report_with(alloc, tree, results.as_slice(), told.extras.as_slice())
+    let results = indented(alloc, reported.results.as_slice())?;
+    tree_report_with(alloc, tree, results.as_slice(), reported.extras.as_slice())
 }
 
 /// The tests that took longest, so many at most, with what they waited for.

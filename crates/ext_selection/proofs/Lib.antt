@@ -2,4 +2,4 @@ pub mod Keeping
 pub mod Texts
 pub mod Ranks
 pub mod Starts
-pub mod Places
+pub mod Indices

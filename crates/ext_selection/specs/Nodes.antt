@@ -23,7 +23,7 @@ pub record AreBeside (nodes : List Node) (one other : ℕ) : Type 0 where
   pub other_in : StandsIn nodes other outer
 
 -- Indices of nodes among so many, each once.
-pub record ArePlaces (count : ℕ) (indices : List ℕ) : Type 0 where
+pub record AreIndices (count : ℕ) (indices : List ℕ) : Type 0 where
   pub within : All (λ index. index < count) indices
   pub once : AllPairs (λ a b. a ≢ b) indices
 

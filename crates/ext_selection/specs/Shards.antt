@@ -1,4 +1,4 @@
--- The parts of a suite. In which part a test stands is told by its id alone, so that it is the same on each machine and
+-- The parts of a suite. In which part a test stands depends on its id alone, so that it is the same on each machine and
 -- stays so when tests are added. An own rule.
 use Rattle.std.specs.Prelude.{◌≡◌, ℕ, ◌+◌, ◌%◌, ◌<◌, ◌==◌, Bool, true, List, length, Option, Some, None}
 use Rattle.std.specs.List.{before_first, after_first, position_or_len}

@@ -5,7 +5,7 @@ ghost use Rattle.std.specs.List.{starts_with, list_any, range_with_len};
 ghost use Rattle.std.specs.Str.{bytes_eq};
 ghost use Rattle.std.specs.String.{string_bytes};
 ghost use Rattle.std.specs.HashSet.{contains_text};
-ghost use Rattle.ext_selection.specs.Nodes.{AreClosed, ArePlaces};
+ghost use Rattle.ext_selection.specs.Nodes.{AreClosed, AreIndices};
 ghost use Rattle.ext_selection.specs.Selection.{matches, has_match, is_asked, is_listed, is_below, ends_id, has_part, is_wanted, wanted_of, flag_at, AreKept, AreChosen};
 ghost use Rattle.ext_selection.specs.Shards.{is_in};
 ghost use Rattle.ext_selection.specs.InnerKeeping.{is_in_set, AreHolders, kept_by, marked};
@@ -44,7 +44,7 @@ pub fn chosen(
     selection: &Selection,
 ) -> Result<Vec<usize>, AllocError>
     ensures chosen { IfOk result (λ indices. AreChosen nodes.now (wanted_of selection.now ids.now) indices.items) }
-    ensures indices { IfOk result (λ indices. ArePlaces (length nodes.now) indices.items) }
+    ensures indices { IfOk result (λ indices. AreIndices (length nodes.now) indices.items) }
     ensures closed { IfOk result (λ indices. AreClosed nodes.now indices.items) }
 {
     let failed = listed(alloc, &selection.failed)?;

@@ -1,6 +1,6 @@
 //! Orders of nodes that a seed decides.
 ghost use Rattle.std.specs.Prelude.{◌≡◌, ◌+◌, ◌≤◌, ◌<◌, ℕ, IfOk, All, IsPermutation, map, length, nat_lt, slice_index, if◌then◌else◌};
-ghost use Rattle.ext_selection.specs.Nodes.{node_at, ArePlaces};
+ghost use Rattle.ext_selection.specs.Nodes.{node_at, AreIndices};
 ghost use Rattle.ext_selection.specs.Shuffling.{drawn_at, IsOrder};
 ghost use Rattle.ext_selection.specs.InnerRanks.{AreDepths, IsRank, number_of};
 
@@ -25,7 +25,7 @@ pub fn shuffled(
     seed: u64,
 ) -> Result<Vec<usize>, AllocError>
     ensures indices { IfOk result (λ order. IsPermutation indices.now order.items) }
-    ensures once { (count : ℕ) → ArePlaces count indices.now → IfOk result (λ order. ArePlaces count order.items) }
+    ensures once { (count : ℕ) → AreIndices count indices.now → IfOk result (λ order. AreIndices count order.items) }
     ensures order { IfOk result (λ order. IsOrder nodes.now (drawn_at seed ids.now) order.items) }
 {
     let levels = by_levels(alloc, ids, nodes, indices, seed)?;

@@ -32,7 +32,7 @@ pub record IsNewRow {T : Type 0} (test : Option T) (mode : Mode) (above : ℕ) (
 
 -- ---- nodes
 
--- The place of the last node of the level above. There is none above level 0.
+-- The index of the last node of the level above. There is none above level 0.
 abbrev pub above_of : ℕ → List ℕ → Option ℕ
 above_of zero last = None
 above_of (suc level) last = slice_get last level
@@ -111,10 +111,10 @@ pub record ChangesLast {T : Type 0} (Changes : Row T → Row T → Type 0) (befo
   pub last : (row : Row T) → slice_get before (length before - 1) ≡ Some row
       → (changed : Row T) × Changes row changed × (after ≡ slice_set before (length before - 1) changed)
 
--- A lock of this name is named behind the others, by a place at which its name stands; or the call was refused.
+-- A lock of this name is named behind the others, by an index at which its name stands; or the call was refused.
 abbrev pub IsNamed : Bool → List (List ℕ) → List ℕ → LockMode → List NamedLock → List NamedLock → Type 0
-IsNamed true names name mode before after = (place : ℕ) × (slice_get names place ≡ Some name)
-    × (after ≡ before ++ record { name = place; mode = mode } ∷ [])
+IsNamed true names name mode before after = (index : ℕ) × (slice_get names index ≡ Some name)
+    × (after ≡ before ++ record { name = index; mode = mode } ∷ [])
 IsNamed false names name mode before after = after ≡ before
 
 -- The names stay, or this one is new, and comes behind the others. A call that was refused adds none.

@@ -33,13 +33,13 @@ IsVerdictOf (Err (Aborted fault)) verdict = verdict ≡ verdicts.Aborted fault
 IsVerdictOf (Err (Error why)) verdict = (fault : Fault) × StopsWith (Error why) fault × (verdict ≡ verdicts.Failed fault)
 IsVerdictOf (Err (Io why)) verdict = (fault : Fault) × StopsWith (Io why) fault × (verdict ≡ verdicts.Failed fault)
 
--- What is told of the close of a value.
+-- What the close of a value comes to.
 abbrev pub IsCloseOf : Result (Unit {0}) Stop → Result (Unit {0}) Fault → Type 0
-IsCloseOf (Ok done) told = told ≡ Ok tt
-IsCloseOf (Err stop) told = (fault : Fault) × StopsWith stop fault × (told ≡ Err fault)
+IsCloseOf (Ok done) closed = closed ≡ Ok tt
+IsCloseOf (Err stop) closed = (fault : Fault) × StopsWith stop fault × (closed ≡ Err fault)
 
 -- The engine closed a value. `Gives` says what it may answer.
-pub record IsClosed (Gives : Result (Unit {0}) Stop → Type 0) (told : Result (Unit {0}) Fault) : Type 0 where
+pub record IsClosed (Gives : Result (Unit {0}) Stop → Type 0) (closed : Result (Unit {0}) Fault) : Type 0 where
   pub answer : Result (Unit {0}) Stop
   pub gives : Gives answer
-  pub told_is : IsCloseOf answer told
+  pub closed_is : IsCloseOf answer closed

@@ -43,7 +43,7 @@ module _ {E L T S : Type 0} (engine : E) (Gives : T → List S → Result (Unit 
         TableCall Gives Makes Moves rows attempts store node call before outcome after;
     action_gives = λ node action. action.engine.now ≡ engine;
     is_closeable = λ value. true;
-    close_gives = λ before number kept told after. (after ≡ before) × IsClosed (Closes before.engine.now kept.0) told;
+    close_gives = λ before number kept closed after. (after ≡ before) × IsClosed (Closes before.engine.now kept.0) closed;
   }
 
 -- ---- the run

@@ -51,7 +51,7 @@ callbacks_in kind (Some row) = callbacks_of kind row
 abbrev pub texts_in : List (String Global) → List (List ℕ)
 texts_in names = map (λ name. string_bytes name) names
 
--- The lock whose name stands at this place.
+-- The lock whose name stands at this index.
 abbrev pub asked : List (List ℕ) → NamedLock → Asked
 asked names lock = record { name = Some (slice_index_or names lock.name []); mode = lock.mode }
 

@@ -77,7 +77,7 @@ impl<T: Drop> TestTable<T> {
     ) -> Result<(), TableFault>
         ensures { AddsAs level kind.now name.now test self.old self.new result }
     {
-        let Some(above) = self.place_above(level) else {
+        let Some(above) = self.index_above(level) else {
             return Err(TableFault::NothingAbove);
         };
         let id = match self.ids[above].append(self.alloc, kind, name) {
@@ -92,10 +92,10 @@ impl<T: Drop> TestTable<T> {
         }
     }
 
-    /// The place of the last node of the level above.
-    fn place_above(&self, level: usize) -> Option<usize>
-        ensures place { result ≡ above_of level self.now.last.items }
-        ensures within { IfSome result (λ place. place < length self.now.rows.items) }
+    /// The index of the last node of the level above.
+    fn index_above(&self, level: usize) -> Option<usize>
+        ensures index { result ≡ above_of level self.now.last.items }
+        ensures within { IfSome result (λ index. index < length self.now.rows.items) }
     {
         if level == 0 {
             return None;
@@ -114,9 +114,9 @@ impl<T: Drop> TestTable<T> {
         {
             return Err(AllocError);
         }
-        let place = self.rows.len();
+        let index = self.rows.len();
         self.last.truncate(level);
-        self.last.push_reserved(place);
+        self.last.push_reserved(index);
         self.ids.push_reserved(id);
         self.rows.push_reserved(row);
         Ok(())

@@ -5,7 +5,7 @@ ghost use Rattle.ext_table.specs.Tables.{callbacks_of};
 use ext_engine::{Kind, Mode};
 use ext_locks::LockMode;
 
-/// A lock that a node names, by the place of its name among those of the table.
+/// A lock that a node names, by the index of its name among those of the table.
 #[derive(Clone, Copy, Debug, PartialEq, Eq)]
 pub struct NamedLock {
     pub name: usize,
@@ -38,7 +38,7 @@ pub struct Row<T> {
     pub slow_after: Option<u32>,
     /// Whether the node is in reserve: then `Engine::comes` decides whether it is run.
     pub is_in_reserve: bool,
-    /// The place of the node that it stands in; the root's own.
+    /// The index of the node that it stands in; the root's own.
     pub above: usize,
 }
 

@@ -164,7 +164,7 @@ fn name_lock(
         Ok(()) => {}
         Err(_) => return Err(AllocError),
     }
-    match place_of(alloc, names, name) {
+    match index_of(alloc, names, name) {
         Ok(name) => {
             locks.push_reserved(NamedLock { name, mode });
             Ok(())
@@ -183,33 +183,33 @@ fn push_given<T: Drop>(list: &mut Vec<T>, given: T) -> Result<(), AllocError>
     }
 }
 
-/// The place of the name of a lock, which is added if it is new.
-fn place_of(alloc: Global, names: &mut Vec<String>, name: &str) -> Result<usize, AllocError>
-    ensures place { IfOk result (λ place. slice_get (texts_in names.new.items) place ≡ Some name.now) }
+/// The index of the name of a lock, which is added if it is new.
+fn index_of(alloc: Global, names: &mut Vec<String>, name: &str) -> Result<usize, AllocError>
+    ensures index { IfOk result (λ index. slice_get (texts_in names.new.items) index ≡ Some name.now) }
     ensures grown { IsGrown (is_ok result) (texts_in names.old.items) name.now (texts_in names.new.items) }
     ensures longer { length names.old.items ≤ length names.new.items }
 {
-    if let Some(place) = known_place(names.as_slice(), name) {
-        return Ok(place);
+    if let Some(index) = known_index(names.as_slice(), name) {
+        return Ok(index);
     }
-    let place = names.len();
+    let index = names.len();
     let Ok(name) = String::from_str(alloc, name) else {
         return Err(AllocError);
     };
     match names.push(name) {
-        Ok(()) => Ok(place),
+        Ok(()) => Ok(index),
         Err(_) => Err(AllocError),
     }
 }
 
-/// The place at which the name stands, if it does.
-fn known_place(names: &[String], name: &str) -> Option<usize>
-    ensures place { IfSome result (λ place. slice_get (texts_in names.now) place ≡ Some name.now) }
+/// The index at which the name stands, if it does.
+fn known_index(names: &[String], name: &str) -> Option<usize>
+    ensures index { IfSome result (λ index. slice_get (texts_in names.now) index ≡ Some name.now) }
     ensures none { IsNone result → ¬ Contains (texts_in names.now) name.now }
 {
-    for (place, known) in names.iter().enumerate() {
+    for (index, known) in names.iter().enumerate() {
         if known.as_str() == name {
-            return Some(place);
+            return Some(index);
         }
     }
     None

@@ -15,7 +15,7 @@ use std::fmt::Display;
 pub struct Scope<'a, T, S> {
     /// The runtime, by which files, the clock and the environment are reached.
     pub rt: &'a HostRuntime,
-    /// The node, by its place in the table that is run: also its context of the store.
+    /// The node, by its index in the table that is run: also its context of the store.
     pub node: ContextNo,
     /// What the table gives the call.
     pub given: &'a T,

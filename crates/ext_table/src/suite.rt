@@ -59,7 +59,7 @@ impl<E: Engine, L: TableListener> CloseAction<Kept<E::Shared>> for Closing<'_, E
     ghost use Rattle.std.specs.Prelude.{◌≡◌};
     ghost use Rattle.ext_table.specs.Stops.{IsClosed};
 
-    ghost close_gives = { λ before number kept told after. (after ≡ before) × IsClosed (E.close_gives before.engine.now kept.0) told };
+    ghost close_gives = { λ before number kept closed after. (after ≡ before) × IsClosed (E.close_gives before.engine.now kept.0) closed };
 
     fn close(&mut self, _number: u32, kept: &Kept<E::Shared>) -> Result<(), Fault> {
         match self.engine.close(self.rt, &kept.0) {

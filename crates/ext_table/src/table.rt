@@ -43,9 +43,9 @@ pub struct TestTable<T> {
     pub rows: Vec<Row<T>>,
     /// The names of locks, each once.
     pub lock_names: Vec<String>,
-    /// The places of the last node and of the nodes that it stands in, from the first level on.
+    /// The indices of the last node and of the nodes that it stands in, from the first level on.
     pub last: Vec<usize>,
     ghost same_count: { length ids.items ≡ length rows.items },
     ghost known: { AreKnown (length lock_names.items) rows.items },
-    ghost last_within: { All (λ place. place < length rows.items) last.items },
+    ghost last_within: { All (λ index. index < length rows.items) last.items },
 }

@@ -1,11 +1,11 @@
 //! The failures and aborts of a run, repeated at its end on standard error.
 ghost use Rattle.std.specs.Prelude.{◌≡◌, ◌≢◌, string_bytes, IfOk};
 ghost use Rattle.ext_plan_reading.specs.Plans.{plan_view};
-ghost use Rattle.ext_run.specs.FailureForms.{told_as};
+ghost use Rattle.ext_run.specs.FailureForms.{reported_as};
 ghost use Rattle.extrun.specs.Lines.{shown_text};
 
 use crate::screen::shown_text;
-use ext_run::{ListForm, Plan, ReportForm, ToldFaults, failures_text, lost_line};
+use ext_run::{ListForm, Plan, ReportForm, ReportedFaults, failures_text, lost_line};
 use std::alloc::{AllocError, Global};
 
 /// Prints the faults of the plan's nodes beside a report of this form, or that there is no memory
@@ -14,7 +14,7 @@ pub(crate) fn tell_failures<R: AllocGlobal + Eprint>(
     rt: &R,
     plan: &Plan,
     form: ReportForm,
-    faults: &ToldFaults,
+    faults: &ReportedFaults,
     for_terminal: bool,
 ) {
     let form = list_form_of(form);
@@ -41,11 +41,11 @@ fn list_form_of(form: ReportForm) -> ListForm
 fn shown_failures(
     alloc: Global,
     plan: &Plan,
-    faults: &ToldFaults,
+    faults: &ReportedFaults,
     form: ListForm,
     for_terminal: bool,
 ) -> Result<String, AllocError>
-    ensures { IfOk result (λ text. string_bytes text ≡ shown_text for_terminal (told_as form faults.now (plan_view plan.now))) }
+    ensures { IfOk result (λ text. string_bytes text ≡ shown_text for_terminal (reported_as form faults.now (plan_view plan.now))) }
 {
     let text = failures_text(alloc, plan, faults, form)?;
     shown_text(alloc, text, for_terminal)

@@ -111,7 +111,7 @@ impl<'a, R: Wait + Clock + AllocGlobal + Eprint> Listener<'a, R> {
             durations.tell(plan);
         }
         if let Some(failures) = failures {
-            tell_failures(rt, plan, form, &failures.into_told(), for_terminal);
+            tell_failures(rt, plan, form, &failures.into_reported(), for_terminal);
         }
     }
 }

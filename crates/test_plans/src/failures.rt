@@ -2,8 +2,8 @@
 use crate::same::same;
 use ext_model::{ContextNo, Fault};
 use ext_run::{
-    Call, Failures, FaultOrigin, Kind, ListForm, NoListener, NodeResult, RunListener, Size,
-    ToldFaults, failures_text, plan_of,
+    Call, Failures, FaultOrigin, Kind, ListForm, NoListener, NodeResult, ReportedFaults,
+    RunListener, Size, failures_text, plan_of,
 };
 use std::alloc::{AllocError, Global};
 use std::sync::atomic::{AtomicU64, Ordering};
@@ -27,14 +27,14 @@ fn at(kind: Kind, from: ContextNo, index: usize, step: usize) -> FaultOrigin {
 }
 
 /// What is told of these faults of the nodes of `PLAN`.
-fn text_of(alloc: Global, told: &ToldFaults, form: ListForm) -> Result<String, Fail> {
+fn text_of(alloc: Global, told: &ReportedFaults, form: ListForm) -> Result<String, Fail> {
     let plan = plan_of(alloc, PLAN.as_bytes(), Size::Usual)?;
     Ok(failures_text(alloc, &plan, told, form)?)
 }
 
 /// Three faults of two nodes are told by the nodes' order, each with the call and the step, or the
 /// close, where it came.
-/// Tests `failures_text`, `plan_of`, `ToldFaults::note` and `ToldFaults::new`.
+/// Tests `failures_text`, `plan_of`, `ReportedFaults::note` and `ReportedFaults::new`.
 #[test]
 fn faults_are_told_once_more_by_node(rt: HostRuntime) -> Result<(), Fail> {
     let alloc = rt.alloc();
@@ -44,7 +44,7 @@ fn faults_are_told_once_more_by_node(rt: HostRuntime) -> Result<(), Fail> {
     failures.faulted(1, FaultOrigin::Close, &Fault::Memory);
     failures.faulted(2, at(Kind::AfterEach, 0, 1, 0), &fault(alloc, "second")?);
     failures.ended(&NodeResult::skipped(2, true), 3);
-    let told = failures.into_told();
+    let told = failures.into_reported();
     same(&rt, told.lost, false, "whether a fault was lost");
     let text = text_of(alloc, &told, ListForm::Lines)?;
     let wanted =
@@ -58,7 +58,7 @@ fn faults_are_told_once_more_by_node(rt: HostRuntime) -> Result<(), Fail> {
 #[test]
 fn callbacks_are_told_by_their_field(rt: HostRuntime) -> Result<(), Fail> {
     let alloc = rt.alloc();
-    let mut told = ToldFaults::new(alloc);
+    let mut told = ReportedFaults::new(alloc);
     told.note(alloc, 0, at(Kind::BeforeAll, 0, 2, 1), &Fault::Memory);
     told.note(alloc, 0, at(Kind::AfterAll, 0, 0, 4), &Fault::Memory);
     told.note(alloc, 1, at(Kind::BeforeEach, 1, 0, 0), &Fault::Memory);
@@ -83,7 +83,7 @@ const AS_JSON: &str =
 #[test]
 fn faults_are_told_as_json(rt: HostRuntime) -> Result<(), Fail> {
     let alloc = rt.alloc();
-    let mut told = ToldFaults::new(alloc);
+    let mut told = ReportedFaults::new(alloc);
     told.note(alloc, 2, at(Kind::Test, 2, 0, 3), &fault(alloc, "a \"b\"")?);
     told.note(alloc, 1, FaultOrigin::Close, &Fault::Memory);
     told.note(
@@ -104,7 +104,7 @@ fn faults_are_told_as_json(rt: HostRuntime) -> Result<(), Fail> {
 #[test]
 fn lost_faults_are_told_as_json(rt: HostRuntime) -> Result<(), Fail> {
     let alloc = rt.alloc();
-    let mut told = ToldFaults::new(alloc);
+    let mut told = ReportedFaults::new(alloc);
     told.note(alloc, 0, at(Kind::AfterAll, 0, 0, 4), &Fault::Memory);
     told.lost = true;
     let text = text_of(alloc, &told, ListForm::Json)?;
@@ -160,7 +160,7 @@ fn each_is_passed_on_once(rt: HostRuntime) -> Result<(), Fail> {
 #[test]
 fn lost_faults_are_told(rt: HostRuntime) -> Result<(), Fail> {
     let alloc = rt.alloc();
-    let mut told = ToldFaults::new(alloc);
+    let mut told = ReportedFaults::new(alloc);
     told.note(alloc, 1, FaultOrigin::Close, &Fault::Memory);
     told.lost = true;
     let text = text_of(alloc, &told, ListForm::Lines)?;

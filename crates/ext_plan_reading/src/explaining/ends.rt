@@ -1,9 +1,9 @@
 //! The end of an explanation: the node's id, and the line of the plan with the fault.
 use crate::explaining::fields::table_of;
 use crate::explaining::line_at;
-use crate::explaining::places::{Spot, byte_of};
+use crate::explaining::spots::{Spot, byte_of};
 use crate::explaining::words::Meaning;
-use crate::fault::{Place, PlanFault};
+use crate::fault::{PlanFault, PlanPart};
 use crate::fields::{tables_at, text_at};
 use std::alloc::Global;
 use toml::Table;
@@ -18,8 +18,8 @@ pub(crate) fn with_end(
     fault: PlanFault,
     meaning: &Meaning,
 ) -> Result<String, PlanFault> {
-    let place = meaning.place.unwrap_or(fault.place());
-    let line = line_of(alloc, text, place, &meaning.spot)?;
+    let part = meaning.part.unwrap_or(fault.part());
+    let line = line_of(alloc, text, part, &meaning.spot)?;
     let words = meaning.words.as_str();
     let id = id_of(alloc, top, fault)?;
     Ok(match (id, line) {
@@ -36,14 +36,14 @@ fn id_of<'a>(
     top: &'a Table,
     fault: PlanFault,
 ) -> Result<Option<&'a str>, PlanFault> {
-    let place = match fault {
-        PlanFault::BadId(_) => Place::Whole,
-        other => other.place(),
+    let part = match fault {
+        PlanFault::BadId(_) => PlanPart::Whole,
+        other => other.part(),
     };
-    let Place::Node(_) = place else {
+    let PlanPart::Node(_) = part else {
         return Ok(None);
     };
-    let table = table_of(alloc, top, place)?;
+    let table = table_of(alloc, top, part)?;
     Ok(table.and_then(|table| text_at(table, "id")))
 }
 
@@ -52,13 +52,13 @@ fn id_of<'a>(
 fn line_of(
     alloc: Global,
     text: &str,
-    place: Place,
+    part: PlanPart,
     spot: &Option<Spot>,
 ) -> Result<Option<usize>, PlanFault> {
-    let (header, name, number) = match place {
-        Place::Whole => return Ok(None),
-        Place::Key(key) => ("[[key]]", "key", key),
-        Place::Node(node) => ("[[node]]", "node", node),
+    let (header, name, number) = match part {
+        PlanPart::Whole => return Ok(None),
+        PlanPart::Key(key) => ("[[key]]", "key", key),
+        PlanPart::Node(node) => ("[[node]]", "node", node),
     };
     let Some(end) = end_of_header(text, header, number) else {
         return Ok(None);
@@ -69,7 +69,7 @@ fn line_of(
     Ok(None)
 }
 
-/// The byte at which a place in the table stands whose header ends here, or else this one.
+/// The byte at which a spot in the table stands whose header ends here, or else this one.
 fn byte_at(text: &str, end: usize, spot: &Option<Spot>) -> usize {
     match spot {
         None => end,
@@ -108,7 +108,7 @@ fn has_tables(
     let Ok(top) = toml::table_from_str(alloc, front) else {
         return Ok(false);
     };
-    let Ok(tables) = tables_at(alloc, &top, name, PlanFault::BadField(Place::Whole)) else {
+    let Ok(tables) = tables_at(alloc, &top, name, PlanFault::BadField(PlanPart::Whole)) else {
         return Ok(false);
     };
     Ok(tables.len() == count)

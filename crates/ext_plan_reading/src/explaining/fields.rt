@@ -1,7 +1,7 @@
 //! Explanations of faults in fields.
 use crate::explaining::near::nearest;
 use crate::explaining::words::{Meaning, of_field, quoted, said};
-use crate::fault::{Place, PlanFault};
+use crate::fault::{PlanFault, PlanPart};
 use crate::fields::{
     TOP_FIELDS, first_other, key_places_at, repeats_at, tables_at, text_at, text_if_given,
     text_lists_at, texts_at, truth_at,
@@ -53,34 +53,34 @@ const NODE_TYPES: [(&str, FieldType); 10] = [
     ("repeat", FieldType::RepeatsIfGiven),
 ];
 
-/// The table of a place, if the document has it.
+/// The table of a part, if the document has it.
 pub(crate) fn table_of<'a>(
     alloc: Global,
     top: &'a Table,
-    place: Place,
+    part: PlanPart,
 ) -> Result<Option<&'a Table>, PlanFault> {
-    let (name, number) = match place {
-        Place::Whole => return Ok(Some(top)),
-        Place::Key(key) => ("key", key),
-        Place::Node(node) => ("node", node),
+    let (name, number) = match part {
+        PlanPart::Whole => return Ok(Some(top)),
+        PlanPart::Key(key) => ("key", key),
+        PlanPart::Node(node) => ("node", node),
     };
-    let tables = tables_at(alloc, top, name, PlanFault::BadField(Place::Whole))?;
+    let tables = tables_at(alloc, top, name, PlanFault::BadField(PlanPart::Whole))?;
     Ok(tables.get(number).copied())
 }
 
-/// Names the first field that the place may not have, and those that it may.
+/// Names the first field that the part may not have, and those that it may.
 pub(crate) fn unknown_field(
     alloc: Global,
     top: &Table,
-    place: Place,
+    part: PlanPart,
 ) -> Result<Option<Meaning>, PlanFault> {
-    let Some(table) = table_of(alloc, top, place)? else {
+    let Some(table) = table_of(alloc, top, part)? else {
         return Ok(None);
     };
-    match place {
-        Place::Whole => first_unknown(alloc, table, &TOP_FIELDS),
-        Place::Key(_) => first_unknown(alloc, table, &KEY_FIELDS),
-        Place::Node(_) => first_unknown(alloc, table, &NODE_FIELDS),
+    match part {
+        PlanPart::Whole => first_unknown(alloc, table, &TOP_FIELDS),
+        PlanPart::Key(_) => first_unknown(alloc, table, &KEY_FIELDS),
+        PlanPart::Node(_) => first_unknown(alloc, table, &NODE_FIELDS),
     }
 }
 
@@ -130,19 +130,19 @@ fn listed(alloc: Global, names: &[&str]) -> Result<String, PlanFault> {
     Ok(list)
 }
 
-/// Names the first field of the place that is missing or has another type.
+/// Names the first field of the part that is missing or has another type.
 pub(crate) fn bad_field(
     alloc: Global,
     top: &Table,
-    place: Place,
+    part: PlanPart,
 ) -> Result<Option<Meaning>, PlanFault> {
-    let Some(table) = table_of(alloc, top, place)? else {
+    let Some(table) = table_of(alloc, top, part)? else {
         return Ok(None);
     };
-    match place {
-        Place::Whole => first_bad(alloc, table, &TOP_TYPES),
-        Place::Key(_) => first_bad(alloc, table, &KEY_TYPES),
-        Place::Node(_) => first_bad_of_node(alloc, table),
+    match part {
+        PlanPart::Whole => first_bad(alloc, table, &TOP_TYPES),
+        PlanPart::Key(_) => first_bad(alloc, table, &KEY_TYPES),
+        PlanPart::Node(_) => first_bad_of_node(alloc, table),
     }
 }
 
@@ -239,7 +239,7 @@ fn is_array(table: &Table, name: &str) -> bool {
 
 /// Tests whether a field has its type, by the functions that read it.
 fn is_right(alloc: Global, table: &Table, name: &str, kind: FieldType) -> Result<bool, PlanFault> {
-    let fault = PlanFault::BadField(Place::Whole);
+    let fault = PlanFault::BadField(PlanPart::Whole);
     match kind {
         FieldType::Text => Ok(text_at(table, name).is_some()),
         FieldType::TextIfGiven => was_read(text_if_given(table, name, fault)),
@@ -280,7 +280,7 @@ pub(crate) fn bad_label(
     top: &Table,
     key: usize,
 ) -> Result<Option<Meaning>, PlanFault> {
-    let tables = tables_at(alloc, top, "key", PlanFault::BadField(Place::Whole))?;
+    let tables = tables_at(alloc, top, "key", PlanFault::BadField(PlanPart::Whole))?;
     bad_label_among(alloc, tables.as_slice(), key)
 }
 
@@ -318,7 +318,7 @@ fn no_word(alloc: Global, label: &str) -> Result<Option<String>, PlanFault> {
 
 /// Tests whether a key's namespace has a part, if it is given.
 fn has_own_parts(alloc: Global, table: &Table) -> Result<bool, PlanFault> {
-    let fault = PlanFault::BadField(Place::Whole);
+    let fault = PlanFault::BadField(PlanPart::Whole);
     let namespace = texts_at(alloc, table, "namespace", fault)?;
     Ok(has_parts(&namespace))
 }

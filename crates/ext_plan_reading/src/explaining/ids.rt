@@ -55,7 +55,7 @@ fn raw_character(alloc: Global, text: &[u8], at: usize) -> Result<String, AllocE
     }
 }
 
-/// The byte at this place, unless a segment ends before it: a `]` that is not escaped ends a
+/// The byte at this index, unless a segment ends before it: a `]` that is not escaped ends a
 /// segment.
 fn within(text: &[u8], at: usize) -> Option<u8>
     ensures { result ≡ within text.now at }
@@ -66,7 +66,7 @@ fn within(text: &[u8], at: usize) -> Option<u8>
     text.get(at).copied()
 }
 
-/// Tests whether there is a `]` before this place.
+/// Tests whether there is a `]` before this index.
 fn is_behind(text: &[u8], at: usize) -> bool
     ensures { result ≡ is_behind text.now at }
 {

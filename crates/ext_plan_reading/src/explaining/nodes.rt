@@ -6,11 +6,11 @@ ghost use Rattle.ext_plan_reading.specs.InnerSketches.{HasRoom, sketch_view};
 
 use crate::explaining::fields::table_of;
 use crate::explaining::ids::words_of_id;
-use crate::explaining::places::TextNo;
+use crate::explaining::spots::TextNo;
 use crate::explaining::words::{
     Meaning, of_field, of_field_at, of_no_field, of_text, quoted, said,
 };
-use crate::fault::{Place, PlanFault};
+use crate::fault::{PlanFault, PlanPart};
 use crate::fields::{key_places_at, tables_at, text_at};
 use crate::keys::{Keys, keys_of};
 use crate::locks::lock_at;
@@ -28,7 +28,7 @@ use toml::Table;
 pub(crate) fn keys_in<'a>(alloc: Global, top: &'a Table) -> Result<Keys<'a>, PlanFault>
     ensures { IfOk result (λ r. All HasParts (keys_view r.keys.items)) }
 {
-    let tables = tables_at(alloc, top, "key", PlanFault::BadField(Place::Whole))?;
+    let tables = tables_at(alloc, top, "key", PlanFault::BadField(PlanPart::Whole))?;
     keys_of(alloc, tables.as_slice())
 }
 
@@ -36,7 +36,7 @@ pub(crate) fn keys_in<'a>(alloc: Global, top: &'a Table) -> Result<Keys<'a>, Pla
 fn sketches_in<'a>(alloc: Global, top: &'a Table) -> Result<Vec<NodeSketch<'a>>, PlanFault>
     ensures { IfOk result (λ v. All HasRoom (map sketch_view v.items)) }
 {
-    let tables = tables_at(alloc, top, "node", PlanFault::BadField(Place::Whole))?;
+    let tables = tables_at(alloc, top, "node", PlanFault::BadField(PlanPart::Whole))?;
     sketches_of(alloc, tables.as_slice())
 }
 
@@ -55,7 +55,7 @@ pub(crate) fn bad_id(
     top: &Table,
     node: usize,
 ) -> Result<Option<Meaning>, PlanFault> {
-    let Some(table) = table_of(alloc, top, Place::Node(node))? else {
+    let Some(table) = table_of(alloc, top, PlanPart::Node(node))? else {
         return Ok(None);
     };
     match text_at(table, "id") {
@@ -95,8 +95,8 @@ pub(crate) fn bad_nodes(
         return Ok(of_no_field(too_many_nodes(alloc, size, count)?));
     }
     let sketches = nodes_in(alloc, top, size)?;
-    match fault.place() {
-        Place::Node(node) => bad_node(alloc, sketches.as_slice(), node, fault),
+    match fault.part() {
+        PlanPart::Node(node) => bad_node(alloc, sketches.as_slice(), node, fault),
         _ => bad_tree(alloc, size, sketches.as_slice()),
     }
 }
@@ -216,7 +216,7 @@ fn named(
         None => Ok(of_no_field(said(alloc, "it has no node")?)),
         Some(sketch) => {
             let words = named_by(alloc, &sketch.id, sketch.table, why)?;
-            of_field_at(alloc, Place::Node(sketch.table), "id", words)
+            of_field_at(alloc, PlanPart::Node(sketch.table), "id", words)
         }
     }
 }
@@ -292,13 +292,13 @@ fn is_lock(alloc: Global, node: usize, text: &str) -> Result<bool, PlanFault> {
 
 /// Names what there is too much of.
 pub(crate) fn too_many(alloc: Global, top: &Table) -> Result<Option<Meaning>, PlanFault> {
-    let most = key_places_at(top, "keys", PlanFault::BadField(Place::Whole))?;
+    let most = key_places_at(top, "keys", PlanFault::BadField(PlanPart::Whole))?;
     let keys = keys_in(alloc, top)?;
     let first = first_too_many(alloc, keys.keys.as_slice(), most)?;
     match first {
         Some(key) => {
             let words = too_many_keys(alloc, key, most)?;
-            of_field_at(alloc, Place::Key(key), "label", words)
+            of_field_at(alloc, PlanPart::Key(key), "label", words)
         }
         None => {
             let words = "its locks have more than 63 different names";
@@ -325,11 +325,11 @@ fn first_too_many(alloc: Global, keys: &[PlanKey], most: usize) -> Result<Option
     requires most { most ≤ 1024 }
 {
     let mut directory = Directory::new(alloc);
-    let mut place: usize = 0;
+    let mut index: usize = 0;
     for key in keys {
         match declare(alloc, &mut directory, key, most) {
-            Ok(()) => place = place.saturating_add(1),
-            Err(TreeFault::TooMany) => return Ok(Some(place)),
+            Ok(()) => index = index.saturating_add(1),
+            Err(TreeFault::TooMany) => return Ok(Some(index)),
             Err(_) => return Err(PlanFault::Memory),
         }
     }

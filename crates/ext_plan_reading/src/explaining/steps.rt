@@ -7,7 +7,7 @@ ghost use Rattle.ext_plan_reading.specs.StepReading.{step_at};
 use crate::depths::least_test_depth;
 use crate::explaining::near::nearest;
 use crate::explaining::nodes::{keys_in, nodes_in};
-use crate::explaining::places::TextNo;
+use crate::explaining::spots::TextNo;
 use crate::explaining::words::{Meaning, of_text};
 use crate::fault::PlanFault;
 use crate::labels::Labels;
@@ -174,13 +174,13 @@ fn first_bad(
     node: usize,
     texts: &[&str],
 ) -> Result<Option<usize>, PlanFault>
-    ensures within { IfOk result (λ found. IfSome found (λ place. place < length texts.now)) }
-    ensures refused { IfOk result (λ found. IfSome found (λ place. HoldsAt (λ text. IsErr (step_at labels.now depth node text.now)) texts.now place)) }
+    ensures within { IfOk result (λ found. IfSome found (λ index. index < length texts.now)) }
+    ensures refused { IfOk result (λ found. IfSome found (λ index. HoldsAt (λ text. IsErr (step_at labels.now depth node text.now)) texts.now index)) }
 {
-    for (place, text) in texts.iter().enumerate() {
+    for (index, text) in texts.iter().enumerate() {
         match step_at(alloc, labels, depth, node, text) {
             Ok(_) => {}
-            Err(PlanFault::BadStep(_)) => return Ok(Some(place)),
+            Err(PlanFault::BadStep(_)) => return Ok(Some(index)),
             Err(fault) => return Err(fault),
         }
     }

@@ -1,6 +1,6 @@
 //! The texts of explanations.
-use crate::explaining::places::{Spot, TextNo};
-use crate::fault::{Place, PlanFault};
+use crate::explaining::spots::{Spot, TextNo};
+use crate::fault::{PlanFault, PlanPart};
 use std::alloc::Global;
 
 /// What an explanation says of a fault, and of what it speaks.
@@ -8,8 +8,8 @@ use std::alloc::Global;
 pub(crate) struct Meaning {
     pub(crate) words: String,
     /// The table that it speaks of, if that is no whole plan and the fault does not name it.
-    pub(crate) place: Option<Place>,
-    /// The place in the table, if it is one.
+    pub(crate) part: Option<PlanPart>,
+    /// The spot in the table, if it is one.
     pub(crate) spot: Option<Spot>,
 }
 
@@ -27,20 +27,20 @@ pub(crate) fn quoted(
     Ok(Some(format!(in alloc; "{before}{text:?}{after}")?))
 }
 
-/// These words, if there are any, which speak of no place in a table.
+/// These words, if there are any, which speak of no spot in a table.
 pub(crate) fn of_no_field(words: Option<String>) -> Option<Meaning> {
-    of_place(None, None, words)
+    of_part(None, None, words)
 }
 
 /// These words, if there are any, which speak of a field in this table.
 pub(crate) fn of_field_at(
     alloc: Global,
-    place: Place,
+    part: PlanPart,
     field: &str,
     words: Option<String>,
 ) -> Result<Option<Meaning>, PlanFault> {
     let spot = spot_of(alloc, field, None)?;
-    Ok(of_place(Some(place), Some(spot), words))
+    Ok(of_part(Some(part), Some(spot), words))
 }
 
 /// These words, if there are any, which speak of a field.
@@ -50,7 +50,7 @@ pub(crate) fn of_field(
     words: Option<String>,
 ) -> Result<Option<Meaning>, PlanFault> {
     let spot = spot_of(alloc, field, None)?;
-    Ok(of_place(None, Some(spot), words))
+    Ok(of_part(None, Some(spot), words))
 }
 
 /// These words, if there are any, which speak of a text in the array of a field.
@@ -61,7 +61,7 @@ pub(crate) fn of_text(
     words: Option<String>,
 ) -> Result<Option<Meaning>, PlanFault> {
     let spot = spot_of(alloc, field, Some(text))?;
-    Ok(of_place(None, Some(spot), words))
+    Ok(of_part(None, Some(spot), words))
 }
 
 fn spot_of(alloc: Global, field: &str, text: Option<TextNo>) -> Result<Spot, PlanFault> {
@@ -69,9 +69,9 @@ fn spot_of(alloc: Global, field: &str, text: Option<TextNo>) -> Result<Spot, Pla
     Ok(Spot { field, text })
 }
 
-fn of_place(place: Option<Place>, spot: Option<Spot>, words: Option<String>) -> Option<Meaning> {
+fn of_part(part: Option<PlanPart>, spot: Option<Spot>, words: Option<String>) -> Option<Meaning> {
     match words {
         None => None,
-        Some(words) => Some(Meaning { words, place, spot }),
+        Some(words) => Some(Meaning { words, part, spot }),
     }
 }

@@ -1,6 +1,6 @@
 //! The faults of the tree of the nodes' ids, and of the nodes in the second pass.
 ghost use Rattle.std.specs.Prelude.{◌≡◌, ◌≢◌, ◌++◌, All, IfOk, None, OnOk, Some, map};
-ghost use Rattle.ext_plan_reading.specs.AllFaults.{faults_of_nodes, is_told, new_fault, node_faults, told_after};
+ghost use Rattle.ext_plan_reading.specs.AllFaults.{faults_of_nodes, is_noted, new_fault, node_faults, noted_after};
 ghost use Rattle.ext_plan_reading.specs.InnerSketches.{HasRoom, sketch_view};
 ghost use Rattle.ext_plan_reading.specs.NodeReading.{ids_of, with_repetitions};
 ghost use Rattle.ext_plan_reading.specs.declared.fault.PlanFault.TheVariants.{Memory};
@@ -59,32 +59,32 @@ fn node_faults(
     ensures { IfOk result (λ faults. faults.items ≡ node_faults labels.now (map sketch_view all.now) None 0 (map sketch_view all.now)) }
 {
     let mut faults = Vec::new(alloc);
-    let mut told = None;
+    let mut noted = None;
     for (number, sketch) in all.iter().enumerate() {
         let is_parent = !tree.children(number).is_empty();
         let least = least_test_depth(tree, all, number);
         let read = node_of(alloc, labels, is_parent, least, sketch);
-        told = add_node_fault(&mut faults, told, sketch.table, read.err())?;
+        noted = add_node_fault(&mut faults, noted, sketch.table, read.err())?;
     }
     Ok(faults)
 }
 
 /// Puts the fault of a node of this table behind the others, if it has one and none of the same
-/// table is `told`. Returns the table whose fault was told last.
+/// table is `noted`. Returns the table whose fault was noted last.
 fn add_node_fault(
     faults: &mut Vec<PlanFault>,
-    told: Option<usize>,
+    noted: Option<usize>,
     table: usize,
     found: Option<PlanFault>,
 ) -> Result<Option<usize>, AllocError>
-    ensures faults { OnOk result (faults.new.items ≡ faults.old.items ++ new_fault told table found) }
-    ensures told { IfOk result (λ last. last ≡ told_after told table found) }
+    ensures faults { OnOk result (faults.new.items ≡ faults.old.items ++ new_fault noted table found) }
+    ensures noted { IfOk result (λ last. last ≡ noted_after noted table found) }
     ensures known { OnOk result (found ≢ Some Memory) }
 {
     match found {
-        None => Ok(told),
+        None => Ok(noted),
         Some(PlanFault::Memory) => Err(AllocError),
-        Some(_) if is_told(told, table) => Ok(Some(table)),
+        Some(_) if is_noted(noted, table) => Ok(Some(table)),
         Some(fault) => {
             faults.push(fault)?;
             Ok(Some(table))
@@ -92,12 +92,12 @@ fn add_node_fault(
     }
 }
 
-/// Tests whether the fault of this table is told.
-fn is_told(told: Option<usize>, table: usize) -> bool
-    ensures { result ≡ is_told told table }
+/// Tests whether the fault of this table is noted.
+fn is_noted(noted: Option<usize>, table: usize) -> bool
+    ensures { result ≡ is_noted noted table }
 {
-    match told {
+    match noted {
         None => false,
-        Some(told) => told == table,
+        Some(noted) => noted == table,
     }
 }

@@ -2,7 +2,7 @@ use Rattle.std.proofs.Common.{◌≡◌, ◌++◌, drop, map}
 use Rattle.ext_plan.specs.Plans.{steps_view}
 use Rattle.ext_lint.specs.InnerLists.{note_view}
 use Rattle.ext_lint.specs.Notes.{empty_at, empty_of_kind}
-use Rattle.ext_lint.specs.Places.{numbered}
+use Rattle.ext_lint.specs.NodeSteps.{numbered}
 use Rattle.ext_lint.proofs.callbacks.note_kind.Given as goal
 
 abbrev pub invariant-loop-index : goal.invariant-loop-index

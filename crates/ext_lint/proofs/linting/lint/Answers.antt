@@ -4,22 +4,22 @@ use Rattle.std.proofs.lemmas.List.{length-map}
 use Rattle.ext_plan.specs.Plans.{keys_view, plan_view}
 use Rattle.ext_lint.specs.InnerLists.{note_view, said_view}
 use Rattle.ext_lint.specs.Notes.{notes, stored_by}
-use Rattle.ext_lint.specs.Places.{place_view, places}
+use Rattle.ext_lint.specs.NodeSteps.{node_step_view, node_steps}
 use Rattle.ext_lint.specs.Said.{is_said, keys_said, keys_with}
 use Rattle.ext_lint.proofs.linting.lint.Goals as goal
 
 pub of-rules-requires-clause-known : goal.of-rules-requires-clause-known
 of-rules-requires-clause-known c = λ key text.
     let plan = plan_view c.args.plan.now in
-    let stored : map said_view c.in_ok-stored.stored.items ≡ stored_by plan (places plan) = search rules in
+    let stored : map said_view c.in_ok-stored.stored.items ≡ stored_by plan (node_steps plan) = search rules in
     c.in_ok-set.ensures key text ∙ ap (λ s. is_said (map said_view s) key text) c.as_slice-6.ensures.value ∙ ap (λ s. is_said s key text) stored
 
 pub returns-clause-found : goal.returns-clause-found
 returns-clause-found c =
     let plan = plan_view c.args.plan.now in
     let keys : c.in-Ok.directory ≡ keys_said plan
-    = c.in-Ok.ensures.keys ∙ ap (λ declared. keys_with declared [] (map place_view c.as_slice-3.result.now)) (c.of-keys.ensures ∙ ap keys_view c.as_slice.ensures.value)
-    ∙ ap (keys_with plan.keys []) (ap (map place_view) c.as_slice-3.ensures.value ∙ c.in_ok-places.ensures) in
+    = c.in-Ok.ensures.keys ∙ ap (λ declared. keys_with declared [] (map node_step_view c.as_slice-3.result.now)) (c.of-keys.ensures ∙ ap keys_view c.as_slice.ensures.value)
+    ∙ ap (keys_with plan.keys []) (ap (map node_step_view) c.as_slice-3.ensures.value ∙ c.in_ok-node_steps.ensures) in
     let count = ap length keys in
     let few : nat_lt 1024 (length (keys_said plan)) ≡ false = grind (arith, common_steps, count, c.in-Ok.ensures.few) in
     let all : map note_view c.note_locks.new.notes.items ≡ notes plan = rw few (search (rules, append_assoc)) in

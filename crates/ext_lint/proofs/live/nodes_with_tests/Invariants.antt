@@ -3,7 +3,7 @@ use Rattle.std.specs.Prelude.{◌||◌}
 use Rattle.ext_plan.specs.Plans.{nodes_view, plan_view}
 use Rattle.ext_lint.specs.InnerLists.{has_node}
 use Rattle.ext_lint.specs.Live.{has_test, is_among, path_of_test}
-use Rattle.ext_lint.specs.Places.{numbered}
+use Rattle.ext_lint.specs.NodeSteps.{numbered}
 use Rattle.ext_lint.proofs.live.nodes_with_tests.Given as goal
 
 abbrev pub invariant-loop-number : goal.invariant-loop-number

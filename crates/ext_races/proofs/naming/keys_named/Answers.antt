@@ -3,7 +3,7 @@ use Rattle.std.proofs.Common.{Err, ◌≡◌, ◌+◌, ◌<◌, ◌∙◌, ap, a
 use Rattle.std.proofs.lemmas.Result.{err_from_is_err_and}
 use Rattle.ext_plan.specs.StepCalls.{keys_in}
 use Rattle.ext_plan.proofs.Lists.{map-drop}
-use Rattle.ext_races.specs.InnerNaming.{keys_told}
+use Rattle.ext_races.specs.InnerNaming.{keys_listed}
 use Rattle.ext_races.specs.InnerMade.{made_view}
 use Rattle.ext_races.specs.Touches.{key_of_made, keys_of_steps, with_key_of}
 use Rattle.ext_races.proofs.Named.{length_kept}
@@ -19,7 +19,7 @@ returns-in_err-name-clause-full c =
     let more = map-drop made_view made i c.step-item.result (omega arith) c.step-item.is in
     let rest = map made_view (drop (i + 1) made) in
     let one = with_key_of c.loop-step.directory (key_of_made declared (made_view c.step-item.result)) in
-    let all : keys_told declared (map made_view made) ≡ keys_of_steps declared one rest = c.loop-step.invariant.rest ∙ ap (keys_of_steps declared c.loop-step.directory) more in
+    let all : keys_listed declared (map made_view made) ≡ keys_of_steps declared one rest = c.loop-step.invariant.rest ∙ ap (keys_of_steps declared c.loop-step.directory) more in
     let long = ap length all in
     let kept = length_kept declared one rest in
     let is : c.in_err-name.field-0.0 ≡ TooMany = cc in

@@ -3,7 +3,7 @@ use Rattle.ext_plan.specs.StepCalls.{keys_in}
 use Rattle.ext_plan.specs.StepWords.{word_eq}
 use Rattle.ext_plan.specs.StoreKeys.{key_of_step}
 use Rattle.ext_plan.specs.declared.word.Word.TheVariants as words
-use Rattle.ext_plan.proofs.KeyLists.{place_within}
+use Rattle.ext_plan.proofs.KeyLists.{key_number_within}
 use Rattle.ext_races.specs.Acts.{act_view}
 use Rattle.ext_races.specs.InnerMade.{made_view}
 use Rattle.ext_races.specs.InnerStanding.{IsNumber}
@@ -27,7 +27,7 @@ pub index_mut-requires : goal.index_mut-requires
 index_mut-requires c =
     let key = key_of_step (keys_in c.args.keys.now) (act_view c.in-Some.act).key in
     let number = subst (IsNumber c.args.directory.now key) c.in-Some-2.is c.in_ok-key.ensures in
-    let within = place_within c.args.directory.now key number.0 in
+    let within = key_number_within c.args.directory.now key number.0 in
     let ok = c.args.removed.now.ok in
     omega (arith, within, ok, c.requires, number.1)
 

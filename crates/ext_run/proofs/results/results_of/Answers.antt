@@ -22,8 +22,8 @@ returns-in_err-plain_results g c = record {
 
 pub returns-then-options : goal.returns-then-options
 returns-then-options g c =
-    let told = c.in_ok-plain_results.field-0 in
-    let P : Bool → Type 0 = λ plain. IsRunBy plain c.args.options.lanes (plan_view c.args.plan.now) (results_view told.results.items) told.lacked in
+    let ran = c.in_ok-plain_results.field-0 in
+    let P : Bool → Type 0 = λ plain. IsRunBy plain c.args.options.lanes (plan_view c.args.plan.now) (results_view ran.results.items) ran.lacked in
     record { run = subst P (sym c.if-options.true) c.in_ok-plain_results.ensures.run; in_tree = c.in_ok-plain_results.ensures.in_tree; fault = tt }
 
 pub returns-in-Ok-clause-run : goal.returns-in-Ok-clause-run
@@ -31,7 +31,7 @@ returns-in-Ok-clause-run g c =
     let results = c.in-Ok.results.items in
     let lacked = c.may_have_lacked-lacked.result in
     let P : Bool → Type 0 = λ plain. IsRunBy plain c.args.options.lanes (plan_view c.args.plan.now) (results_view results) lacked in
-    subst P (sym c.if-options.false) (record { ran = map told results; run = c.in-Ok.ensures.run; told = with_texts results }, c.may_have_lacked-lacked.ensures ∙ ap (λ l. may_have_lacked (results_view l)) c.as_slice.ensures.value)
+    subst P (sym c.if-options.false) (record { ran = map told results; run = c.in-Ok.ensures.run; texts = with_texts results }, c.may_have_lacked-lacked.ensures ∙ ap (λ l. may_have_lacked (results_view l)) c.as_slice.ensures.value)
 
 pub returns-in-Ok-clause-fault : goal.returns-in-Ok-clause-fault
 returns-in-Ok-clause-fault g c = tt

@@ -21,14 +21,14 @@ pub report_in-requires : goal.report_in-requires
 report_in-requires g c =
     let nodes = c.args.plan.now.nodes.items in
     let count : length nodes ≡ length c.tree.result.now = sym (ap length c.tree.ensures ∙ length-map (nodes_view nodes) (λ n. n.id) ∙ length-map nodes node_view) in
-    let within = subst (λ n. All (λ r. r.node < n) c.in-Ok.told.results.items) count c.in-Ok.ensures.in_tree in
+    let within = subst (λ n. All (λ r. r.node < n) c.in-Ok.ran.results.items) count c.in-Ok.ensures.in_tree in
     record { in_tree = subst (All (λ r. r.node < length c.tree.result.now)) (sym c.as_slice.ensures.value) within }
 
 pub returns : goal.returns
 returns g c =
     let plan = plan_view c.args.plan.now in
-    let results = results_view c.in-Ok.told.results.items in
-    let output : Output = record { report = c.in_ok-report.report; failed = c.any_failed.result; lacked = c.in-Ok.told.lacked } in
+    let results = results_view c.in-Ok.ran.results.items in
+    let output : Output = record { report = c.in_ok-report.report; failed = c.any_failed.result; lacked = c.in-Ok.ran.lacked } in
     let first : results_view c.as_slice.result.now ≡ results = ap results_view c.as_slice.ensures.value in
     let again : results_view c.as_slice-2.result.now ≡ results = ap results_view c.as_slice-2.ensures.value in
     let of : IsReportOf c.args.options plan (output_view output) = record {

@@ -9,8 +9,8 @@ use Rattle.ext_runner.proofs.results.indented_text.Goals as goal
 pub loop-c-init : goal.loop-c-init
 loop-c-init c =
     let whole : chars_rest c.into_iter-c-iterator.result ≡ c.args.text.now = search rules in
-    let empty : string_bytes c.new-told.result ≡ [] = search rules in
-    record { utf8 = subst IsUtf8 (sym whole) c.utf8.text; written = ap (λ told. told ++ indented (chars_rest c.into_iter-c-iterator.result)) empty ∙ ap indented whole }
+    let empty : string_bytes c.new-reported.result ≡ [] = search rules in
+    record { utf8 = subst IsUtf8 (sym whole) c.utf8.text; written = ap (λ reported. reported ++ indented (chars_rest c.into_iter-c-iterator.result)) empty ∙ ap indented whole }
 
 pub loop-c-preserved : goal.loop-c-preserved
 loop-c-preserved c =

@@ -7,5 +7,5 @@ use Rattle.ext_runner.proofs.results.indented_text.Given as goal
 abbrev pub invariant-loop-c : goal.invariant-loop-c
 invariant-loop-c l = record {
   utf8 : IsUtf8 (chars_rest l.c-iterator);
-  written : string_bytes l.told ++ indented (chars_rest l.c-iterator) ≡ indented l.text;
+  written : string_bytes l.reported ++ indented (chars_rest l.c-iterator) ≡ indented l.text;
 }

@@ -1,8 +1,8 @@
 use Rattle.std.proofs.Common.{◌≡◌, ◌∙◌, length, filter, ap, subst}
 use Rattle.std.specs.List.{range_with_len}
 use Rattle.std.proofs.lemmas.Result.{IfOk-weaker}
-use Rattle.ext_selection.specs.Nodes.{AreClosed, ArePlaces}
-use Rattle.ext_selection.proofs.Places.{chosen_places, closed_places}
+use Rattle.ext_selection.specs.Nodes.{AreClosed, AreIndices}
+use Rattle.ext_selection.proofs.Indices.{chosen_indices, closed_indices}
 use Rattle.ext_selection.specs.Selection.{flag_at, wanted_of, AreKept, AreChosen}
 use Rattle.ext_selection.proofs.selection.chosen.Goals as goal
 
@@ -28,8 +28,8 @@ pub returns-clause-indices : goal.returns-clause-indices
 returns-clause-indices c =
     IfOk-weaker c.indices.result
     (λ indices. AreChosen c.args.nodes.now (wanted_of c.args.selection.now c.args.ids.now) indices.items)
-    (λ indices. ArePlaces (length c.args.nodes.now) indices.items)
-    (λ indices h. chosen_places c.args.nodes.now (wanted_of c.args.selection.now c.args.ids.now) indices.items h)
+    (λ indices. AreIndices (length c.args.nodes.now) indices.items)
+    (λ indices h. chosen_indices c.args.nodes.now (wanted_of c.args.selection.now c.args.ids.now) indices.items h)
     (returns-clause-chosen c)
 
 pub returns-clause-closed : goal.returns-clause-closed
@@ -37,5 +37,5 @@ returns-clause-closed c =
     IfOk-weaker c.indices.result
     (λ indices. AreChosen c.args.nodes.now (wanted_of c.args.selection.now c.args.ids.now) indices.items)
     (λ indices. AreClosed c.args.nodes.now indices.items)
-    (λ indices h. closed_places c.args.nodes.now (wanted_of c.args.selection.now c.args.ids.now) indices.items h)
+    (λ indices h. closed_indices c.args.nodes.now (wanted_of c.args.selection.now c.args.ids.now) indices.items h)
     (returns-clause-chosen c)

@@ -1,8 +1,8 @@
 use Rattle.std.proofs.Common.{ℕ, List, sym, subst, IsPermutation}
 use Rattle.std.proofs.lemmas.Result.{IfOk-weaker}
 use Rattle.std.proofs.lemmas.List.Sorted.{IsPermutation-trans}
-use Rattle.ext_selection.specs.Nodes.{ArePlaces}
-use Rattle.ext_selection.proofs.Places.{moved_places}
+use Rattle.ext_selection.specs.Nodes.{AreIndices}
+use Rattle.ext_selection.proofs.Indices.{moved_indices}
 use Rattle.ext_selection.specs.Shuffling.{drawn_at, IsOrder}
 use Rattle.ext_selection.specs.InnerStarts.{AreStarts, IsRegrouped}
 use Rattle.ext_selection.proofs.Starts.{order_again}
@@ -39,6 +39,6 @@ pub returns-clause-once : goal.returns-clause-once
 returns-clause-once c = λ count h.
     IfOk-weaker c.regrouped.result
     (λ order. IsPermutation c.args.indices.now order.items)
-    (λ order. ArePlaces count order.items)
-    (λ order p. moved_places count c.args.indices.now order.items p h)
+    (λ order. AreIndices count order.items)
+    (λ order p. moved_indices count c.args.indices.now order.items p h)
     (returns-clause-indices c)

@@ -1,6 +1,6 @@
 use Rattle.std.proofs.Common.{◌≡◌, ℕ, length, vec_len}
 use Rattle.std.specs.Prelude.{Some, slice_get}
-use Rattle.ext_selection.specs.Nodes.{ArePlaces}
+use Rattle.ext_selection.specs.Nodes.{AreIndices}
 use Rattle.ext_table.specs.Arranging.{IsRenumbered}
 use Rattle.ext_table.specs.declared.row.Row.{Row}
 use Rattle.ext_table.proofs.Arranging.{AreMoved}
@@ -11,6 +11,6 @@ invariant-loop-row g l = record {
   done_long : length l.done.items ≡ length l.yielded;
   done_len : vec_len l.done ≡ length l.yielded;
   moved_long : length l.moved ≡ l.count;
-  moved : ArePlaces l.count l.places → AreMoved l.places (length l.yielded) l.moved;
-  each : ArePlaces l.count l.places → (at : ℕ) (a b : Row g.row.T.Denot) → slice_get l.fn.rows.items at ≡ Some a → slice_get l.done.items at ≡ Some b → IsRenumbered l.places at a b;
+  moved : AreIndices l.count l.indices → AreMoved l.indices (length l.yielded) l.moved;
+  each : AreIndices l.count l.indices → (at : ℕ) (a b : Row g.row.T.Denot) → slice_get l.fn.rows.items at ≡ Some a → slice_get l.done.items at ≡ Some b → IsRenumbered l.indices at a b;
 }

@@ -17,10 +17,10 @@ returns-then-contains_key-clause-labels c =
 pub invariant_of-self-in-Ok : goal.invariant_of-self-in-Ok
 invariant_of-self-in-Ok c =
     let known = is_known c.self.inside.numbers _ c.self.invariant c.args.label.now in
-    let told = c.len-number.ensures in
+    let long = c.len-number.ensures in
     let within = c.self.inside.labels.ok.0 in
     let same = length-map c.self.inside.labels.items (λ l. l.now) in
-    let all = pushed c.self.inside.numbers c.insert.new.self _ c.args.label.now c.len-number.result (omega (arith, told, within, same)) c.self.invariant (sym known ∙ sym c.if-contains_key.ensures) c.in-Ok.ensures.updates in
+    let all = pushed c.self.inside.numbers c.insert.new.self _ c.args.label.now c.len-number.result (omega (arith, long, within, same)) c.self.invariant (sym known ∙ sym c.if-contains_key.ensures) c.in-Ok.ensures.updates in
     subst (HasNumbers c.insert.new.self) (sym (ap (map (λ l. l.now)) c.in_ok-push.ensures.items ∙ map-push (λ l. l.now) c.self.inside.labels.items c.args.label)) all
 
 pub returns-in-Ok-clause-new : goal.returns-in-Ok-clause-new

@@ -20,10 +20,10 @@ loop-number-preserved c =
     let here = id_here c.args.all.now c.args.tree.now number number c.index-all-number.result c.requires refl (omega arith) c.index-all-number.is in
     let least = c.least_test_depth-least.ensures ∙ ap (least_test_depth (outlines_of all)) here in
     let read = node_at labels (not c.is_empty-is_parent.result) c.least_test_depth-least.result sketch in
-    let fault = read_fault node_view c.node_of-read.result read c.err.result c.node_of-read.ensures c.err.ensures.value c.in_ok-told.ensures.known in
+    let fault = read_fault node_view c.node_of-read.result read c.err.result c.node_of-read.ensures c.err.ensures.value c.in_ok-noted.ensures.known in
     let is = fault ∙ at_number labels c.args.tree.now all sketch number c.children.result.now c.is_empty-is_parent.result c.least_test_depth-least.result c.requires c.children.ensures c.is_empty-is_parent.ensures least in
-    second_turn c.loop-number.faults.items c.add_node_fault.new.faults.items _ labels all c.loop-number.told c.in_ok-told.told number sketch _ c.err.result
-    (ap (λ l. c.loop-number.faults.items ++ node_faults labels all c.loop-number.told number l) (sym more) ∙ c.loop-number.invariant) is c.in_ok-told.ensures.faults c.in_ok-told.ensures.told
+    second_turn c.loop-number.faults.items c.add_node_fault.new.faults.items _ labels all c.loop-number.noted c.in_ok-noted.noted number sketch _ c.err.result
+    (ap (λ l. c.loop-number.faults.items ++ node_faults labels all c.loop-number.noted number l) (sym more) ∙ c.loop-number.invariant) is c.in_ok-noted.ensures.faults c.in_ok-noted.ensures.noted
 
 pub returns : goal.returns
-returns c = all_nodes c.loop-number.faults.items _ c.args.labels.now (map sketch_view c.args.all.now) c.loop-number.told c.loop-number.number _ (ap (map sketch_view) (drop_all c.loop-number.number c.args.all.now (omega arith))) c.loop-number.invariant
+returns c = all_nodes c.loop-number.faults.items _ c.args.labels.now (map sketch_view c.args.all.now) c.loop-number.noted c.loop-number.number _ (ap (map sketch_view) (drop_all c.loop-number.number c.args.all.now (omega arith))) c.loop-number.invariant

@@ -8,7 +8,7 @@ returns-in-Ok-push g c =
     let within : c.in-Some.above < length c.args.self.now.ids.items = search rules in
     record {
       above = c.in-Some.above;
-      above_is = sym c.in-Some.ensures.place;
+      above_is = sym c.in-Some.ensures.index;
       outer_id = c.index.result.now;
       outer_id_is = held_at _ _ _ within c.index.ensures;
       outer = c.index-2.result.now;
