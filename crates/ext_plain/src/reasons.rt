@@ -9,7 +9,9 @@ use ext_model::PlainFault;
 use ext_plan::Reason;
 
 /// Why a call of the store was refused, if it was; or that its place lacked memory.
-pub(crate) fn reason_if_refused<T: Drop>(answer: Result<T, PlainFault>) -> Result<Option<Reason>, Lack>
+pub(crate) fn reason_if_refused<T: Drop>(
+    answer: Result<T, PlainFault>,
+) -> Result<Option<Reason>, Lack>
     ensures why { IfOk result (λ why. IsReasonIfRefused answer why) }
     ensures lacks { IfErr result (λ lack. lack ≡ lacks.Place) }
     ensures memory { IfErr result (λ _. answer ≡ Err plain.Memory) }

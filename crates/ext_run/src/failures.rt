@@ -89,25 +89,23 @@ fn text_of(alloc: Global, fault: &Fault) -> Result<String, AllocError>
     }
 }
 
-/// A listener that keeps the faults of all nodes of a run and forwards each event to `listener`.
-/// Tests show this and no contract does: a contract cannot say what a lock guards.
+/// A listener that keeps the faults of all nodes of a run. Tests show this and no contract does: a
+/// contract cannot say what a lock guards.
 ///
 /// Its lock is held only while a fault is added, and nothing is waited for meanwhile.
 #[derive(Drop)]
-pub struct Failures<'a, R, L> {
+pub struct Failures<'a, R> {
     rt: &'a R,
     alloc: Global,
-    listener: &'a L,
     reported: Mutex<ReportedFaults>,
 }
 
-impl<'a, R: Wait, L: RunListener> Failures<'a, R, L> {
-    /// Makes a listener that has kept no fault and forwards each event to `listener`.
-    pub fn new(rt: &'a R, alloc: Global, listener: &'a L) -> Failures<'a, R, L> {
+impl<'a, R: Wait> Failures<'a, R> {
+    /// Makes a listener that has kept no fault.
+    pub fn new(rt: &'a R, alloc: Global) -> Failures<'a, R> {
         Failures {
             rt,
             alloc,
-            listener,
             reported: Mutex::new(ReportedFaults::new(alloc)),
         }
     }
@@ -118,22 +116,16 @@ impl<'a, R: Wait, L: RunListener> Failures<'a, R, L> {
     }
 }
 
-impl<R: Wait, L: RunListener> RunListener for Failures<'_, R, L> {
-    fn started(&self, node: ContextNo, lane: usize) {
-        self.listener.started(node, lane);
-    }
-
-    /// Keeps the fault and forwards it. It may wait for other threads that add one.
+impl<R: Wait> RunListener for Failures<'_, R> {
+    /// Keeps the fault. It may wait for other threads that add one.
     fn faulted(&self, node: ContextNo, origin: FaultOrigin, fault: &Fault) {
         self.reported
             .lock(self.rt)
             .note(self.alloc, node, origin, fault);
-        self.listener.faulted(node, origin, fault);
     }
 
-    fn ended(&self, ran: &NodeResult, nodes: usize) {
-        self.listener.ended(ran, nodes);
-    }
+    /// Does nothing and returns at once.
+    fn ended(&self, _ran: &NodeResult, _nodes: usize) {}
 }
 
 /// Returns the faults that were reported of a plan's nodes, each on a line. The nodes are in the

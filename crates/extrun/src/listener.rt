@@ -11,17 +11,14 @@ use crate::failing::tell_failures;
 use crate::progress::{Progress, run_beside};
 use ext_model::Fault;
 use ext_run::{
-    Failures, FaultOrigin, NoListener, NodeResult, Options, Plan, ReportForm, RunFault,
-    RunListener, Summary, run_plan,
+    Failures, FaultOrigin, NodeResult, Options, Plan, ReportForm, RunFault, RunListener, Summary,
+    run_plan,
 };
 use std::alloc::AllocError;
 use std::io::Write;
 use std::sync::Wait;
 use std::thread::Threads;
 use std::time::Clock;
-
-/// `Failures` forwards what it is told to a listener. Here it has none.
-const NO_LISTENER: NoListener = NoListener;
 
 /// Runs a plan by the contract of `ext_run::run_plan`, and says beside it on standard error what is
 /// asked for: while it lasts how far it is, and behind its report how long its slowest nodes took,
@@ -75,7 +72,7 @@ struct Listener<'a, R> {
     rt: &'a R,
     progress: Option<Progress<'a, R>>,
     durations: Option<Durations<'a, R>>,
-    failures: Option<Failures<'a, R, NoListener>>,
+    failures: Option<Failures<'a, R>>,
 }
 
 impl<'a, R: Wait + Clock + AllocGlobal + Eprint> Listener<'a, R> {
@@ -94,7 +91,7 @@ impl<'a, R: Wait + Clock + AllocGlobal + Eprint> Listener<'a, R> {
             listener.durations = Some(Durations::new(rt, plan.nodes.len())?);
         }
         if asides.failures {
-            listener.failures = Some(Failures::new(rt, rt.alloc(), &NO_LISTENER));
+            listener.failures = Some(Failures::new(rt, rt.alloc()));
         }
         Ok(listener)
     }

@@ -2,11 +2,10 @@
 use crate::same::same;
 use ext_model::{ContextNo, Fault};
 use ext_run::{
-    Call, Failures, FaultOrigin, Kind, ListForm, NoListener, NodeResult, ReportedFaults,
-    RunListener, Size, failures_text, plan_of,
+    Call, Failures, FaultOrigin, Kind, ListForm, NodeResult, ReportedFaults, RunListener, Size,
+    failures_text, plan_of,
 };
 use std::alloc::{AllocError, Global};
-use std::sync::atomic::{AtomicU64, Ordering};
 use std::test::Fail;
 
 /// A container with two tests.
@@ -38,8 +37,7 @@ fn text_of(alloc: Global, told: &ReportedFaults, form: ListForm) -> Result<Strin
 #[test]
 fn faults_are_told_once_more_by_node(rt: HostRuntime) -> Result<(), Fail> {
     let alloc = rt.alloc();
-    let failures = Failures::new(&rt, alloc, &NoListener);
-    failures.started(2, 0);
+    let failures = Failures::new(&rt, alloc);
     failures.faulted(2, at(Kind::Test, 2, 0, 3), &fault(alloc, "first")?);
     failures.faulted(1, FaultOrigin::Close, &Fault::Memory);
     failures.faulted(2, at(Kind::AfterEach, 0, 1, 0), &fault(alloc, "second")?);
@@ -111,47 +109,6 @@ fn lost_faults_are_told_as_json(rt: HostRuntime) -> Result<(), Fail> {
     let wanted =
         "{\"id\":\"[e:x]\",\"fault\":\"no memory\",\"call\":\"after_all\",\"index\":0,\"of\":\"[e:x]\",\"step\":4}\n{\"lost\":true}\n";
     same(&rt, text.as_str(), wanted, "the faults");
-    Ok(())
-}
-
-/// Counts what it is told, by the place of the node and the kind: 1 for a start, 100 for a fault,
-/// 10,000 for an end.
-#[derive(Drop)]
-struct Sum(AtomicU64);
-
-impl Sum {
-    fn add(&self, node: ContextNo, weight: u64) {
-        self.0
-            .fetch_add((node as u64).saturating_mul(weight), Ordering::SeqCst);
-    }
-}
-
-impl RunListener for Sum {
-    fn started(&self, node: ContextNo, _lane: usize) {
-        self.add(node, 1);
-    }
-
-    fn faulted(&self, node: ContextNo, _origin: FaultOrigin, _fault: &Fault) {
-        self.add(node, 100);
-    }
-
-    fn ended(&self, ran: &NodeResult, _nodes: usize) {
-        self.add(ran.node, 10_000);
-    }
-}
-
-/// A listener behind `Failures` is told of a start, two faults and an end, once each.
-/// Tests `Failures::new`.
-#[test]
-fn each_is_passed_on_once(rt: HostRuntime) -> Result<(), Fail> {
-    let sum = Sum(AtomicU64::new(0));
-    let failures = Failures::new(&rt, rt.alloc(), &sum);
-    failures.started(2, 0);
-    failures.faulted(2, FaultOrigin::Close, &Fault::Memory);
-    failures.faulted(1, FaultOrigin::Close, &Fault::Memory);
-    failures.ended(&NodeResult::skipped(3, true), 4);
-    let told = sum.0.load(Ordering::SeqCst);
-    same(&rt, told, 30_302, "what was passed on");
     Ok(())
 }
 
