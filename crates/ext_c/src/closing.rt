@@ -102,7 +102,7 @@ impl Seat {
         }
     }
 
-    // The same, by a list of this room, which costs the more the more room it has.
+    // `ask` with a list of this room, which costs the more the more room it has.
     #[inline(never)]
     fn ask_with_room<const ROOM: usize>(
         &mut self,

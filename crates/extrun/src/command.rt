@@ -72,7 +72,7 @@ pub(crate) enum Task {
     },
     /// Writes how many nodes, tests and keys it has, if it is no larger than this.
     Check(Size),
-    /// The same, but if it is refused all its faults are printed.
+    /// What `Check` does; if the plan is refused all its faults are printed.
     CheckAll(Size),
     /// Draws its nodes as a tree, if it is no larger than this.
     Draw(Size),

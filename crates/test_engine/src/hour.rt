@@ -187,7 +187,7 @@ fn server_made_once(rt: HostRuntime) {
     ask_both(&rt, &opened.store, first, second, &key);
 }
 
-/// The same, but that it waits while another test makes the server.
+/// Finds the server or makes it, and waits while another test makes it.
 pub(crate) fn find_or_wait<R: Wait>(
     rt: &R,
     store: &Store<Server>,

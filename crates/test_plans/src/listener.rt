@@ -52,7 +52,7 @@ const FAULTS: [(&str, FaultOrigin); 3] = [
     ("close bad", FaultOrigin::Close),
 ];
 
-/// and the report of its run.
+/// The report of the run of that plan.
 const THREE_FAULTS_REPORT: &str =
     "[engine:x] successful closed 0\n[engine:x]/[method:m()] failed closed 1: t (+2)\ntests 1 successful 0 aborted 0 failed 1 skipped 0\ncomputed 0 found 0 closed 1 close faults 1\n";
 
@@ -61,7 +61,7 @@ const THREE_FAULTS_REPORT: &str =
 const ONE_LOCK: &str =
     "[[node]]\nid = \"[engine:x]\"\nlocks = [\"READ db\"]\n\n[[node]]\nid = \"[engine:x]/[method:m()]\"\nmode = \"concurrent\"\nlocks = [\"READ_WRITE db\"]\ntest = [\"fail f\"]\n\n[[node]]\nid = \"[engine:x]/[method:n()]\"\nmode = \"concurrent\"\ntest = [\"fail f\"]\n";
 
-/// The same, but that the first one is isolated.
+/// Two tests that fail and may run at once, but that the first one is isolated.
 const ONE_ISOLATED: &str =
     "[[node]]\nid = \"[engine:x]\"\n\n[[node]]\nid = \"[engine:x]/[method:m()]\"\nmode = \"concurrent\"\nisolated = true\ntest = [\"fail f\"]\n\n[[node]]\nid = \"[engine:x]/[method:n()]\"\nmode = \"concurrent\"\ntest = [\"fail f\"]\n";
 

@@ -49,7 +49,7 @@ pub(crate) enum Call {
     ComputesToClose(char, Answer),
     /// The text with which the factory fails.
     Fails(&'static str),
-    /// The same, with what the compute answers.
+    /// The text with which the factory fails, and what the compute answers.
     FailsAs(&'static str, Answer),
     ShowsFault(u32, Option<&'static str>),
     Shows(u32, Option<Letter>),

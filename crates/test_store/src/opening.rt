@@ -158,7 +158,7 @@ pub fn open_chain(alloc: Global, numbers: u32) -> Option<Opened<Letter>>
     open_chain_for(alloc, numbers, false)
 }
 
-/// The same, which keeps faults or not.
+/// The store of the chain, which keeps faults or not, as `open_chain` opens it.
 pub fn open_chain_for(alloc: Global, numbers: u32, keep_faults: bool) -> Option<Opened<Letter>>
     ensures first { IfSome result (λ o. IsLaneOf o.store.id o.first) }
     ensures second { IfSome result (λ o. IsLaneOf o.store.id o.second) }

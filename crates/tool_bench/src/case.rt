@@ -8,11 +8,11 @@ pub(crate) enum Case {
     GetOwn3,
     /// A look-up of a value at the root, from the third context.
     GetRoot3,
-    /// The same from the sixteenth.
+    /// A look-up of a value at the root, from the sixteenth context.
     GetRoot16,
     /// A look-up of a value at the root, from the third context, by the key's number.
     GetRoot3Numbered,
-    /// The same, and the value that is found is shown.
+    /// What `GetRoot3Numbered` looks up, and then it is shown.
     GetRoot3Shown,
     /// A look-up of a value at the root by the key's number, in an engine with so many classes, from
     /// so many of its last contexts in turn. In all contexts a value stands under another key.

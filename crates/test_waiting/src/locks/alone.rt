@@ -34,7 +34,7 @@ fn take_alone(locks: &Locks, lane: &mut LockLane, set: &LockSet) -> bool
     }
 }
 
-/// The same, of the set that the requests ask for.
+/// Takes the set that the requests ask for, and gives it back: whether it was taken.
 fn ask_alone(
     locks: &Locks,
     lane: &mut LockLane,

@@ -42,7 +42,7 @@ pub(crate) fn take_and_give(
     }
 }
 
-/// The same, of the set that the requests ask for.
+/// Takes the set that the requests ask for, and gives it back, or answers why it is refused.
 fn ask(locks: &Locks, lane: &mut LockLane, requests: &[LockRequest]) -> Answer
     requires lane { lane.old.table ≡ locks.now.table }
     requires nothing { HoldsNothing lane.old }

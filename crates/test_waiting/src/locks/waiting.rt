@@ -148,7 +148,7 @@ fn count_up<R: Wait>(
     ended.fetch_add(1, Ordering::SeqCst);
 }
 
-/// The same, and looks then whether the other lane has ended too.
+/// Does what `count_up` does, and looks then whether the other lane has ended too.
 fn count_and_watch<R: Abort + Clock + Wait>(
     rt: &R,
     locks: &Locks,
