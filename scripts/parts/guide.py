@@ -2,7 +2,7 @@
 
 Above each block of code, but for those of commands (sh), and of Java where they are JUnit's own calls, stands a line such as '<!-- code: crates/NAME/src/guide.rt -->'. The lines of the
 block stand in that file, in order and together, up to the indentation of all of them. Or it is '<!-- file: src/NAME.rt -->', in the guide alone: the block is the next part of this file of the guide's crate, my_engine. The
-files that the blocks make are those of crates/test_engine, but for its name, the line of crates.txt and src/lib.rt. The plan that `extrun --help` shows, and its report, are those of
+files that the blocks make are those of crates/test_guide, but for its name, the line of crates.txt and src/lib.rt. The plan that `extrun --help` shows, and its report, are those of
 examples/server.
 
 Then the guide's commands are run in an empty folder, its files are written there, and the crate's tests are run by `rt try --test`, unproved. With --texts nothing is run. With
@@ -22,7 +22,7 @@ HELP = "examples/cases/help.report"
 HELP_BLOCKS = ["examples/server.toml", "examples/server.report"]
 MARKER = re.compile(r"<!-- (code|file): (\S+) -->")
 CRATE = "my_engine"
-PROVED = "test_engine"
+PROVED = "test_guide"
 OWN_FILES = ["crates.txt", "src/lib.rt"]
 PASSED = re.compile(r"test result: ok\. (\d+) passed; 0 failed")
 

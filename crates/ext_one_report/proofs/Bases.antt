@@ -10,9 +10,9 @@ use Rattle.ext_plan.specs.Plans.{PlanText}
 use Rattle.ext_plan.specs.ReadPlans.{IsReadPlan}
 use Rattle.ext_one_report.specs.Changing.{IsBelow, NodesChangeOnly}
 use Rattle.ext_engine.specs.Meeting.{first_seen}
-use Rattle.ext_parallel.specs.ParallelRun.{ParallelRun}
-use Rattle.ext_plain.specs.PlainRun.{RunState, plain_run}
-use Rattle.ext_plain.specs.ValueStates.{value_opening}
+use Rattle.ext_plan_parallel.specs.ParallelRun.{ParallelRun}
+use Rattle.ext_plan_plain.specs.PlainRun.{RunState, plain_run}
+use Rattle.ext_plan_plain.specs.ValueStates.{value_opening}
 use Rattle.ext_one_report.proofs.StoredRuns.{stand_once, unnamed_keep_nothing}
 use Rattle.ext_races.specs.Touches.{keys_named, numbers_drawn}
 use Rattle.ext_one_report.proofs.MatchingWords.{HasNumberIn, Places, RunView, cell_of}

@@ -10,7 +10,7 @@ use Rattle.ext_lifecycle.specs.FaultTexts.{NodeOutcome}
 use Rattle.ext_engine.specs.RunLaws.{HasRun}
 use Rattle.ext_engine.specs.TreeRun.{Ran}
 use Rattle.ext_engine.proofs.Above.{Under, same_child}
-use Rattle.ext_plain.specs.PlainRun.{RunState}
+use Rattle.ext_plan_plain.specs.PlainRun.{RunState}
 use Rattle.ext_one_report.proofs.ChildLists.{only}
 use Rattle.ext_one_report.proofs.ResultLists.{ran_cases}
 

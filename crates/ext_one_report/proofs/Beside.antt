@@ -12,7 +12,7 @@ use Rattle.ext_locks.specs.Sets.{HeldView}
 use Rattle.ext_plan.specs.Plans.{PlanText}
 use Rattle.ext_store.specs.Stores.{IsLaneOf}
 use Rattle.ext_engine.specs.TreeRun.{MakesOn}
-use Rattle.ext_parallel.specs.StoreCalls.{PlanLane}
+use Rattle.ext_plan_parallel.specs.StoreCalls.{PlanLane}
 use Rattle.ext_one_report.proofs.CallListsWords.{CallsFind, Makes}
 use Rattle.ext_one_report.proofs.MatchingWords.{RunView}
 use Rattle.ext_one_report.proofs.TestCallsWords.{MakesTest, TestFinds, afters_round, befores_round}

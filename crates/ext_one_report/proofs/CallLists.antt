@@ -16,11 +16,11 @@ use Rattle.ext_plan.specs.Plans.{PlanText}
 use Rattle.ext_plan.specs.PlanCalls.{steps_of_call}
 use Rattle.ext_engine.specs.Order.{LaneGoesOn}
 use Rattle.ext_engine.proofs.Going.{goes_same, goes_then}
-use Rattle.ext_plain.specs.ValueStates.{ValueState}
-use Rattle.ext_plain.specs.StepRuns.{StepEnd}
-use Rattle.ext_plain.specs.NodeCalls.{CallsEnd, make, make_befores, make_if_successful}
-use Rattle.ext_plain.specs.PlainRun.{outcome_of}
-use Rattle.ext_parallel.specs.StoreCalls.{PlanLane}
+use Rattle.ext_plan_plain.specs.ValueStates.{ValueState}
+use Rattle.ext_plan_plain.specs.StepRuns.{StepEnd}
+use Rattle.ext_plan_plain.specs.NodeCalls.{CallsEnd, make, make_befores, make_if_successful}
+use Rattle.ext_plan_plain.specs.PlainRun.{outcome_of}
+use Rattle.ext_plan_parallel.specs.StoreCalls.{PlanLane}
 use Rattle.ext_one_report.proofs.MatchingWords.{RunView, Places}
 use Rattle.ext_one_report.proofs.CallListsWords.{CallsAlike, Makes}
 use Rattle.ext_one_report.proofs.Calls.{steps_go}

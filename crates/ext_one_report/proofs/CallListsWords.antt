@@ -1,7 +1,7 @@
 -- The calls of a node, one after another, on a lane that is alone on the places that they touch, beside the same calls of a plain run: when they are compared, and what it
 -- means that they end alike.
 -- JUnit 5 User Guide, "Relative Execution Order of User Code and Extensions". Which calls are made is a definition of [ext_lifecycle Lifecycle], and what they leave in a
--- plain run one of [ext_plain NodeCalls].
+-- plain run one of [ext_plan_plain NodeCalls].
 use Rattle.std.specs.Prelude.{ℕ, ◌≡◌, true, List, [], ◌∷◌, All, map}
 use Rattle.ext_history.specs.Histories.{seen_by}
 use Rattle.ext_lifecycle.specs.declared.call.Call.{Call}
@@ -12,10 +12,10 @@ use Rattle.ext_lifecycle.specs.Lifecycle.{computed_in, endings_of, found_in}
 use Rattle.ext_plan.specs.Plans.{PlanText}
 use Rattle.ext_plan.specs.PlanCalls.{steps_of_call}
 use Rattle.ext_store.specs.Stores.{StoreView}
-use Rattle.ext_plain.specs.ValueStates.{ValueState}
-use Rattle.ext_plain.specs.NodeCalls.{CallsEnd, call_run}
-use Rattle.ext_parallel.specs.PlanSuites.{RunsCall}
-use Rattle.ext_parallel.specs.StoreCalls.{PlanLane}
+use Rattle.ext_plan_plain.specs.ValueStates.{ValueState}
+use Rattle.ext_plan_plain.specs.NodeCalls.{CallsEnd, call_run}
+use Rattle.ext_plan_parallel.specs.PlanSuites.{RunsCall}
+use Rattle.ext_plan_parallel.specs.StoreCalls.{PlanLane}
 use Rattle.ext_one_report.proofs.MatchingWords.{RunView, Places, Matches, IsNumbered}
 use Rattle.ext_one_report.proofs.CallsWords.{StepsHaveRoom}
 use Rattle.ext_one_report.specs.FullRuns.{StepFinds}

@@ -26,14 +26,14 @@ use Rattle.ext_store.specs.LaneCalls.{Frame}
 use Rattle.ext_cells.specs.Lanes.{CellsId, Lane}
 use Rattle.ext_engine.specs.Order.{LaneGoesOn}
 use Rattle.ext_engine.proofs.Going.{goes_same, goes_then}
-use Rattle.ext_plain.specs.ValueStates.{enough, ValueState, with_memory, next_found, found_later}
-use Rattle.ext_plain.specs.StepRuns.{StepEnd, and_then, next_step, step_by, step_run, steps_run, unless_ended}
-use Rattle.ext_plain.proofs.Kept.{IsKept, IsKeptNaming, step-kept-by, steps-kept-by}
-use Rattle.ext_plain.proofs.Memories.{step_by-with}
-use Rattle.ext_plain.proofs.Stepping.{steps_run-nil, steps_run-cons, steps-stop}
-use Rattle.ext_parallel.specs.Saying.{no_memory}
-use Rattle.ext_parallel.specs.StoreCalls.{HasFrame, PlanLane}
-use Rattle.ext_parallel.specs.StoreSteps.{StepRun, StepsRun}
+use Rattle.ext_plan_plain.specs.ValueStates.{enough, ValueState, with_memory, next_found, found_later}
+use Rattle.ext_plan_plain.specs.StepRuns.{StepEnd, and_then, next_step, step_by, step_run, steps_run, unless_ended}
+use Rattle.ext_plan_plain.proofs.Kept.{IsKept, IsKeptNaming, step-kept-by, steps-kept-by}
+use Rattle.ext_plan_plain.proofs.Memories.{step_by-with}
+use Rattle.ext_plan_plain.proofs.Stepping.{steps_run-nil, steps_run-cons, steps-stop}
+use Rattle.ext_plan_parallel.specs.Saying.{no_memory}
+use Rattle.ext_plan_parallel.specs.StoreCalls.{HasFrame, PlanLane}
+use Rattle.ext_plan_parallel.specs.StoreSteps.{StepRun, StepsRun}
 use Rattle.ext_one_report.proofs.MatchingWords.{RunView, IsRunView, Places, Matches, IsNumbered}
 use Rattle.ext_one_report.proofs.StepsWords.{EndAlike, IsAlone, IsLaneIn, WordEndsAlike}
 use Rattle.ext_one_report.specs.FullRuns.{FindsAll, StepFinds, name_of}

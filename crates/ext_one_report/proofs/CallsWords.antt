@@ -1,5 +1,5 @@
 -- The steps of a call on a lane that is alone on the places that they touch, beside the same steps of a plain run: when the two are compared.
--- Javadoc `ExtensionContext.Store`. What a list of steps does on a lane is a definition of [ext_parallel StoreSteps], and what it does in a plain run one of [ext_plain StepRuns].
+-- Javadoc `ExtensionContext.Store`. What a list of steps does on a lane is a definition of [ext_plan_parallel StoreSteps], and what it does in a plain run one of [ext_plan_plain StepRuns].
 -- That memory, places, numbers and keys suffice is asked of how the call ends, and of each step of the plain run.
 use Rattle.ext_one_report.specs.FullRuns.{StepFinds}
 use Rattle.std.specs.Prelude.{ℕ, ◌≡◌, true, List, [], ◌∷◌, All, IfSome, length}
@@ -14,9 +14,9 @@ use Rattle.ext_plan.specs.StepWords.{looks_along}
 use Rattle.ext_plan.specs.ReadPlans.{StayOnPath}
 use Rattle.ext_plan.specs.StoreKeys.{key_of_step}
 use Rattle.ext_store.specs.Stores.{IsLaneOf}
-use Rattle.ext_plain.specs.ValueStates.{ValueState}
-use Rattle.ext_plain.specs.StepRuns.{step_run}
-use Rattle.ext_parallel.specs.StoreCalls.{PlanLane}
+use Rattle.ext_plan_plain.specs.ValueStates.{ValueState}
+use Rattle.ext_plan_plain.specs.StepRuns.{step_run}
+use Rattle.ext_plan_parallel.specs.StoreCalls.{PlanLane}
 use Rattle.ext_one_report.proofs.MatchingWords.{RunView, IsRunView, Places, Matches, IsNumbered}
 use Rattle.ext_one_report.proofs.StepsWords.{HasRoom, IsAlone, IsLaneIn, TouchesWithin}
 

@@ -35,11 +35,11 @@ use Rattle.ext_store.specs.declared.fault.KeepFault.{KeepFault}
 use Rattle.ext_store.specs.declared.fault.KeepFault.TheVariants as keep_fault
 use Rattle.ext_store.specs.Stores.{StoreView, cell_in}
 use Rattle.ext_store.specs.LaneCalls.{Puts, Removes}
-use Rattle.ext_plain.specs.ValueStates.{ValueState, enough, keep_value, reply_to, value_of, refusal as plain_refusal}
-use Rattle.ext_plain.specs.StepRuns.{StepEnd, act_ends, ended, kept_or_refused, numbered_by, put_by, put_in, remove_numbered}
-use Rattle.ext_parallel.specs.Saying.{Ends, EndsUnkept, no_memory}
-use Rattle.ext_parallel.specs.StoreCalls.{PlanLane, EndsChange, EndsPut, StoresThere}
-use Rattle.ext_parallel.specs.StoreSteps.{PutsKept, StepPuts}
+use Rattle.ext_plan_plain.specs.ValueStates.{ValueState, enough, keep_value, reply_to, value_of, refusal as plain_refusal}
+use Rattle.ext_plan_plain.specs.StepRuns.{StepEnd, act_ends, ended, kept_or_refused, numbered_by, put_by, put_in, remove_numbered}
+use Rattle.ext_plan_parallel.specs.Saying.{Ends, EndsUnkept, no_memory}
+use Rattle.ext_plan_parallel.specs.StoreCalls.{PlanLane, EndsChange, EndsPut, StoresThere}
+use Rattle.ext_plan_parallel.specs.StoreSteps.{PutsKept, StepPuts}
 use Rattle.ext_one_report.proofs.StandingsWords.{Meaning, Standing, nothing, value, fault, sealed, AreMatched, puts, removes, of_value}
 use Rattle.ext_one_report.proofs.MatchingWords.{RunView, IsRunView, HasNumberIn, Places, Matches, IsNumbered, cell_of, plain_meaning, AreEqualEvents, after_event}
 use Rattle.ext_one_report.proofs.StepsWords.{IsAlone, AreCompared, ActsWithin, EndAlike, WordEndsAlike, EndsAnywhere}

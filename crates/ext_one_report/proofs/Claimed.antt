@@ -14,8 +14,8 @@ use Rattle.ext_tree.specs.Keys.{KeyValue}
 use Rattle.ext_lifecycle.specs.Endings.{successful}
 use Rattle.ext_plan.specs.StoreKeys.{is_there, number_of_key}
 use Rattle.ext_plan.specs.Values.{ValueText}
-use Rattle.ext_plain.specs.ValueStates.{ValueState, after_act, keep_value, next_number, reply_to, value_of, refusal as plain_refusal}
-use Rattle.ext_plain.specs.StepRuns.{StepEnd, claim_and, factory_gave, or_refused}
+use Rattle.ext_plan_plain.specs.ValueStates.{ValueState, after_act, keep_value, next_number, reply_to, value_of, refusal as plain_refusal}
+use Rattle.ext_plan_plain.specs.StepRuns.{StepEnd, claim_and, factory_gave, or_refused}
 use Rattle.ext_one_report.proofs.MatchingWords.{RunView, Places, Matches, IsNumbered, plain_slot, after_event}
 use Rattle.ext_one_report.proofs.Matching.{draw_happens, draw_slots, event_keeps_numbered, kept_drawn, place_then, plain_there, value_last, values_keep_matches, values_keep_numbered}
 use Rattle.ext_one_report.proofs.OwnCell.{but, others_event}

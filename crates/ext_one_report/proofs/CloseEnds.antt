@@ -27,11 +27,11 @@ use Rattle.ext_plan.specs.StoreKeys.{is_there, number_of_key}
 use Rattle.ext_plan.specs.Values.{close_fault}
 use Rattle.ext_engine.specs.Meeting.{HasSeenWithin, first_seen}
 use Rattle.ext_engine.specs.TreeRun.{ClosesNode}
-use Rattle.ext_parallel.specs.declared.steps.stored_value.StoredValue.{StoredValue}
-use Rattle.ext_parallel.specs.StoreCalls.{PlanLane, stored_view}
+use Rattle.ext_plan_parallel.specs.declared.steps.stored_value.StoredValue.{StoredValue}
+use Rattle.ext_plan_parallel.specs.StoreCalls.{PlanLane, stored_view}
 use Rattle.ext_races.specs.Touches.{keys_named}
-use Rattle.ext_plain.specs.ValueStates.{ValueState, value_of}
-use Rattle.ext_plain.specs.ContextEnds.{closeables, faults_of_closes, seal_keys}
+use Rattle.ext_plan_plain.specs.ValueStates.{ValueState, value_of}
+use Rattle.ext_plan_plain.specs.ContextEnds.{closeables, faults_of_closes, seal_keys}
 use Rattle.ext_one_report.proofs.MatchingWords.{HasNumberIn, IsRunView, Places, RunView, cell_of, plain_meaning, plain_slot}
 use Rattle.ext_one_report.proofs.Rooms.{GaveFew}
 use Rattle.ext_one_report.proofs.StandingsWords.{AreMatched}

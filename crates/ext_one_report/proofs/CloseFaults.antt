@@ -7,10 +7,10 @@ use Rattle.ext_values.specs.Known.{known_at}
 use Rattle.ext_lifecycle.specs.FaultTexts.{fault_text}
 use Rattle.ext_closing.specs.Closing.{Answer, CallIf, Closing, ClosesOne, fault_in}
 use Rattle.ext_plan.specs.Values.{ValueText, close_fault}
-use Rattle.ext_plain.specs.ValueStates.{value_of}
-use Rattle.ext_plain.specs.ContextEnds.{closeables, if_closeable}
-use Rattle.ext_parallel.specs.declared.steps.stored_value.StoredValue.{StoredValue}
-use Rattle.ext_parallel.specs.StoreCalls.{PlanLane, stored_view}
+use Rattle.ext_plan_plain.specs.ValueStates.{value_of}
+use Rattle.ext_plan_plain.specs.ContextEnds.{closeables, if_closeable}
+use Rattle.ext_plan_parallel.specs.declared.steps.stored_value.StoredValue.{StoredValue}
+use Rattle.ext_plan_parallel.specs.StoreCalls.{PlanLane, stored_view}
 use Rattle.ext_one_report.specs.FullRuns.{AnswersText, ClosesFully}
 use Rattle.ext_one_report.proofs.CloseLists.{there_of, with_some}
 

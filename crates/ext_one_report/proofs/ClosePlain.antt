@@ -10,9 +10,9 @@ use Rattle.ext_model.specs.State.{State, standing_value}
 use Rattle.ext_model.specs.Events.{Reply, Happens, Answers, Refuses, seal_reply}
 use Rattle.ext_model.specs.Plain.{Place, any_lane, same_place, state_by}
 use Rattle.ext_model.proofs.Changes.{here, same_place_is}
-use Rattle.ext_plain.specs.ValueStates.{ValueState, after_act}
-use Rattle.ext_plain.specs.ContextEnds.{seal_keys}
-use Rattle.ext_plain.proofs.LimitsStay.{seals-limits}
+use Rattle.ext_plan_plain.specs.ValueStates.{ValueState, after_act}
+use Rattle.ext_plan_plain.specs.ContextEnds.{seal_keys}
+use Rattle.ext_plan_plain.proofs.LimitsStay.{seals-limits}
 use Rattle.ext_one_report.proofs.Closes.{PlainSealsPlaces, seal_of}
 
 -- ---- one seal

@@ -20,8 +20,8 @@ use Rattle.ext_plan.specs.StoreKeys.{is_there, number_of_key}
 use Rattle.ext_plan.specs.StepTexts.{close_text}
 use Rattle.ext_plan.specs.Values.{ValueText, close_fault}
 use Rattle.ext_plan.proofs.KeyLists.{has_key_number, key_number_within}
-use Rattle.ext_plain.specs.ValueStates.{ValueState, value_of}
-use Rattle.ext_plain.proofs.Numberings.{there_by}
+use Rattle.ext_plan_plain.specs.ValueStates.{ValueState, value_of}
+use Rattle.ext_plan_plain.proofs.Numberings.{there_by}
 use Rattle.ext_one_report.proofs.StoredWords.{number_in}
 use Rattle.ext_one_report.proofs.StandingsWords.{AreMatched, Standing, fault, nothing, sealed, standing_of, value}
 use Rattle.ext_one_report.proofs.MatchingWords.{HasNumberIn, IsRunView, RunView, TextMeaning, cell_of, plain_meaning, plain_slot}

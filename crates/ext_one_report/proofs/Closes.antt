@@ -15,11 +15,11 @@ use Rattle.ext_locks.specs.Opening.{LocksView}
 use Rattle.ext_plan.specs.Plans.{PlanText}
 use Rattle.ext_engine.specs.Meeting.{HasSeenWithin, first_seen}
 use Rattle.ext_engine.specs.TreeRun.{ClosesNode}
-use Rattle.ext_parallel.specs.StoreCalls.{PlanLane}
-use Rattle.ext_plain.specs.ValueStates.{ValueState}
-use Rattle.ext_plain.specs.ContextEnds.{faults_of_closes, seal_keys}
-use Rattle.ext_plain.specs.NodeCalls.{CallsEnd}
-use Rattle.ext_plain.specs.PlainRun.{outcome_of}
+use Rattle.ext_plan_parallel.specs.StoreCalls.{PlanLane}
+use Rattle.ext_plan_plain.specs.ValueStates.{ValueState}
+use Rattle.ext_plan_plain.specs.ContextEnds.{faults_of_closes, seal_keys}
+use Rattle.ext_plan_plain.specs.NodeCalls.{CallsEnd}
+use Rattle.ext_plan_plain.specs.PlainRun.{outcome_of}
 use Rattle.ext_one_report.proofs.CallListsWords.{CallsAlike}
 use Rattle.ext_one_report.proofs.MatchingWords.{HasNumberIn, Places, RunView, cell_of}
 use Rattle.ext_one_report.proofs.StepsWords.{IsLaneIn}

@@ -14,7 +14,7 @@ use Rattle.ext_plan.specs.StoreKeys.{key_of_step}
 use Rattle.ext_races.specs.Acts.{ActText, act_of}
 use Rattle.ext_races.specs.MadeSteps.{plan_path, steps_before}
 use Rattle.ext_races.specs.Touches.{is_removed}
-use Rattle.ext_plain.specs.ValueStates.{ValueState}
+use Rattle.ext_plan_plain.specs.ValueStates.{ValueState}
 use Rattle.ext_one_report.proofs.MatchingWords.{plain_slot}
 
 -- in the plain run nothing stands under the key in these contexts

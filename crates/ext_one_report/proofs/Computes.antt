@@ -42,12 +42,12 @@ use Rattle.ext_store.specs.declared.computed.Compute.TheVariants as computes
 use Rattle.ext_store.specs.Stores.{context_cells}
 use Rattle.ext_store.specs.Computing.{ComputesFrom, Fills, Uses, Computes, IsRefused, Meets, given_up_events}
 use Rattle.ext_store.specs.Waiting.{ComputesAfterWaits, IsDecided}
-use Rattle.ext_plain.specs.ValueStates.{ValueState, enough, value_of}
-use Rattle.ext_plain.specs.StepRuns.{StepEnd, ended, compute_looked, compute_numbered, factory_gave, found_along, numbered_by}
-use Rattle.ext_parallel.specs.declared.steps.stored_value.StoredValue.{StoredValue}
-use Rattle.ext_parallel.specs.Saying.{Ends, EndsRefused, EndsUnkept}
-use Rattle.ext_parallel.specs.StoreCalls.{PlanLane, ComputesValue, EndsCompute, Shows, stored_view}
-use Rattle.ext_parallel.specs.StoreSteps.{StepComputes}
+use Rattle.ext_plan_plain.specs.ValueStates.{ValueState, enough, value_of}
+use Rattle.ext_plan_plain.specs.StepRuns.{StepEnd, ended, compute_looked, compute_numbered, factory_gave, found_along, numbered_by}
+use Rattle.ext_plan_parallel.specs.declared.steps.stored_value.StoredValue.{StoredValue}
+use Rattle.ext_plan_parallel.specs.Saying.{Ends, EndsRefused, EndsUnkept}
+use Rattle.ext_plan_parallel.specs.StoreCalls.{PlanLane, ComputesValue, EndsCompute, Shows, stored_view}
+use Rattle.ext_plan_parallel.specs.StoreSteps.{StepComputes}
 use Rattle.ext_one_report.specs.Changing.{events_at}
 use Rattle.ext_one_report.proofs.StandingsWords.{Meaning, Shown, absent, found, met, closed, value_shown, fault_shown, shown_of, ShowTheSame, nothing, value, standing_of, value_stands}
 use Rattle.ext_one_report.proofs.MatchingWords.{RunView, IsRunView, HasNumberIn, Places, Matches, IsNumbered, cell_of, plain_meaning, plain_slot, text_of}

@@ -19,15 +19,15 @@ use Rattle.ext_races.specs.MadeSteps.{MadeText, calls_after, calls_before, calls
 use Rattle.ext_races.specs.Touches.{numbers_drawn}
 use Rattle.ext_races.proofs.Calls.{calls_are}
 use Rattle.ext_races.proofs.Paths.{path_is}
-use Rattle.ext_plain.specs.NodeCalls.{CallsEnd, call_run, make, make_all, make_befores, make_if_successful, no_calls}
-use Rattle.ext_plain.specs.PlainRun.{RunState, body_run, container_run, node_run, test_node_run}
-use Rattle.ext_plain.specs.StepRuns.{StepEnd}
-use Rattle.ext_plain.specs.ValueStates.{ValueState}
-use Rattle.ext_plain.proofs.Below.{children-all}
-use Rattle.ext_plain.proofs.Ends.{body_end, container_end, test_end}
-use Rattle.ext_plain.proofs.Nodes.{child_path, node_run-suc, node_run-zero, start_is}
-use Rattle.ext_plain.proofs.Reached.{Stands}
-use Rattle.ext_plain.proofs.Skipping.{distinct-below, distinct-ordered}
+use Rattle.ext_plan_plain.specs.NodeCalls.{CallsEnd, call_run, make, make_all, make_befores, make_if_successful, no_calls}
+use Rattle.ext_plan_plain.specs.PlainRun.{RunState, body_run, container_run, node_run, test_node_run}
+use Rattle.ext_plan_plain.specs.StepRuns.{StepEnd}
+use Rattle.ext_plan_plain.specs.ValueStates.{ValueState}
+use Rattle.ext_plan_plain.proofs.Below.{children-all}
+use Rattle.ext_plan_plain.proofs.Ends.{body_end, container_end, test_end}
+use Rattle.ext_plan_plain.proofs.Nodes.{child_path, node_run-suc, node_run-zero, start_is}
+use Rattle.ext_plan_plain.proofs.Reached.{Stands}
+use Rattle.ext_plan_plain.proofs.Skipping.{distinct-below, distinct-ordered}
 use Rattle.ext_engine.proofs.Above.{Under, parent_first, same_child, under_child, under_itself, under_order, under_root, within_tree}
 use Rattle.ext_one_report.proofs.CoveredTouches.{turn_is}
 use Rattle.ext_one_report.proofs.CountSteps.{Draws, GoesOn, draws_more, draws_none, draws_then, seals_draw, steps_draw}

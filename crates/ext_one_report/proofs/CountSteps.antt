@@ -10,13 +10,13 @@ use Rattle.ext_plan.specs.Plans.{KeyText, StepText, keyed, fail, abort}
 use Rattle.ext_plan.specs.StepCalls.{label_of}
 use Rattle.ext_plan.specs.StoreKeys.{key_of_step}
 use Rattle.ext_races.specs.Acts.{draws}
-use Rattle.ext_plain.specs.ContextEnds.{seal_keys}
-use Rattle.ext_plain.specs.PlainRunLaws.{HasValues, named_by}
-use Rattle.ext_plain.specs.StepRuns.{StepEnd, none_numbered, number_by, remove_numbered, step_run, steps_run, want_numbered}
-use Rattle.ext_plain.specs.ValueStates.{Numbering, ValueState, enough, full, known, next, numbering_of, with_number}
-use Rattle.ext_plain.proofs.Kept.{IsKeptNumbered, seals-kept, steps-kept}
-use Rattle.ext_plain.proofs.KeptFaults.{no_fault_stays}
-use Rattle.ext_plain.proofs.Stepping.{steps_run-nil}
+use Rattle.ext_plan_plain.specs.ContextEnds.{seal_keys}
+use Rattle.ext_plan_plain.specs.PlainRunLaws.{HasValues, named_by}
+use Rattle.ext_plan_plain.specs.StepRuns.{StepEnd, none_numbered, number_by, remove_numbered, step_run, steps_run, want_numbered}
+use Rattle.ext_plan_plain.specs.ValueStates.{Numbering, ValueState, enough, full, known, next, numbering_of, with_number}
+use Rattle.ext_plan_plain.proofs.Kept.{IsKeptNumbered, seals-kept, steps-kept}
+use Rattle.ext_plan_plain.proofs.KeptFaults.{no_fault_stays}
+use Rattle.ext_plan_plain.proofs.Stepping.{steps_run-nil}
 use Rattle.ext_one_report.proofs.Calls.{plain_goes, plain_stops, steps_faults, steps_memory}
 use Rattle.ext_one_report.proofs.Rooms.{steps_draw_few, valued}
 

@@ -6,8 +6,8 @@ use Rattle.std.proofs.lemmas.Bool.Decides.{eqb_tells}
 use Rattle.std.proofs.lemmas.List.FromFn.{get_or-range_with_len, length-range_with_len}
 use Rattle.std.proofs.lemmas.List.Sums.{get_or-le-sum_by, sum_by-append, sum_by-cons}
 use Rattle.ext_history.proofs.Lists.{contains_cons, contains_here, contains_later, contains_none}
-use Rattle.ext_plain.proofs.Reached.{Stands}
-use Rattle.ext_plain.proofs.Skipping.{Distinct}
+use Rattle.ext_plan_plain.proofs.Reached.{Stands}
+use Rattle.ext_plan_plain.proofs.Skipping.{Distinct}
 
 -- ---- sums
 

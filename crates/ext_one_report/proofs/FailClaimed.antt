@@ -14,8 +14,8 @@ use Rattle.ext_tree.specs.Keys.{KeyValue}
 use Rattle.ext_lifecycle.specs.Endings.{successful}
 use Rattle.ext_plan.specs.StoreKeys.{is_there, number_of_key}
 use Rattle.ext_plan.specs.Values.{ValueText}
-use Rattle.ext_plain.specs.ValueStates.{ValueState, after_act, next_number, reply_to, value_of, refusal as plain_refusal}
-use Rattle.ext_plain.specs.StepRuns.{StepEnd, ended, factory_failed, or_refused}
+use Rattle.ext_plan_plain.specs.ValueStates.{ValueState, after_act, next_number, reply_to, value_of, refusal as plain_refusal}
+use Rattle.ext_plan_plain.specs.StepRuns.{StepEnd, ended, factory_failed, or_refused}
 use Rattle.ext_one_report.proofs.MatchingWords.{RunView, Places, Matches, IsNumbered, plain_slot, text_of, after_event}
 use Rattle.ext_one_report.proofs.Matching.{draw_happens, event_keeps_numbered, place_then, plain_there, values_keep_matches, values_keep_numbered}
 use Rattle.ext_one_report.proofs.OwnCell.{but, others_event}

@@ -42,11 +42,11 @@ use Rattle.ext_store.specs.declared.computed.Compute.TheVariants as computes
 use Rattle.ext_store.specs.Stores.{context_cells}
 use Rattle.ext_store.specs.Computing.{ComputesFrom, Fails, Uses, Computes, IsRefused, Meets, given_up_events}
 use Rattle.ext_store.specs.Waiting.{ComputesAfterWaits}
-use Rattle.ext_plain.specs.ValueStates.{ValueState, enough, value_of}
-use Rattle.ext_plain.specs.StepRuns.{StepEnd, ended, computefail_looked, computefail_numbered, factory_failed, found_along}
-use Rattle.ext_parallel.specs.declared.steps.stored_value.StoredValue.{StoredValue}
-use Rattle.ext_parallel.specs.Saying.{Ends, EndsRefused, EndsUnkept}
-use Rattle.ext_parallel.specs.StoreCalls.{PlanLane, ComputesFault, EndsComputeFail, Shows}
+use Rattle.ext_plan_plain.specs.ValueStates.{ValueState, enough, value_of}
+use Rattle.ext_plan_plain.specs.StepRuns.{StepEnd, ended, computefail_looked, computefail_numbered, factory_failed, found_along}
+use Rattle.ext_plan_parallel.specs.declared.steps.stored_value.StoredValue.{StoredValue}
+use Rattle.ext_plan_parallel.specs.Saying.{Ends, EndsRefused, EndsUnkept}
+use Rattle.ext_plan_parallel.specs.StoreCalls.{PlanLane, ComputesFault, EndsComputeFail, Shows}
 use Rattle.ext_one_report.specs.Changing.{events_at}
 use Rattle.ext_one_report.proofs.StandingsWords.{absent, found, met, closed, value_shown, fault_shown, shown_of, ShowTheSame, fault, standing_of, fault_stands}
 use Rattle.ext_one_report.proofs.MatchingWords.{RunView, IsRunView, HasNumberIn, Places, Matches, IsNumbered, cell_of, plain_meaning, text_of}

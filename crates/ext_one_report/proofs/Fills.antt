@@ -9,11 +9,11 @@ use Rattle.ext_model.specs.History.{History}
 use Rattle.ext_lifecycle.specs.FaultTexts.{NodeOutcome}
 use Rattle.ext_engine.specs.Order.{IsMadeIn}
 use Rattle.ext_engine.specs.TreeRun.{Ran}
-use Rattle.ext_parallel.specs.StoreCalls.{PlanLane}
+use Rattle.ext_plan_parallel.specs.StoreCalls.{PlanLane}
 use Rattle.ext_history.proofs.Once.{Once}
 use Rattle.ext_tree.specs.Keys.{KeyValue}
 use Rattle.ext_plan.specs.Values.{ValueText}
-use Rattle.ext_plain.specs.ValueStates.{ValueState}
+use Rattle.ext_plan_plain.specs.ValueStates.{ValueState}
 use Rattle.ext_one_report.proofs.MatchingWords.{HasNumberIn, RunView, cell_of, plain_slot}
 use Rattle.ext_one_report.proofs.Open.{Given, Open, at_place, of_value, still_open, values_of}
 

@@ -8,7 +8,7 @@ use Rattle.ext_history.proofs.Lists.{contains_cons, contains_here, contains_late
 use Rattle.ext_history.proofs.Once.{Once}
 use Rattle.ext_lifecycle.specs.FaultTexts.{NodeOutcome}
 use Rattle.ext_plan.specs.Values.{ValueText}
-use Rattle.ext_plain.specs.ValueStates.{ValueState}
+use Rattle.ext_plan_plain.specs.ValueStates.{ValueState}
 use Rattle.ext_engine.specs.RunLaws.{HasRun, nodes_of}
 use Rattle.ext_engine.specs.TreeRun.{Ran}
 use Rattle.ext_one_report.proofs.Fills.{Fills, IsSettled, Spot, computed_at, computed_of, computed_told}

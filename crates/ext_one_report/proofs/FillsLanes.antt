@@ -7,7 +7,7 @@ use Rattle.ext_model.specs.History.{History}
 use Rattle.ext_engine.specs.Meeting.{HasSeenWithin}
 use Rattle.ext_engine.specs.Order.{AllGoOn, IsMadeIn}
 use Rattle.ext_engine.proofs.Acts.{all_made_then, same_made}
-use Rattle.ext_parallel.specs.StoreCalls.{PlanLane}
+use Rattle.ext_plan_parallel.specs.StoreCalls.{PlanLane}
 use Rattle.ext_one_report.proofs.Fills.{IsFilledBy, IsFilledIn, Spot}
 use Rattle.ext_one_report.proofs.LanesAlone.{has_come, is_more}
 use Rattle.ext_one_report.proofs.LanesApart.{made_first, made_later}

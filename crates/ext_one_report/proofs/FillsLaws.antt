@@ -7,7 +7,7 @@ use Rattle.ext_history.proofs.Lists.{bools, contains_cons, contains_filter, cont
 use Rattle.ext_history.proofs.Once.{Once, once-append}
 use Rattle.ext_tree.specs.Keys.{KeyValue}
 use Rattle.ext_plan.specs.Values.{ValueText}
-use Rattle.ext_plain.specs.ValueStates.{ValueState}
+use Rattle.ext_plan_plain.specs.ValueStates.{ValueState}
 use Rattle.ext_one_report.proofs.Fills.{Fills, FillsAs, FillsBeside, FillsNarrow, FillsNone, FillsNoValue, FillsOne, FillsThen, IsSettled, Spot}
 use Rattle.ext_one_report.proofs.MatchingWords.{plain_slot}
 use Rattle.ext_one_report.proofs.OnCells.{passes, passes_not}

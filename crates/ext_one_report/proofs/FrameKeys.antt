@@ -15,11 +15,11 @@ use Rattle.ext_races.specs.Acts.{act_of}
 use Rattle.ext_races.specs.MadeSteps.{calls_of, made_by, steps_made}
 use Rattle.ext_races.specs.Touches.{key_of_act, key_of_made, keys_named}
 use Rattle.ext_races.proofs.Lists.{all_contained}
-use Rattle.ext_plain.specs.ValueStates.{ValueState}
-use Rattle.ext_plain.specs.ContextEnds.{seal_keys}
-use Rattle.ext_plain.specs.PlainRun.{RunState, node_run}
-use Rattle.ext_plain.specs.PlainRunLaws.{NamesOneOf}
-use Rattle.ext_plain.proofs.Values.{act-values}
+use Rattle.ext_plan_plain.specs.ValueStates.{ValueState}
+use Rattle.ext_plan_plain.specs.ContextEnds.{seal_keys}
+use Rattle.ext_plan_plain.specs.PlainRun.{RunState, node_run}
+use Rattle.ext_plan_plain.specs.PlainRunLaws.{NamesOneOf}
+use Rattle.ext_plan_plain.proofs.Values.{act-values}
 use Rattle.ext_one_report.proofs.Rooms.{GaveFew, few_are_given}
 use Rattle.ext_one_report.proofs.FrameNodes.{KeepNodes, nodes_keep, within_nodes}
 use Rattle.ext_one_report.proofs.CoveredTouches.{is_made}

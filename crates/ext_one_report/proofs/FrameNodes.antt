@@ -17,12 +17,12 @@ use Rattle.ext_plan.specs.ReadPlans.{NodesAreTree, TestsHaveNoChildren, ids_of_n
 use Rattle.ext_races.specs.MadeSteps.{calls_of, plan_path}
 use Rattle.ext_races.proofs.Lists.{all_contained, contains_first}
 use Rattle.ext_races.proofs.Paths.{path_is}
-use Rattle.ext_plain.specs.ValueStates.{ValueState}
-use Rattle.ext_plain.specs.ContextEnds.{seal_keys}
-use Rattle.ext_plain.specs.NodeCalls.{CallsEnd, befores_run, call_run, make, make_all, make_befores, make_if_successful, no_calls, test_run}
-use Rattle.ext_plain.specs.PlainRun.{RunState, body_run, container_run, node_run, test_node_run}
-use Rattle.ext_plain.proofs.Below.{children-all}
-use Rattle.ext_plain.proofs.Ends.{body_end, container_end, test_end}
+use Rattle.ext_plan_plain.specs.ValueStates.{ValueState}
+use Rattle.ext_plan_plain.specs.ContextEnds.{seal_keys}
+use Rattle.ext_plan_plain.specs.NodeCalls.{CallsEnd, befores_run, call_run, make, make_all, make_befores, make_if_successful, no_calls, test_run}
+use Rattle.ext_plan_plain.specs.PlainRun.{RunState, body_run, container_run, node_run, test_node_run}
+use Rattle.ext_plan_plain.proofs.Below.{children-all}
+use Rattle.ext_plan_plain.proofs.Ends.{body_end, container_end, test_end}
 use Rattle.ext_one_report.proofs.Calls.{all_first, all_later}
 use Rattle.ext_one_report.proofs.MatchingWords.{Places}
 use Rattle.ext_one_report.proofs.Covers.{AreCovered}

@@ -14,7 +14,7 @@ use Rattle.ext_tree.specs.Keys.{KeyValue}
 use Rattle.ext_plan.specs.StoreKeys.{is_there, number_of_key}
 use Rattle.ext_plan.specs.Values.{ValueText}
 use Rattle.ext_plan.proofs.KeyLists.{is_contained, not_contained, key_number_last, key_number_within}
-use Rattle.ext_plain.specs.ValueStates.{ValueState, after_act, keep_value, next_number, reply_to, value_of, with_number}
+use Rattle.ext_plan_plain.specs.ValueStates.{ValueState, after_act, keep_value, next_number, reply_to, value_of, with_number}
 use Rattle.ext_one_report.proofs.MatchingWords.{Places, plain_slot}
 use Rattle.ext_one_report.proofs.Matching.{draw_slots, one_of_place, place_stays, plain_none, plain_there, there_more, values_known}
 use Rattle.ext_one_report.proofs.PlainFrames.{IsOpen, LeavesElse}

@@ -23,12 +23,12 @@ use Rattle.ext_plan.specs.Values.{ValueText}
 use Rattle.ext_plan.proofs.KeyLists.{key_number_last}
 use Rattle.ext_races.specs.MadeSteps.{calls_of}
 use Rattle.ext_races.proofs.Lists.{contains_first, contains_later}
-use Rattle.ext_plain.specs.ValueStates.{Numbering, ValueState, after_act, enough, full, keep_value, known, next, next_number, numbering_of, why_refused, with_number}
-use Rattle.ext_plain.specs.ContextEnds.{seal_keys}
-use Rattle.ext_plain.specs.StepRuns.{StepEnd, acts_by, claim_and, compute_looked, compute_numbered, computefail_looked, ended, factory_failed, factory_gave, found_along, kept_or_refused, number_by, numbered_by, or_refused, put_by, put_in, step_run, steps_run}
-use Rattle.ext_plain.specs.NodeCalls.{call_run}
-use Rattle.ext_plain.proofs.Numberings.{known_is, next_is, there_then}
-use Rattle.ext_plain.proofs.Stepping.{steps_run-nil}
+use Rattle.ext_plan_plain.specs.ValueStates.{Numbering, ValueState, after_act, enough, full, keep_value, known, next, next_number, numbering_of, why_refused, with_number}
+use Rattle.ext_plan_plain.specs.ContextEnds.{seal_keys}
+use Rattle.ext_plan_plain.specs.StepRuns.{StepEnd, acts_by, claim_and, compute_looked, compute_numbered, computefail_looked, ended, factory_failed, factory_gave, found_along, kept_or_refused, number_by, numbered_by, or_refused, put_by, put_in, step_run, steps_run}
+use Rattle.ext_plan_plain.specs.NodeCalls.{call_run}
+use Rattle.ext_plan_plain.proofs.Numberings.{known_is, next_is, there_then}
+use Rattle.ext_plan_plain.proofs.Stepping.{steps_run-nil}
 use Rattle.ext_one_report.proofs.PlanCells.{changed_by}
 use Rattle.ext_one_report.proofs.MatchingWords.{Places}
 use Rattle.ext_one_report.proofs.Calls.{plain_goes, plain_stops, step_memory}

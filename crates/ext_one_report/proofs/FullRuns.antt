@@ -1,5 +1,5 @@
 -- Runs of a plan on several lanes that lack nothing: each call and each close finds all memory, numbers, keys and places that it wants, and is shown what stands there.
--- JUnit 5 User Guide, "Parallel Execution"; what a run of a plan is stands in [ext_parallel ParallelRun].
+-- JUnit 5 User Guide, "Parallel Execution"; what a run of a plan is stands in [ext_plan_parallel ParallelRun].
 use Rattle.ext_one_report.specs.FullRuns.{full_setting, CallsFully}
 use Rattle.std.specs.Prelude.{ℕ, Option}
 use Rattle.ext_lifecycle.specs.declared.call.Call.{Call}
@@ -9,8 +9,8 @@ use Rattle.ext_store.specs.Stores.{IsLaneOf}
 use Rattle.ext_locks.specs.Opening.{LocksView}
 use Rattle.ext_locks.specs.Sets.{HeldView}
 use Rattle.ext_engine.specs.TreeRun.{TreeSetting}
-use Rattle.ext_parallel.specs.declared.steps.stored_value.StoredValue.{StoredValue}
-use Rattle.ext_parallel.specs.StoreCalls.{PlanLane}
+use Rattle.ext_plan_parallel.specs.declared.steps.stored_value.StoredValue.{StoredValue}
+use Rattle.ext_plan_parallel.specs.StoreCalls.{PlanLane}
 use Rattle.ext_one_report.proofs.MatchingWords.{RunView}
 use Rattle.ext_one_report.proofs.StepsWords.{IsLaneIn}
 

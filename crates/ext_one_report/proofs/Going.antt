@@ -14,8 +14,8 @@ use Rattle.ext_store.specs.LaneCalls.{Frame}
 use Rattle.ext_store.specs.Stores.{StoreView}
 use Rattle.ext_engine.specs.Order.{LaneGoesOn}
 use Rattle.ext_engine.proofs.Going.{goes_same, goes_then}
-use Rattle.ext_parallel.specs.StoreCalls.{HasFrame, PlanLane}
-use Rattle.ext_parallel.specs.StoreSteps.{StepsRun}
+use Rattle.ext_plan_parallel.specs.StoreCalls.{HasFrame, PlanLane}
+use Rattle.ext_plan_parallel.specs.StoreSteps.{StepsRun}
 
 goes_framed : (store : StoreView) (a b : PlanLane) → HasFrame store a b → LaneGoesOn a b
 unfolding Frame

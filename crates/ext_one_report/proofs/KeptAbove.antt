@@ -1,5 +1,5 @@
 -- In a plain run what the callbacks before all children of a container computed stands there or above, from their end on, if no step of the plan removes the key.
--- Javadoc `ExtensionContext.Store`, `getOrComputeIfAbsent`; what a plain run is stands in [ext_plain PlainRun].
+-- Javadoc `ExtensionContext.Store`, `getOrComputeIfAbsent`; what a plain run is stands in [ext_plan_plain PlainRun].
 use Rattle.ext_one_report.proofs.Open.{Given, Open}
 use Rattle.std.proofs.Common.{◌≡◌, ◌<◌, ◌⊎◌, ℕ, inl, inr, Bool, true, false, true≢false, List, [], ◌∷◌, drop, length, Option, None, Some, is_some, refl, ap, sym, subst, ◌∙◌}
 use Rattle.std.specs.Prelude.{Contains, if◌then◌else◌}
@@ -21,11 +21,11 @@ use Rattle.ext_races.specs.MadeSteps.{MadeText, calls_before, calls_of, made_by,
 use Rattle.ext_races.specs.Touches.{is_removed, removes_key}
 use Rattle.ext_races.proofs.Lists.{contains-flat_map_back}
 use Rattle.ext_races.proofs.Paths.{path_is}
-use Rattle.ext_plain.specs.ValueStates.{ValueState}
-use Rattle.ext_plain.specs.ContextEnds.{seal_keys}
-use Rattle.ext_plain.specs.StepRuns.{StepEnd}
-use Rattle.ext_plain.specs.NodeCalls.{CallsEnd, befores_run, call_run, make, make_befores, make_if_successful, no_calls}
-use Rattle.ext_plain.specs.PlainRun.{RunState, node_run}
+use Rattle.ext_plan_plain.specs.ValueStates.{ValueState}
+use Rattle.ext_plan_plain.specs.ContextEnds.{seal_keys}
+use Rattle.ext_plan_plain.specs.StepRuns.{StepEnd}
+use Rattle.ext_plan_plain.specs.NodeCalls.{CallsEnd, befores_run, call_run, make, make_befores, make_if_successful, no_calls}
+use Rattle.ext_plan_plain.specs.PlainRun.{RunState, node_run}
 use Rattle.ext_one_report.proofs.CallLists.{if_made, stays, successful_more}
 use Rattle.ext_one_report.proofs.ComputedAbove.{ComputesAt, IsClosedAbove, IsComputedIn, all_clear}
 use Rattle.ext_one_report.proofs.CoveredTouches.{is_made}

@@ -1,5 +1,5 @@
 -- In a plain run a step that computes a value and succeeds leaves something where it computes, or found it there or above; and so does a call with such a step.
--- Javadoc `ExtensionContext.Store`, `getOrComputeIfAbsent`; what a step does stands in [ext_plain StepRuns].
+-- Javadoc `ExtensionContext.Store`, `getOrComputeIfAbsent`; what a step does stands in [ext_plan_plain StepRuns].
 use Rattle.std.proofs.Common.{◌≡◌, ◌<◌, ◌⊎◌, ℕ, zero, suc, inl, inr, Bool, true, false, true≢false, not, List, [], ◌∷◌, drop, length, Option, None, Some, is_some, refl, ap, sym, subst, ◌∙◌, arith}
 use Rattle.std.specs.Prelude.{All, Contains, ◌&&◌}
 use Rattle.std.proofs.lemmas.List.{length-drop}
@@ -28,12 +28,12 @@ use Rattle.ext_races.specs.Acts.{ActText}
 use Rattle.ext_races.specs.MadeSteps.{MadeText, calls_after, calls_before, calls_of, made_after, made_by, made_in_turn, made_of_node, parent_in, path_from, plan_path, steps_before, steps_made}
 use Rattle.ext_races.specs.MadeSteps as made_steps
 use Rattle.ext_races.proofs.Paths.{path_is}
-use Rattle.ext_plain.specs.ValueStates.{Memory, Numbering, ValueState, after_act, enough, found_later, full, keep_value, known, next, next_found, next_number, numbering_of, why_refused, with_number}
-use Rattle.ext_plain.specs.StepRuns.{StepEnd, and_then, compute_looked, compute_numbered, factory_gave, found_along, next_step, number_by, numbered_by, or_refused, step_by, step_run, steps_run, unless_ended}
-use Rattle.ext_plain.proofs.Lacking.{does_or_lacks}
-use Rattle.ext_plain.proofs.Numberings.{known_is, next_is, there_then}
-use Rattle.ext_plain.proofs.Seals.{filled_here}
-use Rattle.ext_plain.proofs.Stepping.{steps_run-cons}
+use Rattle.ext_plan_plain.specs.ValueStates.{Memory, Numbering, ValueState, after_act, enough, found_later, full, keep_value, known, next, next_found, next_number, numbering_of, why_refused, with_number}
+use Rattle.ext_plan_plain.specs.StepRuns.{StepEnd, and_then, compute_looked, compute_numbered, factory_gave, found_along, next_step, number_by, numbered_by, or_refused, step_by, step_run, steps_run, unless_ended}
+use Rattle.ext_plan_plain.proofs.Lacking.{does_or_lacks}
+use Rattle.ext_plan_plain.proofs.Numberings.{known_is, next_is, there_then}
+use Rattle.ext_plan_plain.proofs.Seals.{filled_here}
+use Rattle.ext_plan_plain.proofs.Stepping.{steps_run-cons}
 use Rattle.ext_one_report.proofs.Calls.{path_above}
 use Rattle.ext_one_report.proofs.ComputedAbove.{ComputesAt, all_clear, clear_is}
 use Rattle.ext_one_report.proofs.FrameNodes.{within_path}

@@ -1,5 +1,5 @@
 -- In a plain run each step that does not remove a key leaves something wherever something stood under it, and so does the end of each context.
--- Javadoc `ExtensionContext.Store`; what a step does stands in [ext_plain StepRuns].
+-- Javadoc `ExtensionContext.Store`; what a step does stands in [ext_plan_plain StepRuns].
 use Rattle.std.proofs.Common.{◌≡◌, ℕ, zero, suc, inl, inr, Bool, true, false, true≢false, List, [], ◌∷◌, Option, None, Some, is_some, refl, ap, sym, subst, ◌∙◌}
 use Rattle.std.specs.Prelude.{Contains, ◌&&◌, if◌then◌else◌}
 use Rattle.ext_history.proofs.Lists.{bools, contains_here, contains_later}
@@ -30,12 +30,12 @@ use Rattle.ext_plan.specs.Verdicts.{none_verdict, want_verdict}
 use Rattle.ext_plan.proofs.KeyLists.{key_number_last}
 use Rattle.ext_races.specs.Acts.{act_of}
 use Rattle.ext_races.specs.Touches.{removes_key}
-use Rattle.ext_plain.specs.ValueStates.{Memory, Numbering, ValueState, after_act, enough, found_later, full, keep_value, known, next, next_found, next_number, no_key, no_number, no_place, no_value, no_words, numbering_of, reply_to, why_refused, with_number}
-use Rattle.ext_plain.specs.ContextEnds.{seal_keys}
-use Rattle.ext_plain.specs.StepRuns.{StepEnd, act_ends, acts_by, call_by, claim_and, compute_by, compute_looked, computefail_by, computefail_looked, ended, factory_failed, factory_gave, first_kept, found_along, if_absent, if_empty, kept_or_refused, lacks_key, lacks_number, lacks_place, lacks_value, next_step, no_memory, number_by, numbered_by, or_refused, put_in, put_kept, said_by, seen_by, step_by, steps_run, unless_ended, value_first}
-use Rattle.ext_plain.proofs.Numberings.{known_is, next_is, there_then}
-use Rattle.ext_plain.proofs.Seals.{was_empty}
-use Rattle.ext_plain.proofs.Stepping.{steps_run-cons, steps_run-nil}
+use Rattle.ext_plan_plain.specs.ValueStates.{Memory, Numbering, ValueState, after_act, enough, found_later, full, keep_value, known, next, next_found, next_number, no_key, no_number, no_place, no_value, no_words, numbering_of, reply_to, why_refused, with_number}
+use Rattle.ext_plan_plain.specs.ContextEnds.{seal_keys}
+use Rattle.ext_plan_plain.specs.StepRuns.{StepEnd, act_ends, acts_by, call_by, claim_and, compute_by, compute_looked, computefail_by, computefail_looked, ended, factory_failed, factory_gave, first_kept, found_along, if_absent, if_empty, kept_or_refused, lacks_key, lacks_number, lacks_place, lacks_value, next_step, no_memory, number_by, numbered_by, or_refused, put_in, put_kept, said_by, seen_by, step_by, steps_run, unless_ended, value_first}
+use Rattle.ext_plan_plain.proofs.Numberings.{known_is, next_is, there_then}
+use Rattle.ext_plan_plain.proofs.Seals.{was_empty}
+use Rattle.ext_plan_plain.proofs.Stepping.{steps_run-cons, steps_run-nil}
 use Rattle.ext_one_report.proofs.Matching.{one_of_place, place_stays, plain_none, plain_there, there_more}
 use Rattle.ext_one_report.proofs.MatchingWords.{plain_slot}
 

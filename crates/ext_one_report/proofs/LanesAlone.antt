@@ -19,7 +19,7 @@ use Rattle.ext_one_report.specs.Alone.{IsSeenMeanwhile, IsTheirsOr}
 use Rattle.ext_one_report.proofs.Events.{among_more, behind_part, in_whole}
 use Rattle.ext_one_report.proofs.Parts.{part}
 use Rattle.ext_one_report.proofs.Sees.{at_place}
-use Rattle.ext_parallel.specs.StoreCalls.{PlanLane}
+use Rattle.ext_plan_parallel.specs.StoreCalls.{PlanLane}
 use Rattle.ext_one_report.proofs.MatchingWords.{HasNumberIn, Places, RunView, cell_of}
 use Rattle.ext_one_report.proofs.StepsWords.{IsAlone, IsLaneIn}
 use Rattle.ext_one_report.proofs.Calls.{lane_before, steps_go}

@@ -6,7 +6,7 @@ use Rattle.ext_one_report.proofs.Numbers.{enough_numbers}
 use Rattle.ext_tree.specs.Keys.{KeyValue}
 use Rattle.ext_plan.specs.Plans.{PlanText}
 use Rattle.ext_races.specs.Touches.{keys_named}
-use Rattle.ext_plain.specs.ValueStates.{ValueState}
+use Rattle.ext_plan_plain.specs.ValueStates.{ValueState}
 use Rattle.ext_one_report.proofs.StoredWords.{number_in}
 use Rattle.ext_one_report.proofs.MatchingWords.{HasNumberIn, IsNumbered, Matches, Places, RunView, cell_of}
 use Rattle.ext_one_report.proofs.Rooms.{GaveFew}

@@ -20,8 +20,8 @@ use Rattle.ext_tree.proofs.KeyPlacing.{key_within, length-places, one_key, one_n
 use Rattle.ext_plan.specs.StoreKeys.{is_there, number_of_key}
 use Rattle.ext_plan.specs.Values.{ValueText}
 use Rattle.ext_plan.proofs.KeyLists.{has_key_number, is_contained, not_contained, key_number_last, key_number_within}
-use Rattle.ext_plain.specs.ValueStates.{ValueState, keep_value, next_number, value_of, value_opening, with_number}
-use Rattle.ext_plain.proofs.Numberings.{there_by}
+use Rattle.ext_plan_plain.specs.ValueStates.{ValueState, keep_value, next_number, value_of, value_opening, with_number}
+use Rattle.ext_plan_plain.proofs.Numberings.{there_by}
 use Rattle.ext_one_report.proofs.StandingsWords.{Meaning, AreMatched, KnowsMore, nothing}
 use Rattle.ext_one_report.proofs.MatchingWords.{RunView, IsRunView, HasNumberIn, Places, Matches, AreNotAt, IsNumbered, cell_of, plain_meaning, plain_slot, text_of, AreEqualEvents, after_event}
 use Rattle.ext_one_report.proofs.Standings.{matched_acts, matched_by_more}

@@ -8,7 +8,7 @@ use Rattle.ext_tree.specs.Keys.{KeyValue, KnownPlace, AreKeyNotesOf, IsKeyNumber
 use Rattle.ext_plan.specs.StoreKeys.{is_there, number_of_key}
 use Rattle.ext_plan.specs.Values.{ValueText}
 use Rattle.ext_store.specs.Stores.{StoreView, cell_in}
-use Rattle.ext_plain.specs.ValueStates.{ValueState, value_of}
+use Rattle.ext_plan_plain.specs.ValueStates.{ValueState, value_of}
 use Rattle.ext_one_report.proofs.StandingsWords.{Meaning, AreMatched, DoTheSame}
 use Rattle.ext_model.specs.declared.event.Act.{Act}
 use Rattle.ext_model.specs.Events.{apply, place_of}

@@ -12,11 +12,11 @@ use Rattle.ext_plan.specs.PlanCalls.{concurrent_of, registered, steps_of_call, t
 use Rattle.ext_plan.specs.ReadPlans.{ids_of_nodes}
 use Rattle.ext_plan.specs.StepCalls.{start_of}
 use Rattle.ext_tree.specs.Trees.{children_of}
-use Rattle.ext_plain.specs.ValueStates.{ValueState, after_act}
-use Rattle.ext_plain.specs.ContextEnds.{faults_of_closes, seal_keys}
-use Rattle.ext_plain.specs.NodeCalls.{CallsEnd, afters_run, and_call, befores_run, call_run, make, make_if_successful, no_calls, test_run}
-use Rattle.ext_plain.specs.PlainRun.{RunState, body_run, container_run, node_end, node_run, outcome_of, test_node_run, with_result}
-use Rattle.ext_plain.proofs.Ends.{body_end, container_end, test_end}
+use Rattle.ext_plan_plain.specs.ValueStates.{ValueState, after_act}
+use Rattle.ext_plan_plain.specs.ContextEnds.{faults_of_closes, seal_keys}
+use Rattle.ext_plan_plain.specs.NodeCalls.{CallsEnd, afters_run, and_call, befores_run, call_run, make, make_if_successful, no_calls, test_run}
+use Rattle.ext_plan_plain.specs.PlainRun.{RunState, body_run, container_run, node_end, node_run, outcome_of, test_node_run, with_result}
+use Rattle.ext_plan_plain.proofs.Ends.{body_end, container_end, test_end}
 use Rattle.ext_one_report.proofs.MoreNumbersSteps.{Follows, follows_act, follows_itself, follows_then, steps_end, with_numbers}
 
 abbrev calls_with_numbers : ℕ → CallsEnd → CallsEnd

@@ -20,8 +20,8 @@ use Rattle.ext_plan.specs.StepCalls.{CallText, call_of, is_made, start_of}
 use Rattle.ext_plan.specs.StepWords.{word_text}
 use Rattle.ext_plan.specs.Values.{ValueText}
 use Rattle.ext_plan.specs.Verdicts.{none_verdict, want_verdict}
-use Rattle.ext_plain.specs.ValueStates.{Memory, no_place, no_value, no_words, Numbering, ValueState, after_act, found_later, full, keep_value, known, next, next_found, next_number, numbering_of, refusal, reply_to, why_refused, with_memory, with_number}
-use Rattle.ext_plain.specs.StepRuns.{StepEnd, act_ends, acts_by, and_then, call_by, claim_and, compute_by, compute_looked, computefail_by, computefail_looked, ended, factory_failed, factory_gave, first_kept, found_along, if_absent, if_empty, kept_or_refused, lacks_key, lacks_number, lacks_place, lacks_value, next_step, no_memory, number_by, numbered_by, or_refused, put_in, put_kept, said_by, seen_by, step_by, steps_run, unless_ended, value_first}
+use Rattle.ext_plan_plain.specs.ValueStates.{Memory, no_place, no_value, no_words, Numbering, ValueState, after_act, found_later, full, keep_value, known, next, next_found, next_number, numbering_of, refusal, reply_to, why_refused, with_memory, with_number}
+use Rattle.ext_plan_plain.specs.StepRuns.{StepEnd, act_ends, acts_by, and_then, call_by, claim_and, compute_by, compute_looked, computefail_by, computefail_looked, ended, factory_failed, factory_gave, first_kept, found_along, if_absent, if_empty, kept_or_refused, lacks_key, lacks_number, lacks_place, lacks_value, next_step, no_memory, number_by, numbered_by, or_refused, put_in, put_kept, said_by, seen_by, step_by, steps_run, unless_ended, value_first}
 use Rattle.ext_one_report.proofs.FrameSlots.{reply_drawn}
 
 -- the same with so many numbers

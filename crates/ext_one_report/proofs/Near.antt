@@ -18,9 +18,9 @@ use Rattle.ext_one_report.proofs.WholeAlone.{whole_alone}
 use Rattle.ext_engine.specs.RunLaws.{HasRun, IsOneEach, nodes_of}
 use Rattle.ext_engine.specs.Suites.{SuiteView}
 use Rattle.ext_engine.specs.TreeRun.{Ran}
-use Rattle.ext_parallel.specs.ParallelRun.{ParallelRun}
-use Rattle.ext_parallel.specs.PlanSuites.{suite_of}
-use Rattle.ext_plain.specs.PlainRun.{plain_run, skipped_from}
+use Rattle.ext_plan_parallel.specs.ParallelRun.{ParallelRun}
+use Rattle.ext_plan_parallel.specs.PlanSuites.{suite_of}
+use Rattle.ext_plan_plain.specs.PlainRun.{plain_run, skipped_from}
 use Rattle.ext_one_report.proofs.Runs.{run_lanes}
 use Rattle.ext_one_report.proofs.MatchingWords.{RunView}
 use Rattle.ext_one_report.proofs.Covered.{changed_in, touched_in}

@@ -8,7 +8,7 @@ use Rattle.ext_tree.specs.Keys.{KeyValue}
 use Rattle.ext_plan.specs.Plans.{PlanText}
 use Rattle.ext_plan.specs.Values.{ValueText}
 use Rattle.ext_one_report.specs.Changing.{events_at}
-use Rattle.ext_plain.specs.ValueStates.{ValueState, value_of}
+use Rattle.ext_plan_plain.specs.ValueStates.{ValueState, value_of}
 use Rattle.ext_one_report.proofs.MatchingWords.{Places, RunView, cell_of, plain_meaning, plain_slot, text_of}
 use Rattle.ext_one_report.proofs.StandingsWords.{AreMatched, KnowsMore}
 use Rattle.ext_one_report.proofs.Matching.{knows_itself, matches_at_fewer, numbered_at_fewer}

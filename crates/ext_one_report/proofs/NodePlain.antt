@@ -7,9 +7,9 @@ use Rattle.ext_tree.specs.Trees.{IsParentOf, IsPathOf}
 use Rattle.ext_plan.specs.Plans.{PlanText}
 use Rattle.ext_plan.specs.ReadPlans.{IsReadPlan, ids_of_nodes}
 use Rattle.ext_races.specs.Touches.{keys_named}
-use Rattle.ext_plain.specs.PlainRun.{RunState, node_run}
-use Rattle.ext_plain.proofs.Nodes.{child_path}
-use Rattle.ext_plain.proofs.Sound.{node-kept}
+use Rattle.ext_plan_plain.specs.PlainRun.{RunState, node_run}
+use Rattle.ext_plan_plain.proofs.Nodes.{child_path}
+use Rattle.ext_plan_plain.proofs.Sound.{node-kept}
 use Rattle.ext_one_report.proofs.MatchingWords.{Places}
 use Rattle.ext_one_report.proofs.Rooms.{GaveFew}
 use Rattle.ext_one_report.proofs.Covers.{AreCovered}

@@ -13,17 +13,17 @@ use Rattle.ext_plan.specs.PlanCalls.{steps_of_call}
 use Rattle.ext_plan.specs.ReadPlans.{IsReadPlan, ids_of_nodes}
 use Rattle.ext_races.specs.MadeSteps.{calls_of}
 use Rattle.ext_races.specs.Touches.{keys_named}
-use Rattle.ext_plain.specs.PlainRunLaws.{NamesOneOf}
-use Rattle.ext_plain.specs.ValueStates.{ValueState}
-use Rattle.ext_plain.specs.StepRuns.{StepEnd, step_run, steps_run}
-use Rattle.ext_plain.specs.NodeCalls.{CallsEnd, and_call, call_run, make_all, make_befores, make_if_successful}
+use Rattle.ext_plan_plain.specs.PlainRunLaws.{NamesOneOf}
+use Rattle.ext_plan_plain.specs.ValueStates.{ValueState}
+use Rattle.ext_plan_plain.specs.StepRuns.{StepEnd, step_run, steps_run}
+use Rattle.ext_plan_plain.specs.NodeCalls.{CallsEnd, and_call, call_run, make_all, make_befores, make_if_successful}
 use Rattle.ext_one_report.proofs.CallListsWords.{BeforesHaveRoom, CallsHaveRoom}
 use Rattle.ext_one_report.proofs.CallsWords.{StepsHaveRoom}
 use Rattle.ext_one_report.proofs.MatchingWords.{RunView}
 use Rattle.ext_one_report.proofs.Rooms.{GaveFew, few_are_given, few_have_room}
 use Rattle.ext_one_report.proofs.CallLists.{if_made}
 use Rattle.ext_one_report.proofs.Calls.{plain_goes, steps_faults, steps_memory}
-use Rattle.ext_plain.proofs.Stepping.{steps_run-nil}
+use Rattle.ext_plan_plain.proofs.Stepping.{steps_run-nil}
 use Rattle.ext_one_report.proofs.OfPlan.{IsOfPlan}
 use Rattle.ext_one_report.proofs.FrameKeys.{calls_name_keys}
 use Rattle.ext_one_report.proofs.FrameNodes.{within_nodes}

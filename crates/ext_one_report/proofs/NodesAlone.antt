@@ -9,7 +9,7 @@ use Rattle.ext_model.specs.Events.{is_on}
 use Rattle.ext_model.specs.History.{History, lane_of, own}
 use Rattle.ext_model.specs.CallActs.{LaneView, IsPointAfter}
 use Rattle.ext_model.proofs.Versions.{none_on, quiet_from_none}
-use Rattle.ext_plain.specs.ValueStates.{ValueState}
+use Rattle.ext_plan_plain.specs.ValueStates.{ValueState}
 use Rattle.ext_one_report.proofs.MatchingWords.{RunView, Places, Matches, AreNotAt, cell_of}
 use Rattle.ext_one_report.proofs.StepsWords.{IsAlone}
 use Rattle.ext_one_report.proofs.Matching.{others_keep_matches}

@@ -7,9 +7,9 @@ use Rattle.ext_model.specs.History.{History}
 use Rattle.ext_tree.specs.Keys.{KeyValue}
 use Rattle.ext_plan.specs.StoreKeys.{is_there, number_of_key}
 use Rattle.ext_plan.proofs.KeyLists.{key_number_last, not_contained}
-use Rattle.ext_plain.specs.ValueStates.{ValueState, enough, with_number}
-use Rattle.ext_plain.specs.StepRuns.{StepEnd, number_by, numbered_by}
-use Rattle.ext_plain.proofs.Numberings.{is_known, is_next, there_then}
+use Rattle.ext_plan_plain.specs.ValueStates.{ValueState, enough, with_number}
+use Rattle.ext_plan_plain.specs.StepRuns.{StepEnd, number_by, numbered_by}
+use Rattle.ext_plan_plain.proofs.Numberings.{is_known, is_next, there_then}
 use Rattle.ext_one_report.proofs.MatchingWords.{RunView, Places, Matches, IsNumbered, plain_slot}
 use Rattle.ext_one_report.proofs.FrameSlots.{leaves_named}
 use Rattle.ext_one_report.proofs.Matching.{keys_keep_matches, keys_keep_numbered}

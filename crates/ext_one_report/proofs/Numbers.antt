@@ -3,8 +3,8 @@ use Rattle.std.specs.Prelude.{ℕ, ◌+◌, [], ◌∷◌, length}
 use Rattle.ext_model.specs.declared.size.Size.{Size}
 use Rattle.ext_model.specs.Sizes.{most_numbers}
 use Rattle.ext_plan.specs.Plans.{PlanText}
-use Rattle.ext_plain.specs.PlainRun.{RunState, node_run, skipped_from}
-use Rattle.ext_plain.specs.ValueStates.{value_opening}
+use Rattle.ext_plan_plain.specs.PlainRun.{RunState, node_run, skipped_from}
+use Rattle.ext_plan_plain.specs.ValueStates.{value_opening}
 
 abbrev pub enough_numbers : Size → ℕ
 enough_numbers size = most_numbers size + 1

@@ -11,8 +11,8 @@ use Rattle.ext_plan.specs.Values.{ValueText, begins_with}
 use Rattle.ext_races.specs.Beside.{IsBeside}
 use Rattle.ext_races.specs.Clashes.{may_fail}
 use Rattle.ext_races.specs.Touches.{TouchText, touches_made}
-use Rattle.ext_plain.specs.ValueStates.{ValueState, value_of, value_opening}
-use Rattle.ext_plain.specs.PlainRunLaws.{HasValues}
+use Rattle.ext_plan_plain.specs.ValueStates.{ValueState, value_of, value_opening}
+use Rattle.ext_plan_plain.specs.PlainRunLaws.{HasValues}
 use Rattle.ext_one_report.specs.Within.{is_within}
 use Rattle.ext_one_report.proofs.StoredWords.{number_in}
 

@@ -19,8 +19,8 @@ use Rattle.ext_races.specs.MadeSteps.{calls_of, plan_path}
 use Rattle.ext_races.specs.Touches.{keys_named, text_if, touch_of, touches_made}
 use Rattle.ext_plan.specs.StepWords.{changes, has_text, leaves_closeable}
 use Rattle.ext_races.proofs.Lists.{all_contained}
-use Rattle.ext_plain.specs.ValueStates.{ValueState}
-use Rattle.ext_plain.specs.NodeCalls.{call_run}
+use Rattle.ext_plan_plain.specs.ValueStates.{ValueState}
+use Rattle.ext_plan_plain.specs.NodeCalls.{call_run}
 use Rattle.ext_one_report.proofs.OfPlan.{Allows, IsLeftOf, IsOfPlan, Leaving, plan_leaves}
 use Rattle.ext_one_report.proofs.OfPlanSteps.{IsReady, StepLeaves, steps_ready}
 use Rattle.ext_one_report.proofs.OfPlanHeights.{call_stays, is_plan_path, path_inside}

@@ -1,7 +1,7 @@
 -- The end of a context: its seals keep what is known of the values that stand.
 use Rattle.std.proofs.Common.{ℕ, zero, suc}
-use Rattle.ext_plain.specs.ValueStates.{ValueState}
-use Rattle.ext_plain.specs.ContextEnds.{seal_keys}
+use Rattle.ext_plan_plain.specs.ValueStates.{ValueState}
+use Rattle.ext_plan_plain.specs.ContextEnds.{seal_keys}
 use Rattle.ext_one_report.proofs.OfPlan.{IsLeftBy, Leaving}
 use Rattle.ext_one_report.proofs.OfPlanStates.{of_sealed}
 use Rattle.ext_one_report.proofs.OfPlanSteps.{IsReady}

@@ -8,7 +8,7 @@ use Rattle.ext_history.proofs.Lists.{bools}
 use Rattle.ext_tree.specs.Keys.{KeyValue}
 use Rattle.ext_tree.specs.Traits.{key_eq}
 use Rattle.ext_tree.proofs.Equalities.{keys_Decides}
-use Rattle.ext_plain.proofs.Numberings.{there_by}
+use Rattle.ext_plan_plain.proofs.Numberings.{there_by}
 use Rattle.ext_tree.specs.Trees.{IsParentOf, IsPathOf, children_of}
 use Rattle.ext_lifecycle.specs.declared.call.Call.{Call}
 use Rattle.ext_lifecycle.specs.Callbacks.{afters_of, befores_of, test_call}
@@ -24,12 +24,12 @@ use Rattle.ext_plan.proofs.KeyLists.{is_contained}
 use Rattle.ext_races.specs.MadeSteps.{calls_of}
 use Rattle.ext_races.proofs.Calls.{calls_are}
 use Rattle.ext_races.proofs.Lists.{contains_first, contains_later}
-use Rattle.ext_plain.specs.NodeCalls.{CallsEnd, befores_run, call_run, make, make_all, make_befores, make_if_successful, no_calls, test_run}
-use Rattle.ext_plain.specs.ValueStates.{ValueState, value_of}
-use Rattle.ext_plain.specs.PlainRun.{RunState, body_run, container_run, node_run, test_node_run}
-use Rattle.ext_plain.proofs.Below.{children-all}
-use Rattle.ext_plain.proofs.Ends.{container_end, test_end}
-use Rattle.ext_plain.proofs.Nodes.{child_path, start_is}
+use Rattle.ext_plan_plain.specs.NodeCalls.{CallsEnd, befores_run, call_run, make, make_all, make_befores, make_if_successful, no_calls, test_run}
+use Rattle.ext_plan_plain.specs.ValueStates.{ValueState, value_of}
+use Rattle.ext_plan_plain.specs.PlainRun.{RunState, body_run, container_run, node_run, test_node_run}
+use Rattle.ext_plan_plain.proofs.Below.{children-all}
+use Rattle.ext_plan_plain.proofs.Ends.{container_end, test_end}
+use Rattle.ext_plan_plain.proofs.Nodes.{child_path, start_is}
 use Rattle.ext_one_report.proofs.FrameNodes.{stands_also, stands_first, stands_on}
 use Rattle.ext_one_report.proofs.Matching.{place_stays, plain_none, plain_there}
 use Rattle.ext_one_report.proofs.MatchingWords.{plain_slot}

@@ -15,9 +15,9 @@ use Rattle.ext_model.proofs.Changes.{same_place_is}
 use Rattle.ext_model.proofs.Steps.{others_stay}
 use Rattle.ext_tree.specs.Keys.{KeyValue}
 use Rattle.ext_plan.specs.Values.{ValueText, begins_with}
-use Rattle.ext_plain.specs.ValueStates.{ValueState, reply_to, after_act, why_refused, next_number, keep_value, value_of, with_number}
-use Rattle.ext_plain.specs.PlainRunLaws.{HasValues}
-use Rattle.ext_plain.proofs.Values.{act-values, keep-drawn, last_value}
+use Rattle.ext_plan_plain.specs.ValueStates.{ValueState, reply_to, after_act, why_refused, next_number, keep_value, value_of, with_number}
+use Rattle.ext_plan_plain.specs.PlainRunLaws.{HasValues}
+use Rattle.ext_plan_plain.proofs.Values.{act-values, keep-drawn, last_value}
 use Rattle.ext_one_report.proofs.StoredWords.{number_in}
 use Rattle.ext_one_report.proofs.OfPlan.{IsLeftBy, Leaving, OpensOfPlan, value_in}
 

@@ -17,10 +17,10 @@ use Rattle.ext_plan.specs.StepWords.{word_text}
 use Rattle.ext_plan.specs.StepCalls.{CallText, call_of, start_of}
 use Rattle.ext_plan.specs.StepWords.{leaves_closeable}
 use Rattle.ext_plan.specs.Values.{ValueText}
-use Rattle.ext_plain.specs.ValueStates.{Numbering, ValueState, after_act, enough, found_later, full, keep_value, known, next, next_found, next_number, numbering_of, why_refused, with_memory, with_number}
-use Rattle.ext_plain.specs.StepRuns.{StepEnd, acts_by, call_by, compute_looked, compute_numbered, computefail_looked, ended, factory_failed, factory_gave, found_along, kept_or_refused, next_step, number_by, numbered_by, or_refused, put_by, put_in, step_by, step_run, steps_run, unless_ended}
-use Rattle.ext_plain.proofs.Memories.{step_by-with}
-use Rattle.ext_plain.proofs.Stepping.{steps_run-nil, steps_run-cons}
+use Rattle.ext_plan_plain.specs.ValueStates.{Numbering, ValueState, after_act, enough, found_later, full, keep_value, known, next, next_found, next_number, numbering_of, why_refused, with_memory, with_number}
+use Rattle.ext_plan_plain.specs.StepRuns.{StepEnd, acts_by, call_by, compute_looked, compute_numbered, computefail_looked, ended, factory_failed, factory_gave, found_along, kept_or_refused, next_step, number_by, numbered_by, or_refused, put_by, put_in, step_by, step_run, steps_run, unless_ended}
+use Rattle.ext_plan_plain.proofs.Memories.{step_by-with}
+use Rattle.ext_plan_plain.proofs.Stepping.{steps_run-nil, steps_run-cons}
 use Rattle.ext_one_report.proofs.OfPlan.{IsLeftBy, Leaving}
 use Rattle.ext_one_report.proofs.OfPlanStates.{IsDrawn, IsLeft, drawn_numbered, not_closed, of_abandoned, of_claimed, of_failed, of_filled, of_kept, of_numbered, of_put, of_removed}
 

@@ -22,7 +22,7 @@ use Rattle.ext_plan.specs.declared.word.Word.TheVariants as words
 use Rattle.ext_plan.specs.StepWords.{computes, gives_value, leaves_closeable}
 use Rattle.ext_plan.specs.StoreKeys.{key_of_step}
 use Rattle.ext_plan.specs.Values.{ValueText}
-use Rattle.ext_plain.specs.ValueStates.{ValueState}
+use Rattle.ext_plan_plain.specs.ValueStates.{ValueState}
 use Rattle.ext_one_report.proofs.MatchingWords.{HasNumberIn, IsNumbered, Places, RunView, TextMeaning, cell_of, plain_meaning, plain_slot}
 
 -- ---- what is computed at a place

@@ -18,11 +18,11 @@ use Rattle.ext_plan.specs.PlanCalls.{steps_of_call}
 use Rattle.ext_store.specs.Stores.{IsLaneOf}
 use Rattle.ext_engine.specs.Order.{LaneGoesOn}
 use Rattle.ext_engine.proofs.Going.{goes_same}
-use Rattle.ext_plain.specs.ValueStates.{ValueState}
-use Rattle.ext_plain.specs.StepRuns.{StepEnd}
-use Rattle.ext_plain.specs.NodeCalls.{CallsEnd, and_call, call_run, make_all, make_befores, no_calls}
-use Rattle.ext_parallel.specs.StoreCalls.{PlanLane}
-use Rattle.ext_parallel.specs.StoreSteps.{StepsRun}
+use Rattle.ext_plan_plain.specs.ValueStates.{ValueState}
+use Rattle.ext_plan_plain.specs.StepRuns.{StepEnd}
+use Rattle.ext_plan_plain.specs.NodeCalls.{CallsEnd, and_call, call_run, make_all, make_befores, no_calls}
+use Rattle.ext_plan_parallel.specs.StoreCalls.{PlanLane}
+use Rattle.ext_plan_parallel.specs.StoreSteps.{StepsRun}
 use Rattle.ext_one_report.specs.FullRuns.{StepFinds}
 use Rattle.ext_one_report.proofs.CallsWords.{StepsHaveRoom}
 use Rattle.ext_one_report.proofs.CallListsWords.{BeforesHaveRoom, CallsFind, CallsHaveRoom, Makes}

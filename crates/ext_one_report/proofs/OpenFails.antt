@@ -16,10 +16,10 @@ use Rattle.ext_plan.specs.declared.word.Word.TheVariants as words
 use Rattle.ext_plan.specs.Plans.{KeyText, StepKeyText, keyed, fail, abort}
 use Rattle.ext_plan.specs.StepCalls.{label_of, start_of}
 use Rattle.ext_plan.specs.StoreKeys.{key_of_step}
-use Rattle.ext_plain.specs.ValueStates.{ValueState, enough}
-use Rattle.ext_plain.specs.StepRuns.{StepEnd, computefail_numbered, numbered_by}
-use Rattle.ext_parallel.specs.StoreCalls.{PlanLane}
-use Rattle.ext_parallel.specs.StoreSteps.{StepFails}
+use Rattle.ext_plan_plain.specs.ValueStates.{ValueState, enough}
+use Rattle.ext_plan_plain.specs.StepRuns.{StepEnd, computefail_numbered, numbered_by}
+use Rattle.ext_plan_parallel.specs.StoreCalls.{PlanLane}
+use Rattle.ext_plan_parallel.specs.StoreSteps.{StepFails}
 use Rattle.ext_one_report.proofs.MatchingWords.{HasNumberIn, Matches, Places, RunView, cell_of, plain_slot}
 use Rattle.ext_one_report.specs.FullRuns.{FindsAll}
 use Rattle.ext_one_report.proofs.StepsWords.{HasRoom}

@@ -22,7 +22,7 @@ use Rattle.ext_store.specs.Stores.{StoreView, cell_in, context_cells}
 use Rattle.ext_store.specs.Computing.{IsRefused}
 use Rattle.ext_store.specs.Waiting.{IsDecided}
 use Rattle.ext_engine.specs.Order.{LaneGoesOn}
-use Rattle.ext_parallel.specs.StoreCalls.{PlanLane}
+use Rattle.ext_plan_parallel.specs.StoreCalls.{PlanLane}
 use Rattle.ext_one_report.proofs.MatchingWords.{IsRunView, HasNumberIn, RunView, cell_of}
 use Rattle.ext_one_report.proofs.Matching.{cells_apart}
 use Rattle.ext_one_report.proofs.Fills.{IsFilledBy, Spot}

@@ -16,8 +16,8 @@ use Rattle.ext_model.proofs.Versions.{after-append, none_on, slot_stays}
 use Rattle.ext_tree.specs.Keys.{KeyValue}
 use Rattle.ext_store.specs.Stores.{IsLaneOf}
 use Rattle.ext_engine.specs.Order.{LaneGoesOn}
-use Rattle.ext_plain.specs.ValueStates.{ValueState}
-use Rattle.ext_parallel.specs.StoreCalls.{PlanLane}
+use Rattle.ext_plan_plain.specs.ValueStates.{ValueState}
+use Rattle.ext_plan_parallel.specs.StoreCalls.{PlanLane}
 use Rattle.ext_one_report.proofs.MatchingWords.{HasNumberIn, IsNumbered, Matches, Places, RunView, TextMeaning, cell_of, plain_meaning}
 use Rattle.ext_one_report.proofs.StandingsWords.{AreMatched, fault, fault_stands, standing_of, value, value_stands}
 use Rattle.ext_one_report.proofs.Standings.{holds}

@@ -44,10 +44,10 @@ use Rattle.ext_store.specs.declared.computed.Compute.TheVariants as computes
 use Rattle.ext_store.specs.Stores.{context_cells}
 use Rattle.ext_store.specs.Computing.{Computes, ComputesFrom, Fails, Fills, IsRefused, Meets, Uses, given_up_events}
 use Rattle.ext_store.specs.Waiting.{ComputesAfterWaits}
-use Rattle.ext_plain.specs.ValueStates.{ValueState}
-use Rattle.ext_parallel.specs.declared.steps.stored_value.StoredValue.{StoredValue}
-use Rattle.ext_parallel.specs.Saying.{Ends, EndsRefused, EndsUnkept}
-use Rattle.ext_parallel.specs.StoreCalls.{ComputesFault, ComputesValue, EndsCompute, EndsComputeFail, PlanLane, Shows, stored_view}
+use Rattle.ext_plan_plain.specs.ValueStates.{ValueState}
+use Rattle.ext_plan_parallel.specs.declared.steps.stored_value.StoredValue.{StoredValue}
+use Rattle.ext_plan_parallel.specs.Saying.{Ends, EndsRefused, EndsUnkept}
+use Rattle.ext_plan_parallel.specs.StoreCalls.{ComputesFault, ComputesValue, EndsCompute, EndsComputeFail, PlanLane, Shows, stored_view}
 use Rattle.ext_one_report.proofs.StandingsWords.{fault_shown, met}
 use Rattle.ext_one_report.proofs.MatchingWords.{HasNumberIn, IsRunView, Matches, Places, RunView, TextMeaning, cell_of, plain_meaning, plain_slot}
 use Rattle.ext_one_report.specs.FullRuns.{FindsAll}

@@ -18,11 +18,11 @@ use Rattle.ext_plan.specs.StepCalls.{start_of}
 use Rattle.ext_plan.specs.StoreKeys.{key_of_step}
 use Rattle.ext_store.specs.Stores.{IsLaneOf}
 use Rattle.ext_engine.specs.Order.{LaneGoesOn}
-use Rattle.ext_plain.specs.ValueStates.{ValueState}
-use Rattle.ext_plain.specs.StepRuns.{StepEnd, step_run, steps_run}
-use Rattle.ext_plain.proofs.Stepping.{steps_run-nil}
-use Rattle.ext_parallel.specs.StoreCalls.{HasFrame, PlanLane}
-use Rattle.ext_parallel.specs.StoreSteps.{PlacesItsKey, StepRun, StepsRun}
+use Rattle.ext_plan_plain.specs.ValueStates.{ValueState}
+use Rattle.ext_plan_plain.specs.StepRuns.{StepEnd, step_run, steps_run}
+use Rattle.ext_plan_plain.proofs.Stepping.{steps_run-nil}
+use Rattle.ext_plan_parallel.specs.StoreCalls.{HasFrame, PlanLane}
+use Rattle.ext_plan_parallel.specs.StoreSteps.{PlacesItsKey, StepRun, StepsRun}
 use Rattle.ext_one_report.specs.FullRuns.{StepFinds}
 use Rattle.ext_one_report.proofs.CallsWords.{StepHasRoom, StepWithin, StepsHaveRoom}
 use Rattle.ext_one_report.proofs.MatchingWords.{Places, RunView}

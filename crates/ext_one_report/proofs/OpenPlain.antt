@@ -18,9 +18,9 @@ use Rattle.ext_plan.specs.StoreKeys.{is_there, key_of_step, number_of_key}
 use Rattle.ext_plan.specs.Values.{ValueText}
 use Rattle.ext_plan.specs.Verdicts.{fail_verdict, none_verdict, seen_fault}
 use Rattle.ext_plan.proofs.KeyLists.{key_number_last, not_contained}
-use Rattle.ext_plain.specs.ValueStates.{ValueState, enough, value_of, with_number}
-use Rattle.ext_plain.specs.StepRuns.{StepEnd, compute_looked, compute_numbered, computefail_looked, computefail_numbered, ended, factory_failed, factory_gave, found_along, number_by, numbered_by, shown_fault, step_run}
-use Rattle.ext_plain.proofs.Numberings.{is_known, is_next, there_then}
+use Rattle.ext_plan_plain.specs.ValueStates.{ValueState, enough, value_of, with_number}
+use Rattle.ext_plan_plain.specs.StepRuns.{StepEnd, compute_looked, compute_numbered, computefail_looked, computefail_numbered, ended, factory_failed, factory_gave, found_along, number_by, numbered_by, shown_fault, step_run}
+use Rattle.ext_plan_plain.proofs.Numberings.{is_known, is_next, there_then}
 use Rattle.ext_one_report.proofs.PlanCells.{changed_by}
 use Rattle.ext_one_report.proofs.MatchingWords.{IsNumbered, Places, TextMeaning, plain_meaning, plain_slot, text_of}
 use Rattle.ext_one_report.proofs.StepsWords.{HasRoom}

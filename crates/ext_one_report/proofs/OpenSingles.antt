@@ -24,11 +24,11 @@ use Rattle.ext_plan.specs.StepWords.{changes, looks_along}
 use Rattle.ext_plan.specs.StoreKeys.{key_of_step}
 use Rattle.ext_store.specs.Stores.{StoreView}
 use Rattle.ext_engine.specs.Order.{IsMadeBy}
-use Rattle.ext_plain.specs.ValueStates.{ValueState}
-use Rattle.ext_plain.specs.StepRuns.{StepEnd, and_then, ended, step_run, steps_run}
-use Rattle.ext_plain.proofs.Stepping.{steps_run-nil}
-use Rattle.ext_parallel.specs.StoreCalls.{HasFrame, PlanLane}
-use Rattle.ext_parallel.specs.StoreSteps.{PlacesItsKey, StepRun, StepsRun}
+use Rattle.ext_plan_plain.specs.ValueStates.{ValueState}
+use Rattle.ext_plan_plain.specs.StepRuns.{StepEnd, and_then, ended, step_run, steps_run}
+use Rattle.ext_plan_plain.proofs.Stepping.{steps_run-nil}
+use Rattle.ext_plan_parallel.specs.StoreCalls.{HasFrame, PlanLane}
+use Rattle.ext_plan_parallel.specs.StoreSteps.{PlacesItsKey, StepRun, StepsRun}
 use Rattle.ext_one_report.proofs.PlanCells.{IsCellOf, changed_by}
 use Rattle.ext_one_report.proofs.Steps.{steps_on}
 use Rattle.ext_one_report.proofs.CallsWords.{StepWithin}

@@ -20,10 +20,10 @@ use Rattle.ext_plan.specs.StepCalls.{label_of, start_of}
 use Rattle.ext_plan.specs.StoreKeys.{key_of_step}
 use Rattle.ext_plan.specs.Values.{ValueText}
 use Rattle.ext_cells.specs.Lanes.{CellsId}
-use Rattle.ext_plain.specs.ValueStates.{ValueState, enough, value_of}
-use Rattle.ext_plain.specs.StepRuns.{StepEnd, compute_numbered, computefail_numbered, numbered_by}
-use Rattle.ext_parallel.specs.StoreCalls.{PlanLane}
-use Rattle.ext_parallel.specs.StoreSteps.{StepComputes, StepFails}
+use Rattle.ext_plan_plain.specs.ValueStates.{ValueState, enough, value_of}
+use Rattle.ext_plan_plain.specs.StepRuns.{StepEnd, compute_numbered, computefail_numbered, numbered_by}
+use Rattle.ext_plan_parallel.specs.StoreCalls.{PlanLane}
+use Rattle.ext_plan_parallel.specs.StoreSteps.{StepComputes, StepFails}
 use Rattle.ext_one_report.proofs.PlanCells.{changed_by}
 use Rattle.ext_one_report.proofs.StandingsWords.{AreMatched, KnowsMore, fault, fault_stands, value, standing_of, value_stands}
 use Rattle.ext_one_report.proofs.MatchingWords.{HasNumberIn, IsNumbered, Matches, Places, RunView, TextMeaning, cell_of, plain_meaning, plain_slot, text_of}

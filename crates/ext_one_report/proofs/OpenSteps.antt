@@ -14,10 +14,10 @@ use Rattle.ext_plan.specs.Plans.{KeyText, StepText}
 use Rattle.ext_plan.specs.StepCalls.{start_of}
 use Rattle.ext_plan.specs.Steps.{height}
 use Rattle.ext_store.specs.Stores.{IsLaneOf}
-use Rattle.ext_plain.specs.ValueStates.{ValueState}
-use Rattle.ext_plain.specs.StepRuns.{StepEnd, step_run}
-use Rattle.ext_parallel.specs.StoreCalls.{PlanLane}
-use Rattle.ext_parallel.specs.StoreSteps.{StepRun}
+use Rattle.ext_plan_plain.specs.ValueStates.{ValueState}
+use Rattle.ext_plan_plain.specs.StepRuns.{StepEnd, step_run}
+use Rattle.ext_plan_parallel.specs.StoreCalls.{PlanLane}
+use Rattle.ext_plan_parallel.specs.StoreSteps.{StepRun}
 use Rattle.ext_one_report.specs.FullRuns.{StepFinds}
 use Rattle.ext_one_report.proofs.CallsWords.{StepHasRoom}
 use Rattle.ext_one_report.proofs.MatchingWords.{HasNumberIn, IsNumbered, IsRunView, Matches, Places, RunView, cell_of, plain_meaning, plain_slot}

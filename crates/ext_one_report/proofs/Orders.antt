@@ -5,7 +5,7 @@ use Rattle.std.specs.Prelude.{ℕ, ◌≡◌, ◌≢◌, ◌<◌, ◌≤◌, ◌
 use Rattle.ext_model.specs.History.{History, slots_in, state_after}
 use Rattle.ext_tree.specs.Keys.{KeyValue}
 use Rattle.ext_plan.specs.Values.{ValueText, begins_with}
-use Rattle.ext_plain.specs.ValueStates.{ValueState}
+use Rattle.ext_plan_plain.specs.ValueStates.{ValueState}
 use Rattle.ext_one_report.proofs.MatchingWords.{HasNumberIn, Places, RunView, cell_of, plain_slot}
 use Rattle.ext_one_report.proofs.OfPlan.{value_in}
 

@@ -9,7 +9,7 @@ use Rattle.ext_model.proofs.Stored.{drew_own}
 use Rattle.ext_plan.specs.Plans.{PlanText}
 use Rattle.ext_plan.specs.StoreKeys.{is_there, number_of_key}
 use Rattle.ext_plan.specs.Values.{ValueText}
-use Rattle.ext_plain.specs.ValueStates.{ValueState, value_of}
+use Rattle.ext_plan_plain.specs.ValueStates.{ValueState, value_of}
 use Rattle.ext_tree.specs.Keys.{KeyValue}
 use Rattle.ext_one_report.proofs.MatchingWords.{HasNumberIn, IsNumbered, Matches, Places, RunView, cell_of, plain_meaning, plain_slot}
 use Rattle.ext_one_report.proofs.Matching.{plain_none, plain_there}

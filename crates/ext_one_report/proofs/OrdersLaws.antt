@@ -4,7 +4,7 @@ use Rattle.ext_model.specs.History.{History, slots_in}
 use Rattle.ext_tree.specs.Keys.{KeyValue}
 use Rattle.ext_tree.proofs.KeyPlacing.{one_key, one_number}
 use Rattle.ext_plan.specs.Values.{ValueText}
-use Rattle.ext_plain.specs.ValueStates.{ValueState}
+use Rattle.ext_plan_plain.specs.ValueStates.{ValueState}
 use Rattle.ext_one_report.proofs.MatchingWords.{HasNumberIn, RunView, cell_of, plain_slot}
 use Rattle.ext_one_report.proofs.OfPlan.{value_in}
 use Rattle.ext_one_report.proofs.Orders.{AreNew, Fails, OrdersFewer, OrdersFresh, OrdersOne, OrdersSame, OrdersThen, StandWith}

@@ -12,10 +12,10 @@ use Rattle.ext_model.specs.Plain.{Place, any_lane, plain_reply, same_place, unde
 use Rattle.ext_model.proofs.Lookups.{nearest_decides}
 use Rattle.ext_plan.specs.declared.reason.Reason.{Reason}
 use Rattle.ext_plan.specs.Values.{ValueText}
-use Rattle.ext_plain.specs.StepRuns.{StepEnd, compute_looked, computefail_looked, ended, factory_failed, factory_gave, found_along, or_refused}
+use Rattle.ext_plan_plain.specs.StepRuns.{StepEnd, compute_looked, computefail_looked, ended, factory_failed, factory_gave, found_along, or_refused}
 use Rattle.ext_lifecycle.specs.Endings.{successful}
-use Rattle.ext_plain.specs.ValueStates.{ValueState, after_act, keep_value, next_number, reply_to, why_refused}
-use Rattle.ext_plain.proofs.Values.{keep-drawn}
+use Rattle.ext_plan_plain.specs.ValueStates.{ValueState, after_act, keep_value, next_number, reply_to, why_refused}
+use Rattle.ext_plan_plain.proofs.Values.{keep-drawn}
 use Rattle.ext_one_report.proofs.FrameSlots.{reply_drawn}
 use Rattle.ext_one_report.proofs.Matching.{draw_slots}
 use Rattle.ext_one_report.proofs.OfPlan.{value_in}

@@ -23,10 +23,10 @@ use Rattle.ext_plan.specs.StepWords.{word_text}
 use Rattle.ext_plan.specs.StepCalls.{call_of, label_of, start_of}
 use Rattle.ext_plan.specs.StoreKeys.{is_there, key_of_step, number_of_key}
 use Rattle.ext_plan.specs.Values.{ValueText}
-use Rattle.ext_plain.specs.ValueStates.{ValueState, after_act, enough, reply_to}
-use Rattle.ext_plain.specs.StepRuns.{StepEnd, compute_looked, compute_numbered, computefail_looked, computefail_numbered, found_along, numbered_by, put_by, remove_numbered, step_run}
-use Rattle.ext_parallel.specs.StoreCalls.{PlanLane}
-use Rattle.ext_parallel.specs.StoreSteps.{StepComputes, StepFails, StepRemoves, StepRun}
+use Rattle.ext_plan_plain.specs.ValueStates.{ValueState, after_act, enough, reply_to}
+use Rattle.ext_plan_plain.specs.StepRuns.{StepEnd, compute_looked, compute_numbered, computefail_looked, computefail_numbered, found_along, numbered_by, put_by, remove_numbered, step_run}
+use Rattle.ext_plan_parallel.specs.StoreCalls.{PlanLane}
+use Rattle.ext_plan_parallel.specs.StoreSteps.{StepComputes, StepFails, StepRemoves, StepRun}
 use Rattle.ext_one_report.proofs.MatchingWords.{HasNumberIn, Places, RunView, TextMeaning, after_event, cell_of, plain_meaning, plain_slot}
 use Rattle.ext_one_report.proofs.StandingsWords.{AreMatched, Standing, fault, nothing, sealed, value}
 use Rattle.ext_one_report.proofs.Standings.{Holds, holds}

@@ -21,7 +21,7 @@ use Rattle.ext_store_core.specs.declared.fault.Refusal.TheVariants as refusal
 use Rattle.ext_store.specs.Stores.{StoreView, cell_in, context_cells}
 use Rattle.ext_store.specs.Computing.{IsRefused}
 use Rattle.ext_store.specs.Waiting.{IsDecided}
-use Rattle.ext_plain.specs.ValueStates.{ValueState}
+use Rattle.ext_plan_plain.specs.ValueStates.{ValueState}
 use Rattle.ext_one_report.specs.Changing.{events_at}
 use Rattle.ext_one_report.proofs.MatchingWords.{AreNotAt, HasNumberIn, IsRunView, Matches, Places, RunView, cell_of}
 use Rattle.ext_one_report.proofs.StepsWords.{IsAlone}

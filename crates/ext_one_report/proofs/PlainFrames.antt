@@ -1,9 +1,9 @@
 -- What a part of a plain run leaves as it was: all places that no step of it may change and whose context it does not close.
--- Javadoc `ExtensionContext.Store`; what a plain run is stands in [ext_plain PlainRun].
+-- Javadoc `ExtensionContext.Store`; what a plain run is stands in [ext_plan_plain PlainRun].
 use Rattle.std.specs.Prelude.{ℕ, ◌≡◌, ◌≤◌, ◌==◌, Bool, false, [], Some, None, length}
 use Rattle.ext_tree.specs.Keys.{KeyValue}
 use Rattle.ext_plan.specs.Values.{ValueText}
-use Rattle.ext_plain.specs.ValueStates.{ValueState, value_of}
+use Rattle.ext_plan_plain.specs.ValueStates.{ValueState, value_of}
 use Rattle.ext_one_report.proofs.MatchingWords.{Places, plain_slot}
 
 -- nothing stands in the context under a number that no key has

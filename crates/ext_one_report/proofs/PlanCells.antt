@@ -17,10 +17,10 @@ use Rattle.ext_tree.specs.Keys.{IsKeyNumber, KeepsKeys, KnownPlace}
 use Rattle.ext_tree.specs.Trees.{IsPathOf}
 use Rattle.ext_engine.specs.TreeRun.{TreeSetting, with_calls}
 use Rattle.ext_one_report.specs.Changing.{IsCallOf, MakesOnly}
-use Rattle.ext_parallel.specs.declared.steps.stored_value.StoredValue.{StoredValue}
-use Rattle.ext_parallel.specs.ParallelRun.{ParallelRun, setting_of_plan}
-use Rattle.ext_parallel.specs.StoreCalls.{PlanLane}
-use Rattle.ext_parallel.specs.StoreSteps.{StepsRun}
+use Rattle.ext_plan_parallel.specs.declared.steps.stored_value.StoredValue.{StoredValue}
+use Rattle.ext_plan_parallel.specs.ParallelRun.{ParallelRun, setting_of_plan}
+use Rattle.ext_plan_parallel.specs.StoreCalls.{PlanLane}
+use Rattle.ext_plan_parallel.specs.StoreSteps.{StepsRun}
 
 -- ---- steps
 

@@ -12,7 +12,7 @@ use Rattle.ext_plan.specs.PlanCalls.{test_in}
 use Rattle.ext_engine.specs.RunLaws.{IsOneEach}
 use Rattle.ext_engine.specs.Suites.{SuiteView}
 use Rattle.ext_engine.specs.TreeRun.{Ran}
-use Rattle.ext_plain.specs.PlainRun.{skipped_from}
+use Rattle.ext_plan_plain.specs.PlainRun.{skipped_from}
 
 -- lists of one length that have the same at each place are one
 pub same_by_places : {X : Type 0} → (xs ys : List X) → length xs ≡ length ys → ((k : ℕ) → k < length xs → slice_get xs k ≡ slice_get ys k) → xs ≡ ys

@@ -20,19 +20,19 @@ use Rattle.ext_plan.specs.Steps.{step_key}
 use Rattle.ext_plan.specs.StoreKeys.{is_there, key_of_step}
 use Rattle.ext_plan.specs.Values.{ValueText}
 use Rattle.ext_plan.proofs.KeyLists.{not_contained}
-use Rattle.ext_plain.specs.ValueStates.{Numbering, ValueState, after_act, enough, full, keep_value, known, next, next_number, numbering_of, why_refused, with_number}
-use Rattle.ext_plain.specs.StepRuns.{StepEnd, acts_by, call_by, claim_and, compute_looked, compute_numbered, computefail_looked, ended, factory_failed, factory_gave, found_along, kept_or_refused, number_by, numbered_by, or_refused, put_by, put_in, step_run, steps_run}
-use Rattle.ext_plain.specs.PlainRunLaws.{HasValues, NamesOneOf, NumbersKeys}
-use Rattle.ext_plain.proofs.Kept.{IsKept, IsKeptNaming, step-kept-by, steps-kept-by}
-use Rattle.ext_plain.proofs.Named.{OfKeys, numbers-once, of-keys}
-use Rattle.ext_plain.proofs.Numberings.{is_full}
-use Rattle.ext_plain.proofs.LimitsStay.{keeps-limits}
-use Rattle.ext_plain.proofs.Rooms.{has_room}
-use Rattle.ext_plain.proofs.Values.{act-values, keep-drawn}
+use Rattle.ext_plan_plain.specs.ValueStates.{Numbering, ValueState, after_act, enough, full, keep_value, known, next, next_number, numbering_of, why_refused, with_number}
+use Rattle.ext_plan_plain.specs.StepRuns.{StepEnd, acts_by, call_by, claim_and, compute_looked, compute_numbered, computefail_looked, ended, factory_failed, factory_gave, found_along, kept_or_refused, number_by, numbered_by, or_refused, put_by, put_in, step_run, steps_run}
+use Rattle.ext_plan_plain.specs.PlainRunLaws.{HasValues, NamesOneOf, NumbersKeys}
+use Rattle.ext_plan_plain.proofs.Kept.{IsKept, IsKeptNaming, step-kept-by, steps-kept-by}
+use Rattle.ext_plan_plain.proofs.Named.{OfKeys, numbers-once, of-keys}
+use Rattle.ext_plan_plain.proofs.Numberings.{is_full}
+use Rattle.ext_plan_plain.proofs.LimitsStay.{keeps-limits}
+use Rattle.ext_plan_plain.proofs.Rooms.{has_room}
+use Rattle.ext_plan_plain.proofs.Values.{act-values, keep-drawn}
 use Rattle.ext_one_report.proofs.StepsWords.{HasRoom}
 use Rattle.ext_one_report.proofs.CallsWords.{StepsHaveRoom}
 use Rattle.ext_one_report.proofs.Calls.{all_first, all_later, plain_goes, plain_stops, step_memory}
-use Rattle.ext_plain.proofs.Stepping.{steps_run-nil}
+use Rattle.ext_plan_plain.proofs.Stepping.{steps_run-nil}
 
 -- Each number that was drawn is that of a value, each key has one number at most, only keys of this list have any, there
 -- is a place for each of them, and so many numbers can be drawn

@@ -20,9 +20,9 @@ use Rattle.ext_engine.proofs.Finer.{tree_finer}
 use Rattle.ext_engine.proofs.Going.{goes_met, goes_same, goes_sealed, goes_then}
 use Rattle.ext_one_report.specs.Alone.{AreAllLanes}
 use Rattle.ext_one_report.proofs.WholeAlone.{fresh_all}
-use Rattle.ext_parallel.specs.declared.steps.stored_value.StoredValue.{StoredValue}
-use Rattle.ext_parallel.specs.ParallelRun.{ParallelRun, setting_of_plan}
-use Rattle.ext_parallel.specs.StoreCalls.{PlanLane}
+use Rattle.ext_plan_parallel.specs.declared.steps.stored_value.StoredValue.{StoredValue}
+use Rattle.ext_plan_parallel.specs.ParallelRun.{ParallelRun, setting_of_plan}
+use Rattle.ext_plan_parallel.specs.StoreCalls.{PlanLane}
 use Rattle.ext_one_report.proofs.PlanCells.{NumbersSo, StepsChangeOnly, setting_of_run}
 use Rattle.ext_one_report.proofs.Going.{steps_go}
 use Rattle.ext_one_report.proofs.Steps.{steps_on}

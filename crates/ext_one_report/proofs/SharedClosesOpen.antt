@@ -22,10 +22,10 @@ use Rattle.ext_engine.specs.TreeRun.{ClosesNode, TreeSetting}
 use Rattle.ext_engine.proofs.Acts.{heads_go}
 use Rattle.ext_engine.proofs.Going.{close_goes}
 use Rattle.ext_one_report.proofs.Parts.{first_within}
-use Rattle.ext_parallel.specs.declared.steps.stored_value.StoredValue.{StoredValue}
-use Rattle.ext_parallel.specs.StoreCalls.{PlanLane}
-use Rattle.ext_plain.specs.ValueStates.{ValueState}
-use Rattle.ext_plain.specs.ContextEnds.{seal_keys}
+use Rattle.ext_plan_parallel.specs.declared.steps.stored_value.StoredValue.{StoredValue}
+use Rattle.ext_plan_parallel.specs.StoreCalls.{PlanLane}
+use Rattle.ext_plan_plain.specs.ValueStates.{ValueState}
+use Rattle.ext_plan_plain.specs.ContextEnds.{seal_keys}
 use Rattle.ext_one_report.proofs.MatchingWords.{HasNumberIn, IsRunView, Places, RunView, cell_of, plain_meaning, plain_slot}
 use Rattle.ext_one_report.proofs.Open.{AreNear, Computes, Given, MayStand, Open, Stands, StandsOrNot, is_open}
 use Rattle.ext_one_report.proofs.OpenSteps.{StandsInBoth}

@@ -26,8 +26,8 @@ use Rattle.ext_one_report.proofs.Changing.{close_seals}
 use Rattle.ext_one_report.proofs.Containers.{are_children, is_concurrent_child}
 use Rattle.ext_one_report.proofs.Events.{one_event, stands_in_seen}
 use Rattle.ext_one_report.proofs.Made.{tree_on}
-use Rattle.ext_parallel.specs.declared.steps.stored_value.StoredValue.{StoredValue}
-use Rattle.ext_parallel.specs.StoreCalls.{PlanLane}
+use Rattle.ext_plan_parallel.specs.declared.steps.stored_value.StoredValue.{StoredValue}
+use Rattle.ext_plan_parallel.specs.StoreCalls.{PlanLane}
 use Rattle.ext_one_report.proofs.MatchingWords.{HasNumberIn, Places, RunView, cell_of}
 use Rattle.ext_one_report.proofs.Open.{Given, IsKeptBy, Open}
 use Rattle.ext_one_report.specs.Within.{is_within}

@@ -52,9 +52,9 @@ use Rattle.ext_store.specs.Waiting.{ComputesAfterWaits}
 use Rattle.ext_engine.specs.Order.{LaneGoesOn}
 use Rattle.ext_one_report.proofs.Events.{among_more, cut_at, in_part, one_of_acts}
 use Rattle.ext_one_report.proofs.StoreCalls.{Only, gets_only, keep_fails, keeps_only, only_makes, only_same, puts_only, removes_only}
-use Rattle.ext_parallel.specs.declared.steps.stored_value.StoredValue.{StoredValue}
-use Rattle.ext_parallel.specs.StoreCalls.{ComputesFault, ComputesValue, EndsCompute, EndsComputeFail, PlanLane, stored_view}
-use Rattle.ext_parallel.specs.StoreSteps.{PutsKept, StepComputes, StepFails, StepLooks, StepPuts, StepRemoves, StepRun, StepsRun}
+use Rattle.ext_plan_parallel.specs.declared.steps.stored_value.StoredValue.{StoredValue}
+use Rattle.ext_plan_parallel.specs.StoreCalls.{ComputesFault, ComputesValue, EndsCompute, EndsComputeFail, PlanLane, stored_view}
+use Rattle.ext_plan_parallel.specs.StoreSteps.{PutsKept, StepComputes, StepFails, StepLooks, StepPuts, StepRemoves, StepRun, StepsRun}
 use Rattle.ext_one_report.proofs.PlanCells.{changed_by}
 use Rattle.ext_one_report.proofs.Going.{steps_go}
 use Rattle.ext_one_report.proofs.MatchingWords.{HasNumberIn, IsRunView, Places, RunView, cell_of}

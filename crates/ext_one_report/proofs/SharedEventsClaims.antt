@@ -30,8 +30,8 @@ use Rattle.ext_engine.specs.Meeting.{HasSeenWithin, OnlyMeets}
 use Rattle.ext_engine.specs.Order.{IsMadeIn}
 use Rattle.ext_engine.specs.TreeRun.{TreeSetting}
 use Rattle.ext_engine.proofs.Relates.{tree_relates}
-use Rattle.ext_parallel.specs.declared.steps.stored_value.StoredValue.{StoredValue}
-use Rattle.ext_parallel.specs.StoreCalls.{PlanLane}
+use Rattle.ext_plan_parallel.specs.declared.steps.stored_value.StoredValue.{StoredValue}
+use Rattle.ext_plan_parallel.specs.StoreCalls.{PlanLane}
 use Rattle.ext_one_report.specs.Changing.{events_at}
 use Rattle.ext_one_report.proofs.EndedClaims.{AreEnded, EndsClaims, ends_calls, ends_same, ends_then}
 use Rattle.ext_one_report.proofs.Events.{behind_part, in_part, in_whole, one_event}

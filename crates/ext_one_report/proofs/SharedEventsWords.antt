@@ -17,8 +17,8 @@ use Rattle.ext_one_report.specs.Changing.{events_at}
 use Rattle.ext_engine.specs.Meeting.{HasSeen, HasSeenWithin}
 use Rattle.ext_engine.specs.Order.{ChildRun, IsMadeIn}
 use Rattle.ext_engine.specs.TreeRun.{Lanes, Ran}
-use Rattle.ext_parallel.specs.declared.steps.stored_value.StoredValue.{StoredValue}
-use Rattle.ext_parallel.specs.StoreCalls.{PlanLane}
+use Rattle.ext_plan_parallel.specs.declared.steps.stored_value.StoredValue.{StoredValue}
+use Rattle.ext_plan_parallel.specs.StoreCalls.{PlanLane}
 use Rattle.ext_one_report.proofs.MatchingWords.{HasNumberIn, Places, RunView, cell_of}
 use Rattle.ext_one_report.proofs.Open.{Computes, Given, Open}
 use Rattle.ext_one_report.proofs.FullRuns.{setting_in}

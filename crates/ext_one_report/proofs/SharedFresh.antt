@@ -4,7 +4,7 @@ use Rattle.ext_tree.specs.Keys.{KeyValue, global_namespace, key_of}
 use Rattle.ext_tree.specs.Trees.{IsParentOf}
 use Rattle.ext_plan.specs.Plans.{PlanText}
 use Rattle.ext_plan.specs.ReadPlans.{ids_of_nodes}
-use Rattle.ext_plain.specs.ValueStates.{ValueState}
+use Rattle.ext_plan_plain.specs.ValueStates.{ValueState}
 use Rattle.ext_one_report.specs.Within.{is_within}
 use Rattle.ext_one_report.proofs.Covers.{AreCovered}
 use Rattle.ext_one_report.proofs.MatchingWords.{Places, plain_slot}

@@ -13,8 +13,8 @@ use Rattle.ext_plan.specs.StepCalls.{start_of}
 use Rattle.ext_plan.specs.StepWords.{changes}
 use Rattle.ext_plan.specs.Steps.{height}
 use Rattle.ext_races.specs.MadeSteps.{calls_of}
-use Rattle.ext_plain.specs.NodeCalls.{CallsEnd, call_run, make, make_befores, make_if_successful}
-use Rattle.ext_plain.specs.ValueStates.{ValueState}
+use Rattle.ext_plan_plain.specs.NodeCalls.{CallsEnd, call_run, make, make_befores, make_if_successful}
+use Rattle.ext_plan_plain.specs.ValueStates.{ValueState}
 use Rattle.ext_one_report.proofs.Calls.{steps_memory}
 use Rattle.ext_one_report.proofs.FrameNodes.{stands_on}
 use Rattle.ext_one_report.proofs.FrameSteps.{steps_leave}

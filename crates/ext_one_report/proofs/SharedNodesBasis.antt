@@ -20,7 +20,7 @@ use Rattle.ext_engine.specs.Order.{ChildRun, IsMadeIn}
 use Rattle.ext_engine.specs.TreeRun.{Lanes, Ran, TreeSetting}
 use Rattle.ext_engine.proofs.Above.{under_root}
 use Rattle.ext_one_report.proofs.Changing.{runs_change_only}
-use Rattle.ext_parallel.specs.declared.steps.stored_value.StoredValue.{StoredValue}
+use Rattle.ext_plan_parallel.specs.declared.steps.stored_value.StoredValue.{StoredValue}
 use Rattle.ext_one_report.proofs.MatchingWords.{HasNumberIn, Places, RunView, cell_of}
 use Rattle.ext_one_report.specs.Within.{is_within}
 use Rattle.ext_one_report.proofs.FullRuns.{setting_in}

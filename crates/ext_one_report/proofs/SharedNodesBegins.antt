@@ -19,7 +19,7 @@ use Rattle.ext_engine.proofs.Acts.{shorter}
 use Rattle.ext_one_report.specs.Changing.{events_at}
 use Rattle.ext_one_report.proofs.Containers.{children_differ}
 use Rattle.ext_one_report.proofs.Kept.{same_there}
-use Rattle.ext_plain.specs.PlainRun.{RunState}
+use Rattle.ext_plan_plain.specs.PlainRun.{RunState}
 use Rattle.ext_one_report.proofs.MatchingWords.{HasNumberIn, Places, cell_of, plain_meaning, plain_slot}
 use Rattle.ext_one_report.proofs.StandingsWords.{AreMatched, KnowsMore}
 use Rattle.ext_one_report.proofs.OnCells.{same_slot}

@@ -15,7 +15,7 @@ use Rattle.ext_engine.proofs.Above.{Under, under_under}
 use Rattle.ext_engine.proofs.Acts.{shorter}
 use Rattle.ext_one_report.specs.Changing.{events_at}
 use Rattle.ext_one_report.proofs.Kept.{same_there}
-use Rattle.ext_plain.specs.PlainRun.{RunState}
+use Rattle.ext_plan_plain.specs.PlainRun.{RunState}
 use Rattle.ext_one_report.proofs.MatchingWords.{HasNumberIn, TextMeaning, cell_of, plain_meaning, plain_slot}
 use Rattle.ext_one_report.proofs.StandingsWords.{AreMatched, KnowsMore, nothing, standing_of}
 use Rattle.ext_one_report.proofs.Matching.{knows_itself}

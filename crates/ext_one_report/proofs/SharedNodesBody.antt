@@ -28,9 +28,9 @@ use Rattle.ext_engine.proofs.Acts.{Acts}
 use Rattle.ext_one_report.specs.Changing.{events_at}
 use Rattle.ext_one_report.proofs.Containers.{are_children, is_concurrent_child}
 use Rattle.ext_one_report.proofs.Kept.{same_there}
-use Rattle.ext_parallel.specs.declared.steps.stored_value.StoredValue.{StoredValue}
-use Rattle.ext_plain.specs.PlainRun.{RunState, node_run}
-use Rattle.ext_plain.proofs.Nodes.{child_path}
+use Rattle.ext_plan_parallel.specs.declared.steps.stored_value.StoredValue.{StoredValue}
+use Rattle.ext_plan_plain.specs.PlainRun.{RunState, node_run}
+use Rattle.ext_plan_plain.proofs.Nodes.{child_path}
 use Rattle.ext_one_report.proofs.MatchingWords.{HasNumberIn, Places, RunView, cell_of, plain_meaning, plain_slot}
 use Rattle.ext_one_report.proofs.StepsWords.{IsLaneIn}
 use Rattle.ext_one_report.proofs.Calls.{lane_before}

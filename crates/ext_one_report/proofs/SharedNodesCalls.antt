@@ -25,12 +25,12 @@ use Rattle.ext_store.specs.Stores.{IsLaneOf}
 use Rattle.ext_engine.specs.Meeting.{HasSeenWithin, first_seen}
 use Rattle.ext_engine.specs.Order.{IsMadeIn, LaneGoesOn}
 use Rattle.ext_engine.proofs.Acts.{Acts, same_made}
-use Rattle.ext_parallel.specs.StoreCalls.{PlanLane}
+use Rattle.ext_plan_parallel.specs.StoreCalls.{PlanLane}
 use Rattle.ext_races.specs.MadeSteps.{calls_after, calls_before, steps_before}
 use Rattle.ext_races.proofs.Lists.{all_contained}
-use Rattle.ext_plain.specs.NodeCalls.{CallsEnd, call_run, make_all, make_befores, no_calls}
-use Rattle.ext_plain.specs.ValueStates.{ValueState}
-use Rattle.ext_plain.proofs.Nodes.{start_is}
+use Rattle.ext_plan_plain.specs.NodeCalls.{CallsEnd, call_run, make_all, make_befores, no_calls}
+use Rattle.ext_plan_plain.specs.ValueStates.{ValueState}
+use Rattle.ext_plan_plain.proofs.Nodes.{start_is}
 use Rattle.ext_one_report.proofs.ComputedAbove.{NoneOpenAbove}
 use Rattle.ext_one_report.proofs.MatchingWords.{Matches, Places, RunView, cell_of}
 use Rattle.ext_one_report.proofs.StepsWords.{IsLaneIn}

@@ -8,7 +8,7 @@ use Rattle.ext_tree.specs.Trees.{IsTree}
 use Rattle.ext_engine.specs.RunLaws.{HasRun}
 use Rattle.ext_engine.specs.TreeRun.{Ran}
 use Rattle.ext_engine.proofs.Above.{Under, same_child}
-use Rattle.ext_plain.specs.PlainRun.{RunState, node_run}
+use Rattle.ext_plan_plain.specs.PlainRun.{RunState, node_run}
 use Rattle.ext_one_report.proofs.Below.{TellsBelow, all_below, one_below}
 use Rattle.ext_one_report.proofs.ChildLists.{only}
 use Rattle.ext_one_report.proofs.Fills.{computed_of, computed_told}

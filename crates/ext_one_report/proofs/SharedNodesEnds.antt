@@ -40,15 +40,15 @@ use Rattle.ext_engine.proofs.Order.{came_from}
 use Rattle.ext_engine.proofs.Seen.{acts_then, called_acts, closed_acts, opened_acts}
 use Rattle.ext_one_report.proofs.Containers.{Tree, at, body_acts_in, go}
 use Rattle.ext_one_report.proofs.Parts.{first_within, no_acts}
-use Rattle.ext_parallel.specs.declared.steps.stored_value.StoredValue.{StoredValue}
-use Rattle.ext_parallel.specs.StoreCalls.{PlanLane}
-use Rattle.ext_plain.specs.ValueStates.{ValueState}
-use Rattle.ext_plain.specs.ContextEnds.{faults_of_closes, seal_keys}
-use Rattle.ext_plain.specs.NodeCalls.{CallsEnd, afters_run, befores_run, no_calls}
-use Rattle.ext_plain.specs.PlainRun.{RunState, body_run, container_run, node_run, outcome_of, test_node_run, with_result}
-use Rattle.ext_plain.proofs.NodeCalls.{texts-successful}
-use Rattle.ext_plain.proofs.Reached.{set-elsewhere}
-use Rattle.ext_plain.proofs.Nodes.{child_path, node_run-more, start_is}
+use Rattle.ext_plan_parallel.specs.declared.steps.stored_value.StoredValue.{StoredValue}
+use Rattle.ext_plan_parallel.specs.StoreCalls.{PlanLane}
+use Rattle.ext_plan_plain.specs.ValueStates.{ValueState}
+use Rattle.ext_plan_plain.specs.ContextEnds.{faults_of_closes, seal_keys}
+use Rattle.ext_plan_plain.specs.NodeCalls.{CallsEnd, afters_run, befores_run, no_calls}
+use Rattle.ext_plan_plain.specs.PlainRun.{RunState, body_run, container_run, node_run, outcome_of, test_node_run, with_result}
+use Rattle.ext_plan_plain.proofs.NodeCalls.{texts-successful}
+use Rattle.ext_plan_plain.proofs.Reached.{set-elsewhere}
+use Rattle.ext_plan_plain.proofs.Nodes.{child_path, node_run-more, start_is}
 use Rattle.ext_one_report.proofs.MatchingWords.{Places, RunView}
 use Rattle.ext_one_report.proofs.StepsWords.{IsLaneIn}
 use Rattle.ext_one_report.specs.Within.{is_within}

@@ -11,7 +11,7 @@ use Rattle.ext_one_report.proofs.Numbers.{enough_numbers}
 use Rattle.ext_tree.specs.Keys.{KeyValue}
 use Rattle.ext_engine.specs.Meeting.{first_seen}
 use Rattle.ext_engine.specs.Order.{IsMadeIn}
-use Rattle.ext_plain.specs.PlainRun.{RunState, node_run}
+use Rattle.ext_plan_plain.specs.PlainRun.{RunState, node_run}
 use Rattle.ext_one_report.proofs.MatchingWords.{HasNumberIn, Places, cell_of, plain_meaning, plain_slot}
 use Rattle.ext_one_report.proofs.StandingsWords.{AreMatched}
 use Rattle.ext_one_report.proofs.OnCells.{same_slot}

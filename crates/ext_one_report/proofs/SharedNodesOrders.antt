@@ -14,8 +14,8 @@ use Rattle.ext_races.specs.MadeSteps.{plan_path}
 use Rattle.ext_engine.specs.Meeting.{first_seen}
 use Rattle.ext_one_report.specs.Within.{is_within}
 use Rattle.ext_one_report.proofs.Kept.{same_there}
-use Rattle.ext_plain.specs.PlainRun.{RunState}
-use Rattle.ext_plain.specs.ValueStates.{value_of}
+use Rattle.ext_plan_plain.specs.PlainRun.{RunState}
+use Rattle.ext_plan_plain.specs.ValueStates.{value_of}
 use Rattle.ext_one_report.proofs.MatchingWords.{Places, TextMeaning, cell_of, plain_meaning, plain_slot}
 use Rattle.ext_one_report.proofs.OnCells.{same_slot}
 use Rattle.ext_one_report.proofs.ChildLists.{which}

@@ -14,8 +14,8 @@ use Rattle.ext_engine.specs.Order.{AllGoOn, IsMadeIn}
 use Rattle.ext_engine.proofs.Acts.{Acts, all_made_then, heads_go, same_made, shorter}
 use Rattle.ext_engine.proofs.Seen.{acts_then}
 use Rattle.ext_one_report.proofs.Parts.{no_acts}
-use Rattle.ext_parallel.specs.StoreCalls.{PlanLane}
-use Rattle.ext_plain.specs.ValueStates.{ValueState}
+use Rattle.ext_plan_parallel.specs.StoreCalls.{PlanLane}
+use Rattle.ext_plan_plain.specs.ValueStates.{ValueState}
 use Rattle.ext_one_report.proofs.MatchingWords.{HasNumberIn, Places, RunView, cell_of, plain_meaning, plain_slot}
 use Rattle.ext_one_report.proofs.Fills.{Fills, IsFilledIn}
 use Rattle.ext_one_report.proofs.FillsLanes.{filled_first, filled_second, filled_then}

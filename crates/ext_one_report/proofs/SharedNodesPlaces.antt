@@ -8,7 +8,7 @@ use Rattle.ext_model.specs.declared.slot.Slot.{Slot}
 use Rattle.ext_model.specs.declared.slot.Slot.TheVariants as slot
 use Rattle.ext_model.specs.State.{look_at, look_in, lookup}
 use Rattle.ext_tree.specs.Keys.{KeyValue}
-use Rattle.ext_plain.specs.ValueStates.{ValueState}
+use Rattle.ext_plan_plain.specs.ValueStates.{ValueState}
 use Rattle.ext_one_report.proofs.MatchingWords.{Places, TextMeaning, plain_slot}
 use Rattle.ext_one_report.proofs.StandingsWords.{AreMatched, KnowsMore, standing_of}
 use Rattle.ext_one_report.proofs.ComputedAbove.{all_clear}

@@ -11,9 +11,9 @@ use Rattle.ext_lifecycle.specs.Lifecycle.{computed_in, endings_of, found_in}
 use Rattle.ext_lifecycle.specs.Results.{result_of, with_fault_told}
 use Rattle.ext_engine.specs.RunLaws.{HasRun, nodes_of}
 use Rattle.ext_engine.specs.TreeRun.{Ran}
-use Rattle.ext_plain.specs.NodeCalls.{CallsEnd}
-use Rattle.ext_plain.specs.PlainRun.{outcome_of, with_result}
-use Rattle.ext_plain.proofs.Reached.{set-elsewhere}
+use Rattle.ext_plan_plain.specs.NodeCalls.{CallsEnd}
+use Rattle.ext_plan_plain.specs.PlainRun.{outcome_of, with_result}
+use Rattle.ext_plan_plain.proofs.Reached.{set-elsewhere}
 use Rattle.ext_one_report.specs.Shares.{SharesNothing, AreNearResults}
 use Rattle.ext_one_report.proofs.SharedNodesWords.{AllResultsNear}
 use Rattle.ext_one_report.proofs.ResultLists.{ran_as, ran_first, ran_second, set-long, set-there}

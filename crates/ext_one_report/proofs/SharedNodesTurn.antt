@@ -23,10 +23,10 @@ use Rattle.ext_one_report.proofs.Orders.{HaveDrawn, Orders, StandWith}
 use Rattle.ext_one_report.proofs.OrdersBounds.{have_drawn}
 use Rattle.ext_one_report.proofs.OrdersLaws.{stood_there}
 use Rattle.ext_one_report.proofs.Parts.{first_within, no_acts}
-use Rattle.ext_parallel.specs.declared.steps.stored_value.StoredValue.{StoredValue}
-use Rattle.ext_parallel.specs.StoreCalls.{PlanLane}
-use Rattle.ext_plain.specs.PlainRun.{RunState}
-use Rattle.ext_plain.specs.ValueStates.{ValueState}
+use Rattle.ext_plan_parallel.specs.declared.steps.stored_value.StoredValue.{StoredValue}
+use Rattle.ext_plan_parallel.specs.StoreCalls.{PlanLane}
+use Rattle.ext_plan_plain.specs.PlainRun.{RunState}
+use Rattle.ext_plan_plain.specs.ValueStates.{ValueState}
 use Rattle.ext_one_report.proofs.MatchingWords.{HasNumberIn, Places, cell_of, plain_meaning, plain_slot}
 use Rattle.ext_one_report.proofs.StandingsWords.{AreMatched}
 use Rattle.ext_one_report.proofs.StepsWords.{IsLaneIn}

@@ -24,9 +24,9 @@ use Rattle.ext_engine.proofs.Grown.{Entry}
 use Rattle.ext_engine.proofs.Order.{came_from}
 use Rattle.ext_engine.proofs.Seen.{acts_then, dealt_acts, turn_acts, turned_within}
 use Rattle.ext_one_report.proofs.Containers.{Tree, at, go}
-use Rattle.ext_parallel.specs.declared.steps.stored_value.StoredValue.{StoredValue}
-use Rattle.ext_parallel.specs.StoreCalls.{PlanLane}
-use Rattle.ext_plain.specs.PlainRun.{RunState, node_run}
+use Rattle.ext_plan_parallel.specs.declared.steps.stored_value.StoredValue.{StoredValue}
+use Rattle.ext_plan_parallel.specs.StoreCalls.{PlanLane}
+use Rattle.ext_plan_plain.specs.PlainRun.{RunState, node_run}
 use Rattle.ext_one_report.proofs.MatchingWords.{Places}
 use Rattle.ext_one_report.proofs.StepsWords.{IsLaneIn}
 use Rattle.ext_one_report.proofs.Shared.{unshared}

@@ -22,9 +22,9 @@ use Rattle.ext_engine.specs.RunLaws.{HasRun}
 use Rattle.ext_engine.specs.Meeting.{HasSeenWithin, first_seen}
 use Rattle.ext_engine.specs.Order.{ChildRun, IsMadeIn}
 use Rattle.ext_engine.specs.TreeRun.{Lanes, Ran, TestRun}
-use Rattle.ext_parallel.specs.declared.steps.stored_value.StoredValue.{StoredValue}
-use Rattle.ext_parallel.specs.StoreCalls.{PlanLane}
-use Rattle.ext_plain.specs.PlainRun.{RunState, node_run, test_node_run}
+use Rattle.ext_plan_parallel.specs.declared.steps.stored_value.StoredValue.{StoredValue}
+use Rattle.ext_plan_parallel.specs.StoreCalls.{PlanLane}
+use Rattle.ext_plan_plain.specs.PlainRun.{RunState, node_run, test_node_run}
 use Rattle.ext_one_report.proofs.MatchingWords.{HasNumberIn, IsRunView, Places, RunView, cell_of, plain_slot}
 use Rattle.ext_one_report.proofs.StepsWords.{IsLaneIn}
 use Rattle.ext_one_report.proofs.ComputedAbove.{IsClosedAbove}

@@ -29,13 +29,13 @@ use Rattle.ext_engine.proofs.Going.{calls_go, close_goes}
 use Rattle.ext_engine.proofs.Order.{came_from}
 use Rattle.ext_engine.proofs.Seen.{acts_close, acts_first}
 use Rattle.ext_one_report.proofs.Parts.{no_acts}
-use Rattle.ext_parallel.specs.declared.steps.stored_value.StoredValue.{StoredValue}
-use Rattle.ext_parallel.specs.StoreCalls.{PlanLane}
-use Rattle.ext_plain.specs.ValueStates.{ValueState}
-use Rattle.ext_plain.specs.ContextEnds.{faults_of_closes, seal_keys}
-use Rattle.ext_plain.specs.NodeCalls.{CallsEnd}
-use Rattle.ext_plain.specs.PlainRun.{RunState, outcome_of, test_node_run, with_result}
-use Rattle.ext_plain.proofs.Nodes.{start_is}
+use Rattle.ext_plan_parallel.specs.declared.steps.stored_value.StoredValue.{StoredValue}
+use Rattle.ext_plan_parallel.specs.StoreCalls.{PlanLane}
+use Rattle.ext_plan_plain.specs.ValueStates.{ValueState}
+use Rattle.ext_plan_plain.specs.ContextEnds.{faults_of_closes, seal_keys}
+use Rattle.ext_plan_plain.specs.NodeCalls.{CallsEnd}
+use Rattle.ext_plan_plain.specs.PlainRun.{RunState, outcome_of, test_node_run, with_result}
+use Rattle.ext_plan_plain.proofs.Nodes.{start_is}
 use Rattle.ext_one_report.proofs.CallListsWords.{CallsAlike}
 use Rattle.ext_one_report.proofs.ComputedAbove.{NoneOpenAbove}
 use Rattle.ext_one_report.proofs.MatchingWords.{HasNumberIn, Matches, Places, RunView, cell_of}

@@ -18,7 +18,7 @@ use Rattle.ext_plan.specs.ReadPlans.{ids_of_nodes}
 use Rattle.ext_plan.specs.StepCalls.{start_of}
 use Rattle.ext_plan.specs.StepWords.{changes as changes_of, gives_value}
 use Rattle.ext_plan.specs.StoreKeys.{key_of_step}
-use Rattle.ext_plain.specs.ValueStates.{ValueState}
+use Rattle.ext_plan_plain.specs.ValueStates.{ValueState}
 use Rattle.ext_races.specs.Acts.{ActText}
 use Rattle.ext_races.specs.MadeSteps.{calls_after, calls_before, plan_path, steps_before}
 use Rattle.ext_races.proofs.Lists.{contains-flat_map, contains-flat_map_back}

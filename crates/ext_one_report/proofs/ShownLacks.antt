@@ -18,7 +18,7 @@ use Rattle.ext_locks.specs.Sets.{HeldView}
 use Rattle.ext_plan.specs.LockNames.{lock_names}
 use Rattle.ext_plan.specs.Plans.{PlanText}
 use Rattle.ext_plan.specs.ReadPlans.{IsReadPlan}
-use Rattle.ext_plain.proofs.Spared.{neither}
+use Rattle.ext_plan_plain.proofs.Spared.{neither}
 use Rattle.ext_store.specs.Stores.{StoreView}
 use Rattle.ext_closing.specs.Closing.{CallIf, Closing, ClosesOne}
 use Rattle.ext_crew.specs.Dealing.{RunByDealing}
@@ -28,12 +28,12 @@ use Rattle.ext_engine.specs.TreeRun.{BodyRun, ClosesNode, ContainerRun, Lanes, M
 use Rattle.ext_engine.proofs.Grown.{Entry}
 use Rattle.ext_engine.proofs.RunLaws.{one_result_each}
 use Rattle.ext_engine.proofs.GrownRuns.{grown}
-use Rattle.ext_parallel.specs.declared.steps.stored_value.StoredValue.{StoredValue}
-use Rattle.ext_parallel.specs.Lacking.{may_have_lacked}
-use Rattle.ext_parallel.specs.ParallelRun.{ClosesValue, ParallelRun, setting_of_plan}
-use Rattle.ext_parallel.specs.PlanSuites.{suite_of}
-use Rattle.ext_parallel.specs.StoreCalls.{PlanLane, stored_view}
-use Rattle.ext_parallel.proofs.Runnable.{tree_runnable}
+use Rattle.ext_plan_parallel.specs.declared.steps.stored_value.StoredValue.{StoredValue}
+use Rattle.ext_plan_parallel.specs.Lacking.{may_have_lacked}
+use Rattle.ext_plan_parallel.specs.ParallelRun.{ClosesValue, ParallelRun, setting_of_plan}
+use Rattle.ext_plan_parallel.specs.PlanSuites.{suite_of}
+use Rattle.ext_plan_parallel.specs.StoreCalls.{PlanLane, stored_view}
+use Rattle.ext_plan_parallel.proofs.Runnable.{tree_runnable}
 use Rattle.ext_plan.specs.Values.{close_fault}
 use Rattle.ext_one_report.specs.FullRuns.{CallsFully, ClosesFully, full_setting}
 use Rattle.ext_one_report.specs.ShownLacks.{TellsLacks}

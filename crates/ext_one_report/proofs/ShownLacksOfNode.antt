@@ -25,13 +25,13 @@ use Rattle.ext_plan.specs.StepCalls.{label_of}
 use Rattle.ext_plan.specs.Steps.{step_key}
 use Rattle.ext_plan.specs.StepTexts.{refused_text, words}
 use Rattle.ext_plan.specs.Verdicts.{refused}
-use Rattle.ext_plain.proofs.Spared.{neither}
+use Rattle.ext_plan_plain.proofs.Spared.{neither}
 use Rattle.ext_store.specs.Stores.{StoreView}
 use Rattle.ext_closing.specs.Closing.{Answer, fault_in}
-use Rattle.ext_parallel.specs.ParallelRun.{MakesCall}
-use Rattle.ext_parallel.specs.PlanActions.{AnswersClose}
-use Rattle.ext_parallel.specs.Saying.{no_memory}
-use Rattle.ext_parallel.specs.StoreCalls.{PlanLane}
+use Rattle.ext_plan_parallel.specs.ParallelRun.{MakesCall}
+use Rattle.ext_plan_parallel.specs.PlanActions.{AnswersClose}
+use Rattle.ext_plan_parallel.specs.Saying.{no_memory}
+use Rattle.ext_plan_parallel.specs.StoreCalls.{PlanLane}
 use Rattle.ext_one_report.specs.FullRuns.{AnswersText, CallsFully, FindsAll, IsForRoom, StepFinds, name_of}
 
 -- ---- texts

@@ -34,11 +34,11 @@ use Rattle.ext_store_core.specs.declared.fault.Refusal.{Refusal}
 use Rattle.ext_cells.specs.Lanes.{Lane}
 use Rattle.ext_store.specs.Stores.{StoreView, cell_in}
 use Rattle.ext_store.specs.LaneCalls.{Gets, IsKeyRefused, key_refusal}
-use Rattle.ext_plain.specs.ValueStates.{ValueState, enough, value_of}
-use Rattle.ext_plain.specs.StepRuns.{StepEnd, ended, found_along, seen_by as plain_seen, shown, shown_fault, want_numbered, none_numbered}
-use Rattle.ext_parallel.specs.Saying.{Says, Ends, EndsRefused, no_memory}
-use Rattle.ext_parallel.specs.StoreCalls.{PlanLane, Sees, Shows, fault_seen, stored_view}
-use Rattle.ext_parallel.specs.StoreSteps.{StepLooks}
+use Rattle.ext_plan_plain.specs.ValueStates.{ValueState, enough, value_of}
+use Rattle.ext_plan_plain.specs.StepRuns.{StepEnd, ended, found_along, seen_by as plain_seen, shown, shown_fault, want_numbered, none_numbered}
+use Rattle.ext_plan_parallel.specs.Saying.{Says, Ends, EndsRefused, no_memory}
+use Rattle.ext_plan_parallel.specs.StoreCalls.{PlanLane, Sees, Shows, fault_seen, stored_view}
+use Rattle.ext_plan_parallel.specs.StoreSteps.{StepLooks}
 use Rattle.ext_one_report.proofs.StandingsWords.{Shown, absent, found, met, closed, fault_shown, value_shown, shown_of, AreMatched, ShowTheSame}
 use Rattle.ext_one_report.proofs.MatchingWords.{RunView, HasNumberIn, Places, Matches, cell_of, plain_meaning, text_of}
 use Rattle.ext_one_report.proofs.StepsWords.{IsLaneIn, AreCompared, LooksWithin, EndAlike, WordEndsAlike, words_of}

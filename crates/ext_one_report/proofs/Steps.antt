@@ -25,8 +25,8 @@ use Rattle.ext_engine.specs.Order.{IsMadeBy, LaneGoesOn}
 use Rattle.ext_one_report.proofs.EndedClaims.{EndsClaims, ends_then}
 use Rattle.ext_one_report.proofs.Events.{in_part}
 use Rattle.ext_one_report.proofs.StoreCalls.{Only, gets_only, keep_fails, keeps_only, only_ends, only_makes, only_same, puts_only, removes_only, waits_only}
-use Rattle.ext_parallel.specs.StoreCalls.{PlanLane}
-use Rattle.ext_parallel.specs.StoreSteps.{PutsKept, StepComputes, StepFails, StepLooks, StepPuts, StepRemoves, StepRun, StepsRun}
+use Rattle.ext_plan_parallel.specs.StoreCalls.{PlanLane}
+use Rattle.ext_plan_parallel.specs.StoreSteps.{PutsKept, StepComputes, StepFails, StepLooks, StepPuts, StepRemoves, StepRun, StepsRun}
 use Rattle.ext_one_report.proofs.PlanCells.{IsCellOf, changed_by}
 use Rattle.ext_one_report.proofs.Going.{steps_go}
 use Rattle.ext_one_report.proofs.WordCases.{finds_none}

@@ -1,5 +1,5 @@
 -- A step on a lane that is alone on its places, beside the same step of a plain run: when the two are compared, and what it means that they end alike.
--- Javadoc `ExtensionContext.Store`. What a step does on a lane is a definition of [ext_parallel StoreSteps], and what it does in a plain run one of [ext_plain StepRuns].
+-- Javadoc `ExtensionContext.Store`. What a step does on a lane is a definition of [ext_plan_parallel StoreSteps], and what it does in a plain run one of [ext_plan_plain StepRuns].
 -- That memory, places, numbers and keys suffice is asked of what the step says, and of the plain run.
 use Rattle.ext_one_report.specs.FullRuns.{FindsAll}
 use Rattle.std.specs.Prelude.{ℕ, ◌≡◌, ◌≢◌, ◌<◌, ◌++◌, Bool, true, false, nat_eq, List, All, Contains, length, drop, Option, None, Some, string_bytes}
@@ -20,12 +20,12 @@ use Rattle.ext_plan.specs.Plans.{KeyText, StepKeyText, StepText, keyed}
 use Rattle.ext_plan.specs.StepCalls.{call_of, label_of, start_of}
 use Rattle.ext_plan.specs.StepWords.{looks_along, word_text}
 use Rattle.ext_plan.specs.StoreKeys.{is_there, key_of_step}
-use Rattle.ext_plain.specs.ValueStates.{ValueState}
-use Rattle.ext_plain.specs.StepRuns.{StepEnd, step_run}
-use Rattle.ext_parallel.specs.declared.steps.stored_value.StoredValue.{StoredValue}
-use Rattle.ext_parallel.specs.Saying.{no_memory}
-use Rattle.ext_parallel.specs.StoreCalls.{PlanLane, stored_view}
-use Rattle.ext_parallel.specs.StoreSteps.{StepDoes, StepRun}
+use Rattle.ext_plan_plain.specs.ValueStates.{ValueState}
+use Rattle.ext_plan_plain.specs.StepRuns.{StepEnd, step_run}
+use Rattle.ext_plan_parallel.specs.declared.steps.stored_value.StoredValue.{StoredValue}
+use Rattle.ext_plan_parallel.specs.Saying.{no_memory}
+use Rattle.ext_plan_parallel.specs.StoreCalls.{PlanLane, stored_view}
+use Rattle.ext_plan_parallel.specs.StoreSteps.{StepDoes, StepRun}
 use Rattle.ext_one_report.proofs.MatchingWords.{RunView, IsRunView, HasNumberIn, Places, Matches, IsNumbered, cell_of}
 
 -- ---- the lane

@@ -27,8 +27,8 @@ use Rattle.ext_one_report.proofs.Made.{MakesOnlySuch, runs_make_such}
 use Rattle.ext_one_report.proofs.Changing.{close_seals}
 use Rattle.ext_one_report.proofs.Events.{event_at, made_in_seen, one_event}
 use Rattle.ext_one_report.proofs.WholeAlone.{whole_made}
-use Rattle.ext_parallel.specs.ParallelRun.{ParallelRun}
-use Rattle.ext_parallel.specs.StoreCalls.{PlanLane}
+use Rattle.ext_plan_parallel.specs.ParallelRun.{ParallelRun}
+use Rattle.ext_plan_parallel.specs.StoreCalls.{PlanLane}
 use Rattle.ext_one_report.proofs.StoredWords.{IsCellOfKey, OfRuns, OnlyNamedCells, StandOnce, UnnamedKeepNothing, number_in}
 use Rattle.ext_one_report.proofs.Runs.{numbered_run, run_lanes, run_moves, run_setting, run_within}
 use Rattle.ext_one_report.proofs.Steps.{steps_on}

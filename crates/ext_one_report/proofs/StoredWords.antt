@@ -14,7 +14,7 @@ use Rattle.ext_model.specs.History.{History, state_after}
 use Rattle.ext_plan.specs.Plans.{PlanText}
 use Rattle.ext_store.specs.Stores.{StoreView, cell_in}
 use Rattle.ext_tree.specs.Keys.{IsKeyNumber, KeyValue, KnownPlace}
-use Rattle.ext_parallel.specs.ParallelRun.{ParallelRun}
+use Rattle.ext_plan_parallel.specs.ParallelRun.{ParallelRun}
 
 -- the number in a cell: of the value or the fault that stands there, or of the value that its seal keeps
 abbrev pub number_in : Option Slot → Option ℕ

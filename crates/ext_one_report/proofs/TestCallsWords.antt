@@ -9,9 +9,9 @@ use Rattle.ext_lifecycle.specs.Lifecycle.{MakesCalls}
 use Rattle.ext_plan.specs.Plans.{PlanText}
 use Rattle.ext_plan.specs.PlanCalls.{registered, steps_of_call}
 use Rattle.ext_store.specs.Stores.{StoreView}
-use Rattle.ext_plain.specs.ValueStates.{ValueState}
-use Rattle.ext_plain.specs.NodeCalls.{CallsEnd, afters_run, befores_run, test_run}
-use Rattle.ext_parallel.specs.StoreCalls.{PlanLane}
+use Rattle.ext_plan_plain.specs.ValueStates.{ValueState}
+use Rattle.ext_plan_plain.specs.NodeCalls.{CallsEnd, afters_run, befores_run, test_run}
+use Rattle.ext_plan_parallel.specs.StoreCalls.{PlanLane}
 use Rattle.ext_one_report.proofs.CallsWords.{StepsHaveRoom}
 use Rattle.ext_one_report.proofs.CallListsWords.{BeforesHaveRoom, CallsFind, CallsHaveRoom, Makes}
 

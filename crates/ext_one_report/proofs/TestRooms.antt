@@ -12,8 +12,8 @@ use Rattle.ext_plan.specs.ReadPlans.{IsReadPlan, ids_of_nodes}
 use Rattle.ext_races.specs.MadeSteps.{calls_after, calls_before, calls_of, plan_path}
 use Rattle.ext_races.specs.Touches.{keys_named}
 use Rattle.ext_races.proofs.Lists.{all_contained}
-use Rattle.ext_plain.specs.ValueStates.{ValueState}
-use Rattle.ext_plain.specs.NodeCalls.{CallsEnd, befores_run, call_run, no_calls, test_run}
+use Rattle.ext_plan_plain.specs.ValueStates.{ValueState}
+use Rattle.ext_plan_plain.specs.NodeCalls.{CallsEnd, befores_run, call_run, no_calls, test_run}
 use Rattle.ext_one_report.proofs.MatchingWords.{RunView}
 use Rattle.ext_one_report.proofs.TestCallsWords.{TestHasRoom, afters_round, befores_round, plain_test}
 use Rattle.ext_one_report.proofs.CallLists.{if_made}

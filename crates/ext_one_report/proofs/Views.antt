@@ -14,11 +14,11 @@ use Rattle.ext_plan.specs.Values.{ValueText}
 use Rattle.ext_store.specs.Stores.{StoreView, fresh_store_lane}
 use Rattle.ext_engine.specs.Order.{LaneGoesOn}
 use Rattle.ext_engine.proofs.Going.{tree_goes}
-use Rattle.ext_parallel.specs.declared.steps.stored_value.StoredValue.{StoredValue}
-use Rattle.ext_parallel.specs.Finding.{PlansGoOn}
-use Rattle.ext_parallel.specs.Opened.{all_faults, all_known}
-use Rattle.ext_parallel.specs.ParallelRun.{setting_of_plan}
-use Rattle.ext_parallel.specs.StoreCalls.{PlanLane, stored_view}
+use Rattle.ext_plan_parallel.specs.declared.steps.stored_value.StoredValue.{StoredValue}
+use Rattle.ext_plan_parallel.specs.Finding.{PlansGoOn}
+use Rattle.ext_plan_parallel.specs.Opened.{all_faults, all_known}
+use Rattle.ext_plan_parallel.specs.ParallelRun.{setting_of_plan}
+use Rattle.ext_plan_parallel.specs.StoreCalls.{PlanLane, stored_view}
 use Rattle.ext_one_report.proofs.MatchingWords.{RunView, TextMeaning}
 use Rattle.ext_one_report.proofs.StepsWords.{words_of}
 use Rattle.ext_one_report.proofs.ViewsWords.{AreSeenAsOne, EarlierIsSo, KnowsFault, KnowsValue, RunsAreSeenAsOne}

@@ -1,5 +1,5 @@
 -- What is so of a whole run of a plan on several lanes: one view of it, in which all is so that any of its lanes knows of keys, values and faults.
--- Own rule. That any two lanes know the same of a number, and number keys alike, is said of each such run by [ext_parallel ParallelRun].
+-- Own rule. That any two lanes know the same of a number, and number keys alike, is said of each such run by [ext_plan_parallel ParallelRun].
 use Rattle.std.specs.Prelude.{ℕ, ◌≡◌, ◌<◌, List, length, Contains, Some}
 use Rattle.ext_model.specs.declared.look.Fault.{Fault}
 use Rattle.ext_tree.specs.Keys.{KnownPlace}
@@ -9,9 +9,9 @@ use Rattle.ext_plan.specs.Plans.{PlanText}
 use Rattle.ext_plan.specs.Values.{ValueText}
 use Rattle.ext_store.specs.Stores.{StoreView}
 use Rattle.ext_engine.specs.Order.{LaneGoesOn}
-use Rattle.ext_parallel.specs.declared.steps.stored_value.StoredValue.{StoredValue}
-use Rattle.ext_parallel.specs.ParallelRun.{ParallelRun}
-use Rattle.ext_parallel.specs.StoreCalls.{PlanLane, stored_view}
+use Rattle.ext_plan_parallel.specs.declared.steps.stored_value.StoredValue.{StoredValue}
+use Rattle.ext_plan_parallel.specs.ParallelRun.{ParallelRun}
+use Rattle.ext_plan_parallel.specs.StoreCalls.{PlanLane, stored_view}
 use Rattle.ext_one_report.proofs.MatchingWords.{RunView, IsRunView}
 use Rattle.ext_one_report.proofs.StepsWords.{IsLaneIn, words_of}
 

@@ -28,16 +28,16 @@ use Rattle.ext_engine.proofs.RunLaws.{one_result_each}
 use Rattle.ext_engine.proofs.Grown.{Grows, ran_once}
 use Rattle.ext_engine.proofs.GrownRuns.{grown}
 use Rattle.ext_one_report.specs.Changing.{NodesChangeOnly}
-use Rattle.ext_parallel.specs.declared.steps.stored_value.StoredValue.{StoredValue}
-use Rattle.ext_parallel.specs.ParallelRun.{ParallelRun}
-use Rattle.ext_parallel.specs.PlanSuites.{suite_of}
-use Rattle.ext_parallel.specs.StoreCalls.{PlanLane}
-use Rattle.ext_parallel.proofs.Runnable.{tree_runnable}
+use Rattle.ext_plan_parallel.specs.declared.steps.stored_value.StoredValue.{StoredValue}
+use Rattle.ext_plan_parallel.specs.ParallelRun.{ParallelRun}
+use Rattle.ext_plan_parallel.specs.PlanSuites.{suite_of}
+use Rattle.ext_plan_parallel.specs.StoreCalls.{PlanLane}
+use Rattle.ext_plan_parallel.proofs.Runnable.{tree_runnable}
 use Rattle.ext_one_report.proofs.PlanCells.{HaveChanged}
 use Rattle.ext_one_report.proofs.Going.{steps_go}
 use Rattle.ext_one_report.proofs.LanesApart.{AreApart, apart_after, fresh_apart}
 use Rattle.ext_one_report.proofs.Runs.{steps_change_only}
-use Rattle.ext_parallel.specs.Finding.{PlansGoOn}
+use Rattle.ext_plan_parallel.specs.Finding.{PlansGoOn}
 use Rattle.ext_one_report.proofs.MatchingWords.{IsRunView, RunView}
 use Rattle.ext_one_report.proofs.StepsWords.{IsLaneIn}
 use Rattle.ext_one_report.proofs.ViewsWords.{AreSeenAsOne}

@@ -6,8 +6,8 @@ use Rattle.ext_plan.specs.declared.word.Word.{Word}
 use Rattle.ext_plan.specs.declared.word.Word.TheVariants as words
 use Rattle.ext_plan.specs.Plans.{KeyText, StepKeyText}
 use Rattle.ext_plan.specs.StepWords.{changes, computes, gives_value, looks_along}
-use Rattle.ext_parallel.specs.StoreCalls.{PlanLane}
-use Rattle.ext_parallel.specs.StoreSteps.{FindsNoMemory, LacksMemory}
+use Rattle.ext_plan_parallel.specs.StoreCalls.{PlanLane}
+use Rattle.ext_plan_parallel.specs.StoreSteps.{FindsNoMemory, LacksMemory}
 
 -- what is so of the two computes that give a value
 pub of_computes : (P : Word → Type 0) → P words.Compute → P words.ComputeCloseable → (word : Word) → gives_value word ≡ true → P word

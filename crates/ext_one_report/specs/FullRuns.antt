@@ -1,6 +1,6 @@
 -- Runs of a plan on several lanes that lack nothing: each call and each close finds all memory, numbers, keys and
 -- places that it asks for, and is shown what stands there (JUnit 5 User Guide, "Parallel Execution"). `ParallelRun` of
--- ext_parallel says what a run of a plan is.
+-- ext_plan_parallel says what a run of a plan is.
 use Rattle.std.specs.Prelude.{ℕ, ◌≡◌, ◌≢◌, true, List, All, Option, None, Some, [], IfSome, Result, Ok, Err}
 use Rattle.ext_model.specs.declared.look.Fault.{Fault}
 use Rattle.ext_lifecycle.specs.declared.outcome.Outcome.{Outcome}
@@ -10,21 +10,21 @@ use Rattle.ext_plan.specs.declared.reason.Reason.TheVariants as reasons
 use Rattle.ext_plan.specs.Plans.{KeyText, StepText, PlanText, keyed, fail, abort}
 use Rattle.ext_plan.specs.StepCalls.{label_of}
 use Rattle.ext_plan.specs.Verdicts.{refused}
-use Rattle.ext_parallel.specs.declared.steps.stored_value.StoredValue.{StoredValue}
-use Rattle.ext_parallel.specs.Saying.{no_memory}
-use Rattle.ext_parallel.specs.StoreCalls.{PlanLane, stored_view}
+use Rattle.ext_plan_parallel.specs.declared.steps.stored_value.StoredValue.{StoredValue}
+use Rattle.ext_plan_parallel.specs.Saying.{no_memory}
+use Rattle.ext_plan_parallel.specs.StoreCalls.{PlanLane, stored_view}
 use Rattle.ext_lifecycle.specs.declared.call.Call.{Call}
 use Rattle.ext_plan.specs.Steps.{step_key}
 use Rattle.ext_plan.specs.PlanCalls.{steps_of_call, registered}
 use Rattle.ext_plan.specs.StepWords.{word_text}
 use Rattle.ext_store.specs.Stores.{StoreView}
-use Rattle.ext_parallel.specs.PlanSuites.{suite_of}
+use Rattle.ext_plan_parallel.specs.PlanSuites.{suite_of}
 use Rattle.ext_lifecycle.specs.Results.{ResultOf}
 use Rattle.ext_plan.specs.Values.{close_fault}
 use Rattle.ext_locks.specs.Opening.{LocksView}
 use Rattle.ext_locks.specs.Sets.{HeldView}
 use Rattle.ext_engine.specs.TreeRun.{TreeRun, TreeSetting}
-use Rattle.ext_parallel.specs.ParallelRun.{IsAction, MakesCall, ParallelRun}
+use Rattle.ext_plan_parallel.specs.ParallelRun.{IsAction, MakesCall, ParallelRun}
 
 -- A step refused for this reason lacked room, or was not shown what stood there.
 abbrev pub IsForRoom : Reason → Type 0

@@ -7,8 +7,8 @@ use Rattle.ext_lifecycle.specs.FaultTexts.{NodeOutcome, fault_text}
 use Rattle.ext_lifecycle.specs.Results.{ResultOf, with_fault_told}
 use Rattle.ext_plan.specs.Plans.{PlanText}
 use Rattle.ext_plan.specs.ReadPlans.{IsReadPlan}
-use Rattle.ext_parallel.specs.ParallelRun.{ParallelRun}
-use Rattle.ext_plain.specs.PlainRun.{plain_run}
+use Rattle.ext_plan_parallel.specs.ParallelRun.{ParallelRun}
+use Rattle.ext_plan_plain.specs.PlainRun.{plain_run}
 use Rattle.ext_races.specs.OneReports.{HasNearReport, HasOneReport}
 use Rattle.ext_one_report.specs.Shares.{SharedValues, shares_in, AreNearResults}
 use Rattle.ext_one_report.specs.FullRuns.{LacksNothing}

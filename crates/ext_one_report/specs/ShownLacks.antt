@@ -1,5 +1,5 @@
 -- What the results of a run on several lanes show of what it lacked, so that laws of runs that lack nothing can be
--- applied to a run by its report (JUnit 5 User Guide, "Parallel Execution"). `Lacking` of ext_parallel says which
+-- applied to a run by its report (JUnit 5 User Guide, "Parallel Execution"). `Lacking` of ext_plan_parallel says which
 -- results show a lack.
 use Rattle.std.specs.Prelude.{◌≡◌, ℕ, false, List, map}
 use Rattle.ext_model.specs.declared.look.Fault.{Fault}
@@ -7,9 +7,9 @@ use Rattle.ext_lifecycle.specs.FaultTexts.{fault_text}
 use Rattle.ext_lifecycle.specs.Results.{ResultOf, with_fault_told}
 use Rattle.ext_plan.specs.Plans.{PlanText}
 use Rattle.ext_plan.specs.ReadPlans.{IsReadPlan}
-use Rattle.ext_parallel.specs.Lacking.{may_have_lacked}
-use Rattle.ext_parallel.specs.ParallelRun.{ParallelRun}
-use Rattle.ext_plain.specs.PlainRun.{plain_run}
+use Rattle.ext_plan_parallel.specs.Lacking.{may_have_lacked}
+use Rattle.ext_plan_parallel.specs.ParallelRun.{ParallelRun}
+use Rattle.ext_plan_plain.specs.PlainRun.{plain_run}
 use Rattle.ext_one_report.specs.FullRuns.{LacksNothing}
 use Rattle.ext_races.specs.OneReports.{HasOneReport}
 

@@ -4,7 +4,7 @@ use Rattle.std.specs.Prelude.{option_map}
 use Rattle.std.specs.List.{count_by}
 use Rattle.ext_plan_reading.specs.PlanNode.{PlanNode}
 use Rattle.ext_plan_reading.specs.Plans.{nodes_view, steps_view}
-use Rattle.ext_plain.proofs.Outcomes.{is_some-map}
+use Rattle.ext_plan_plain.proofs.Outcomes.{is_some-map}
 use Rattle.ext_run.specs.Checks.{test_count}
 
 counted : (n : ℕ) (nodes : List PlanNode) → fold (λ n node. n + cond (is_some node.test) 1 0) n nodes ≡ fold (λ n node. n + cond (is_some node.test) 1 0) n (nodes_view nodes)

@@ -1,8 +1,8 @@
 -- What a run that lacked nothing gave, of a plan that has one report.
 use Rattle.std.proofs.Common.{◌≡◌, ℕ, Bool, true, false, List, map, Some, Ok, refl, ap, sym, subst, ◌∙◌}
 use Rattle.ext_lifecycle.specs.FaultTexts.{NodeOutcome}
-use Rattle.ext_plain.specs.PlainRun.{plain_run}
-use Rattle.ext_parallel.specs.Lacking.{may_have_lacked}
+use Rattle.ext_plan_plain.specs.PlainRun.{plain_run}
+use Rattle.ext_plan_parallel.specs.Lacking.{may_have_lacked}
 use Rattle.ext_plan_reading.specs.Plans.{PlanText}
 use Rattle.ext_plan_reading.specs.ReadPlans.{IsReadPlan}
 use Rattle.ext_races.specs.OneReports.{HasNearReport, HasOneReport}

@@ -3,7 +3,7 @@ use Rattle.std.specs.Prelude.{◌≡◌, ◌<◌, ◌≤◌, ℕ, ◌+◌, false
 use Rattle.std.specs.Io.KnownBytes.{Consumes, IsAtEnd}
 use Rattle.ext_ids.specs.Grammar.{Pair, IsId}
 use Rattle.ext_ids.specs.declared.making.PartFault.{PartFault}
-use Rattle.ext_parallel.specs.ParallelRun.{IsRefusedRun}
+use Rattle.ext_plan_parallel.specs.ParallelRun.{IsRefusedRun}
 use Rattle.ext_plan_reading.specs.Plans.{PlanText}
 use Rattle.ext_run.specs.declared.fault.RunFault.{RunFault}
 use Rattle.ext_run.specs.declared.fault.RunFault.TheVariants as faults

@@ -4,7 +4,7 @@
 use Rattle.std.specs.Prelude.{◌≡◌, Bool, true, false, List, Result, Ok, Err}
 use Rattle.ext_lifecycle.specs.FaultTexts.{NodeOutcome}
 use Rattle.ext_plan_reading.specs.Plans.{PlanText}
-use Rattle.ext_plain.specs.PlainRun.{plain_run}
+use Rattle.ext_plan_plain.specs.PlainRun.{plain_run}
 use Rattle.ext_races.specs.OneReports.{HasNearReport, HasOneReport}
 use Rattle.ext_one_report.specs.OneReport.{AreNearReports}
 use Rattle.ext_one_report.specs.Shares.{shares_in}

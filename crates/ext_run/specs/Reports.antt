@@ -2,7 +2,7 @@
 -- of a refused plan (`RefusedAs`). Texts are lists of bytes.
 use Rattle.std.specs.Prelude.{◌≡◌, ℕ, Bool, true, false, List, length, map, nat_lt, Result, Ok, Err, IsOk, if◌then◌else◌}
 use Rattle.std.specs.Str.{is_utf8}
-use Rattle.ext_parallel.specs.Fault.{Fault}
+use Rattle.ext_plan_parallel.specs.Fault.{Fault}
 use Rattle.ext_lifecycle.specs.FaultTexts.{NodeOutcome, fault_text}
 use Rattle.ext_lifecycle.specs.Results.{ResultOf, with_fault_told}
 use Rattle.ext_model.specs.declared.size.Size.{Size}
@@ -15,10 +15,10 @@ use Rattle.ext_plan_reading.specs.ReadPlans.{ids_of_nodes}
 use Rattle.ext_report.specs.Report.{any_failed}
 use Rattle.ext_report.specs.Forms.{report_in}
 use Rattle.ext_report.specs.declared.form.ReportForm.{ReportForm}
-use Rattle.ext_plain.specs.PlainRun.{ArePlain}
-use Rattle.ext_parallel.specs.EngineFault.{EngineFault}
-use Rattle.ext_parallel.specs.Lacking.{may_have_lacked}
-use Rattle.ext_parallel.specs.ParallelRun.{IsRefusedRun, ParallelRun}
+use Rattle.ext_plan_plain.specs.PlainRun.{ArePlain}
+use Rattle.ext_plan_parallel.specs.EngineFault.{EngineFault}
+use Rattle.ext_plan_parallel.specs.Lacking.{may_have_lacked}
+use Rattle.ext_plan_parallel.specs.ParallelRun.{IsRefusedRun, ParallelRun}
 use Rattle.ext_run.specs.declared.fault.RunFault.{RunFault}
 use Rattle.ext_run.specs.declared.fault.RunFault.TheVariants as faults
 use Rattle.ext_run.specs.declared.options.Options.{Options}

@@ -8,8 +8,8 @@ use Rattle.ext_ids.specs.declared.making.PartFault.TheVariants as parts
 use Rattle.ext_ids.specs.Faults.{HasFault}
 use Rattle.ext_ids.specs.Grammar.{Pair, IsId}
 use Rattle.ext_ids.specs.Making.{parts_fault}
-use Rattle.ext_parallel.specs.EngineFault.{EngineFault}
-use Rattle.ext_parallel.specs.EngineFault.TheVariants as engine
+use Rattle.ext_plan_parallel.specs.EngineFault.{EngineFault}
+use Rattle.ext_plan_parallel.specs.EngineFault.TheVariants as engine
 use Rattle.ext_plan_reading.specs.FaultParts.{line_of as plan_line}
 use Rattle.ext_run.specs.declared.fault.RunFault.{RunFault}
 use Rattle.ext_run.specs.declared.fault.RunFault.TheVariants as runs

@@ -3,7 +3,7 @@ ghost use Rattle.std.specs.Prelude.{◌≡◌};
 ghost use Rattle.ext_run.specs.Requests.{code_of};
 ghost use Rattle.ext_run.specs.declared.fault.RunFault.TheVariants.{Memory};
 
-use ext_parallel::EngineFault;
+use ext_plan_parallel::EngineFault;
 use ext_plan_reading::PlanFault;
 use std::alloc::AllocError;
 use std::fmt;

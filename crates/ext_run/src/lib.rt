@@ -1,7 +1,7 @@
 //! Runs plans: from the bytes of a plan to the bytes of its report.
 //!
 //! `run` reads a plan, runs it and writes the report. It runs on several lanes over a store for
-//! several threads (`ext_parallel`), or on one thread over the one-thread store (`ext_plain`). If a
+//! several threads (`ext_plan_parallel`), or on one thread over the one-thread store (`ext_plan_plain`). If a
 //! plan is refused or a device fails, that is a `RunFault`. `specs/Reports.antt` defines what a run
 //! answers to its input. `plan_of` and `run_plan` are its two halves, with a listener.
 //!
@@ -10,7 +10,7 @@
 //! `faults_of_plan`, `explain` and `explain_keys` serve callers that say why a plan was refused, or
 //! a key had no place. `read_id` writes the lines of an id, `make_id` that of one made of parts, and
 //! `status_of` is the exit status of a program for any of these requests. This crate also exports
-//! the names of `ext_ids`, `ext_model`, `ext_parallel`, `ext_plan_reading`, `ext_plain`,
+//! the names of `ext_ids`, `ext_model`, `ext_plan_parallel`, `ext_plan_reading`, `ext_plan_plain`,
 //! `ext_lifecycle` and `ext_report` that its callers need.
 //!
 //! JUnit has no plans.
@@ -37,8 +37,8 @@ pub use drawing::draw;
 pub use ext_ids::{IdFault, PartFault};
 pub use ext_lifecycle::{Call, FaultOrigin, Kind, NoListener, NodeResult, RunListener, Status};
 pub use ext_model::Size;
-pub use ext_parallel::EngineFault;
-pub use ext_plain::plain_run_laws;
+pub use ext_plan_parallel::EngineFault;
+pub use ext_plan_plain::plain_run_laws;
 pub use ext_plan_reading::{
     LabelNo, Plan, PlanFault, PlanKey, PlanLock, PlanNode, PlanPart, Step, explain, explain_id,
     read_plan_within,

@@ -29,7 +29,7 @@ pub struct Summary {
     /// Whether a step may have lacked something. After a plain run this is memory alone. If it is
     /// false, no step lacked any, and the report is that of the only plain run that the plan has.
     /// If it is true, the report has a node that failed with `no memory`, or with further faults.
-    /// After a run on several lanes it is what the results tell (`ext_parallel::may_have_lacked`):
+    /// After a run on several lanes it is what the results tell (`ext_plan_parallel::may_have_lacked`):
     /// true where a fault or an abort of a node, reported or only counted, tells of a lack. If it is
     /// false, no step and no close lacked anything. After a request that runs no step it is false.
     pub lacked: bool,

@@ -3,15 +3,15 @@ ghost use Rattle.std.specs.Prelude.{◌≡◌, ◌≤◌, ◌<◌, false, length
 ghost use Rattle.ext_plan_reading.specs.ReadPlans.{IsRunnablePlan};
 ghost use Rattle.ext_plan_reading.specs.Plans.{plan_view};
 ghost use Rattle.ext_lifecycle.specs.FaultTexts.{results_view};
-ghost use Rattle.ext_plain.specs.PlainRun.{ArePlain};
+ghost use Rattle.ext_plan_plain.specs.PlainRun.{ArePlain};
 ghost use Rattle.ext_run.specs.Reports.{IsRunAs};
 ghost use Rattle.ext_run.specs.InnerOutputs.{IsPlanFault};
 
 use crate::fault::RunFault;
 use crate::options::Options;
 use ext_lifecycle::{NodeResult, RunListener};
-use ext_parallel::{may_have_lacked, parallel_results};
-use ext_plain::run_plain;
+use ext_plan_parallel::{may_have_lacked, parallel_results};
+use ext_plan_plain::run_plain;
 use ext_plan_reading::Plan;
 use std::alloc::{AllocError, Global};
 use std::sync::Wait;

@@ -36,7 +36,7 @@ struct Output {
 ///
 /// With `plain` the plan runs on this thread over the one-thread store. This is its plain run,
 /// which has one report if memory suffices. Otherwise it runs on `lanes` lanes (1 to 16), each on
-/// at most one thread, over a store for several threads (`ext_parallel::parallel_results`). In
+/// at most one thread, over a store for several threads (`ext_plan_parallel::parallel_results`). In
 /// either run a step for which memory is refused fails with `no memory`, and a step that names a
 /// key after `key_places` others of the plan with `directory full`. `Summary::lacked` tells whether
 /// there was a step of a plain run for which memory was refused, or whether a step of a run on

@@ -1,7 +1,7 @@
 //! Plain runs of plans whose steps name keys, by their reports.
 use crate::same::same;
 use ext_lifecycle::NoListener;
-use ext_plain::run_plain;
+use ext_plan_plain::run_plain;
 use ext_plan_reading::read_plan;
 use ext_report::report_text;
 use std::alloc::{AllocError, Global};

@@ -1,6 +1,6 @@
 use Rattle.std.proofs.Common.{◌++◌, ◌∙◌, ap, codes, string_bytes, sym}
 use Rattle.ext_plan_reading.specs.Plans.{lock_view}
-use Rattle.ext_plain.proofs.Outcomes.{OnOk-map}
+use Rattle.ext_plan_plain.proofs.Outcomes.{OnOk-map}
 use Rattle.ext_run.specs.Drawings.{lock_words}
 use Rattle.ext_run.proofs.drawing.write_lock.Goals as goal
 

@@ -1,7 +1,7 @@
 use Rattle.std.proofs.Common.{◌∙◌, Bool, map, ap, sym, subst}
 use Rattle.ext_lifecycle.specs.FaultTexts.{results_view}
 use Rattle.ext_lifecycle.specs.Results.{told}
-use Rattle.ext_parallel.specs.Lacking.{may_have_lacked}
+use Rattle.ext_plan_parallel.specs.Lacking.{may_have_lacked}
 use Rattle.ext_plan_reading.specs.Plans.{plan_view}
 use Rattle.ext_run.specs.declared.fault.RunFault.TheVariants as faults
 use Rattle.ext_run.specs.Reports.{IsRunBy}

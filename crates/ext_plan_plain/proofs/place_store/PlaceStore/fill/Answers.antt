@@ -1,0 +1,16 @@
+use Rattle.ext_model.specs.declared.event.Act.TheVariants.{Fill}
+use Rattle.ext_model.specs.Plain.{Place}
+use Rattle.ext_plan_plain.proofs.Places.{claimed_used, moved, noted_step, used_open}
+use Rattle.ext_plan_plain.proofs.place_store.PlaceStore.fill.Goals as goal
+
+pub invariant_of-self : goal.invariant_of-self
+invariant_of-self c =
+    let old = c.args.self.now in
+    let place : Place = (c.args.at, c.args.key) in
+    record { few = old.few; noted = noted_step c.args.lane (Fill (c.args.at, c.args.key) c.args.number) old place c.fill.new.self (λ q on. on) (claimed_used old place c.args.lane old.noted c.requires) c.fill.ensures.state }
+
+pub returns-clause-state : goal.returns-clause-state
+returns-clause-state c =
+    let old = c.args.self.now in
+    let place : Place = (c.args.at, c.args.key) in
+    moved c.args.lane (Fill (c.args.at, c.args.key) c.args.number) old place c.fill.new.self (λ q on. on) (used_open old place (claimed_used old place c.args.lane old.noted c.requires)) c.fill.ensures.state
