@@ -24,6 +24,29 @@ pub(crate) enum Call {
     Compute,
     /// A remove in the class, which is told as a number that is found where it takes one.
     Remove,
+    /// A put in the class, which is told as a number that is found where it replaces one.
+    Put,
+}
+
+/// What a put in the class replaces.
+fn replaced<R: Wait>(
+    rt: &R,
+    store: &Store<Letter>,
+    lane: &mut Lane<Letter>,
+    key: &Key,
+) -> Option<Look>
+    requires lane { IsLaneOf store.now.id lane.old }
+    requires context { 1 < length store.now.tree }
+    ensures { IsLaneOf store.now.id lane.new }
+{
+    let Ok(kept) = store.keep_wait(lane, Letter { letter: 'z' }) else {
+        return None;
+    };
+    match store.put_wait(rt, lane, 1, key, kept) {
+        Ok(Some(number)) => Some(Look::Found { at: 1, number }),
+        Ok(None) => Some(Look::Absent),
+        Err(_) => None,
+    }
 }
 
 /// What the call finds; nothing where it is refused, or has another answer.
@@ -46,6 +69,7 @@ pub(crate) fn found_by<R: Wait>(
             Ok(None) => Some(Look::Absent),
             Err(_) => None,
         },
+        Call::Put => replaced(rt, store, lane, key),
     }
 }
 
@@ -179,7 +203,7 @@ fn beside<R: Abort + Clock + Threads + Wait + Sync>(
     beside_held(rt, alloc, held, waits, found)
 }
 
-/// Tests `Store::get_wait`, `Store::put_wait`, `Store::remove_wait` and `Store::keep_wait`.
+/// Tests `Store::get_wait`.
 #[test]
 fn look_up_waits_for_a_factory(rt: HostRuntime) -> Result<(), Fail> {
     let found = Look::Found { at: 1, number: 1 };
@@ -201,7 +225,7 @@ fn compute_waits_for_a_factory(rt: HostRuntime) -> Result<(), Fail> {
 }
 
 /// The factory fails: what was claimed is given up, which ends the wait too.
-/// Tests `Store::get_wait`, `Store::put_wait`, `Store::remove_wait` and `Store::keep_wait`.
+/// Tests `Store::remove_wait`.
 #[test]
 fn remove_waits_for_a_factory_that_fails(rt: HostRuntime) -> Result<(), Fail> {
     beside(
@@ -215,14 +239,14 @@ fn remove_waits_for_a_factory_that_fails(rt: HostRuntime) -> Result<(), Fail> {
 }
 
 /// The factory's fault is kept, which ends the wait as a value does.
-/// Tests `Store::get`, `Store::get_numbered`, `Store::get_wait` and `Store::get_wait_numbered`.
+/// Tests `Store::compute`, `Store::get_wait` and `Store::get_wait_numbered`.
 #[test]
 fn look_up_waits_for_a_factory_whose_fault_is_kept(rt: HostRuntime) -> Result<(), Fail> {
     let met = Look::Fault { at: 1, number: 1 };
     beside(&rt, rt.alloc(), true, Call::Get, Ended::FaultKept(1), met)
 }
 
-/// Tests `Store::compute` and `Store::compute_numbered`.
+/// Tests `Store::compute` and `Store::compute_wait`.
 #[test]
 fn compute_waits_for_a_factory_whose_fault_is_kept(rt: HostRuntime) -> Result<(), Fail> {
     let met = Look::Fault { at: 1, number: 1 };
@@ -237,7 +261,7 @@ fn compute_waits_for_a_factory_whose_fault_is_kept(rt: HostRuntime) -> Result<()
 }
 
 /// The remove takes the number of the fault.
-/// Tests `Store::put` and `Store::remove`.
+/// Tests `Store::compute` and `Store::remove_wait`.
 #[test]
 fn remove_waits_for_a_factory_whose_fault_is_kept(rt: HostRuntime) -> Result<(), Fail> {
     let taken = Look::Found { at: 1, number: 1 };
@@ -252,7 +276,7 @@ fn remove_waits_for_a_factory_whose_fault_is_kept(rt: HostRuntime) -> Result<(),
 }
 
 /// In a store that keeps faults a value is found as ever.
-/// Tests `Store::compute` and `Store::compute_numbered`.
+/// Tests `Store::compute` and `Store::compute_wait`.
 #[test]
 fn compute_waits_for_a_factory_beside_kept_faults(rt: HostRuntime) -> Result<(), Fail> {
     let found = Look::Found { at: 1, number: 1 };

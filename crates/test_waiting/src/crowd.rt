@@ -319,7 +319,7 @@ fn crowd_in_store<R: Abort + Clock + Threads + Wait + Sync>(
     )
 }
 
-/// Tests `Store::compute_wait`.
+/// Tests `Store::compute_wait` and `Store::remove_wait`.
 #[test]
 fn sixteen_lanes_compute_and_remove(rt: HostRuntime) -> Result<(), Fail> {
     for _ in 0..STORES {
@@ -328,7 +328,8 @@ fn sixteen_lanes_compute_and_remove(rt: HostRuntime) -> Result<(), Fail> {
     Ok(())
 }
 
-/// Tests `Store::compute_wait`.
+/// Tests `Store::compute_wait`, `Store::get_wait`, `Store::put_wait`, `Store::remove_wait` and
+/// `Store::keep_wait`.
 #[test]
 fn sixteen_lanes_make_all_calls(rt: HostRuntime) -> Result<(), Fail> {
     for _ in 0..STORES {
@@ -337,7 +338,8 @@ fn sixteen_lanes_make_all_calls(rt: HostRuntime) -> Result<(), Fail> {
     Ok(())
 }
 
-/// Tests `Store::compute` and `Store::compute_numbered`.
+/// Tests `Store::compute_wait`, `Store::get_wait`, `Store::put_wait`, `Store::remove_wait` and
+/// `Store::keep_wait`.
 #[test]
 fn sixteen_lanes_make_all_calls_and_keep_faults(rt: HostRuntime) -> Result<(), Fail> {
     for _ in 0..STORES {

@@ -31,12 +31,14 @@ enum Begin {
     Plain,
     /// By `begin_along`.
     Along,
+    /// By `compute`.
+    Compute,
     /// By `compute_wait`.
     Waiting,
 }
 
 /// How far the lanes of a round are: one sleeps in the class, one puts and removes values at the
-/// root, and one begins computes in the method.
+/// root, or faults that are kept there, and one begins computes in the method.
 #[derive(Drop)]
 struct Round {
     begin: Begin,
@@ -77,19 +79,33 @@ impl Round {
     }
 }
 
-/// Puts a value at the root and takes it out again, where a number is left.
+/// Puts a value at the root, or a fault where the store keeps faults, and wakes nobody, where a
+/// number is left.
+fn put(store: &Store<Letter>, lane: &mut Lane<Letter>, key: &Key)
+    requires lane { IsLaneOf store.now.id lane.old }
+    requires context { 0 < length store.now.tree }
+    ensures { IsLaneOf store.now.id lane.new }
+{
+    if !store.keeps_faults() {
+        if let Ok(kept) = store.keep(lane, Letter { letter: 'x' }) {
+            let _put = store.put(lane, 0, key, kept);
+        }
+    } else if let Ok(claim) = store.begin(lane, 0, key) {
+        let _failed = store.fail_decided_quietly(lane, claim, Fault::Memory);
+    }
+}
+
+/// Puts something at the root and takes it out again.
 fn put_and_remove(store: &Store<Letter>, lane: &mut Lane<Letter>, key: &Key)
     requires lane { IsLaneOf store.now.id lane.old }
     requires context { 0 < length store.now.tree }
     ensures { IsLaneOf store.now.id lane.new }
 {
-    if let Ok(kept) = store.keep(lane, Letter { letter: 'x' }) {
-        let _put = store.put(lane, 0, key, kept);
-        let _removed = store.remove(lane, 0, key);
-    }
+    put(store, lane, key);
+    let _removed = store.remove(lane, 0, key);
 }
 
-/// Puts and removes values at the root while the round asks for them.
+/// Puts and removes at the root while the round asks for it.
 fn race<R: Wait>(rt: &R, store: &Store<Letter>, lane: &mut Lane<Letter>, key: &Key, round: &Round)
     requires lane { IsLaneOf store.now.id lane.old }
     requires context { 0 < length store.now.tree }
@@ -164,7 +180,7 @@ fn begin_quietly(store: &Store<Letter>, lane: &mut Lane<Letter>, number: KeyNo, 
 
 /// Computes in the method. Where its factory is called, it tells whether the lane that sleeps went
 /// on before, and ends the round.
-fn compute_waiting<R: Clock + Wait>(
+fn compute<R: Clock + Wait>(
     rt: &R,
     store: &Store<Letter>,
     lane: &mut Lane<Letter>,
@@ -180,7 +196,11 @@ fn compute_waiting<R: Clock + Wait>(
         round.tell_woken(round.gate.ends_soon(rt));
         Err(Fault::Memory)
     };
-    let _computed = store.compute_wait(rt, lane, 2, key, factory);
+    if matches!(round.begin, Begin::Waiting) {
+        let _computed = store.compute_wait(rt, lane, 2, key, factory);
+    } else {
+        let _computed = store.compute(lane, 2, key, factory);
+    }
 }
 
 /// Begins computes in the method until the lane that sleeps went on, or a factory is called.
@@ -207,7 +227,7 @@ fn begin_until_woken<R: Clock + Wait>(
         match round.begin {
             Begin::Plain => begin_quietly(store, lane, number, false),
             Begin::Along => begin_quietly(store, lane, number, true),
-            Begin::Waiting => compute_waiting(rt, store, lane, key, round),
+            Begin::Compute | Begin::Waiting => compute(rt, store, lane, key, round),
         }
     }
 }
@@ -274,11 +294,12 @@ fn is_woken<R: Abort + Clock + Threads + Wait + Sync>(
     rt: &R,
     alloc: Global,
     begin: Begin,
+    keep_faults: bool,
 ) -> Result<bool, Fail> {
     let round = &Round::new(begin);
     with_store(
         alloc,
-        limits(3, false),
+        limits(3, keep_faults),
         |store: &Store<Letter>, key: &Key, lanes: &mut [Lane<Letter>], _closers: &mut Vec<Closer>|
             requires lanes { All (IsLaneOf store.now.id) lanes.old }
             requires contexts { 2 < length store.now.tree }
@@ -292,10 +313,11 @@ fn given_up_wakes<R: Abort + Clock + Threads + Wait + Sync>(
     rt: &R,
     alloc: Global,
     begin: Begin,
+    keep_faults: bool,
 ) -> Result<(), Fail> {
     let mut woken = false;
     for _ in 0..ROUNDS {
-        if is_woken(rt, alloc, begin)? {
+        if is_woken(rt, alloc, begin, keep_faults)? {
             woken = true;
             break;
         }
@@ -304,22 +326,25 @@ fn given_up_wakes<R: Abort + Clock + Threads + Wait + Sync>(
     Ok(())
 }
 
-/// A lane sleeps for a claim whose end woke nobody. It goes on once `begin` gives its claim up.
+/// A lane sleeps for a claim whose end woke nobody. It goes on once `begin` gives its claim up,
+/// since a value came to stand at the root, or a fault that is kept.
 #[test]
 fn begin_given_up_wakes_who_sleeps(rt: HostRuntime) -> Result<(), Fail> {
-    given_up_wakes(&rt, rt.alloc(), Begin::Plain)
+    given_up_wakes(&rt, rt.alloc(), Begin::Plain, false)?;
+    given_up_wakes(&rt, rt.alloc(), Begin::Plain, true)
 }
 
 /// A lane sleeps for a claim whose end woke nobody. It goes on once `begin_along` gives its claim
 /// up.
 #[test]
 fn begin_along_given_up_wakes_who_sleeps(rt: HostRuntime) -> Result<(), Fail> {
-    given_up_wakes(&rt, rt.alloc(), Begin::Along)
+    given_up_wakes(&rt, rt.alloc(), Begin::Along, false)
 }
 
-/// A lane sleeps for a claim whose end woke nobody. It goes on once `compute_wait` gives its claim
-/// up, before it calls its factory.
+/// A lane sleeps for a claim whose end woke nobody. It goes on once `compute` gives its claim up,
+/// and so it does by `compute_wait`, before a factory is called.
 #[test]
 fn compute_given_up_wakes_who_sleeps(rt: HostRuntime) -> Result<(), Fail> {
-    given_up_wakes(&rt, rt.alloc(), Begin::Waiting)
+    given_up_wakes(&rt, rt.alloc(), Begin::Compute, false)?;
+    given_up_wakes(&rt, rt.alloc(), Begin::Waiting, false)
 }

@@ -39,18 +39,20 @@ fn announce_and_sleep<R: Wait>(rt: &R, waiters: &Waiters, begun: &AtomicU64, end
     ended.fetch_add(1, Ordering::SeqCst);
 }
 
-/// Wakes once, some time after two lanes began to sleep. Says whether none of them went on before.
+/// Wakes once, some time after so many lanes began to sleep. Says whether none of them went on
+/// before.
 fn wake_late<R: Abort + Clock>(
     rt: &R,
     waiters: &Waiters,
     begun: &AtomicU64,
     ended: &AtomicU64,
+    lanes: u64,
 ) -> bool {
-    let begin = reaches(rt, begun, 2);
+    let begin = reaches(rt, begun, lanes);
     sleep(rt, Duration::from_millis(20));
     let asleep = ended.load(Ordering::SeqCst) == 0;
     waiters.wake_all();
-    watch(rt, ended, 2);
+    watch(rt, ended, lanes);
     begin && asleep
 }
 
@@ -61,7 +63,7 @@ fn wake_two<R: Abort + Clock + Threads + Wait + Sync>(rt: &R) {
     let ended = AtomicU64::new(0);
     let (asleep, ((), ())) = join(
         rt,
-        || wake_late(rt, &waiters, &begun, &ended),
+        || wake_late(rt, &waiters, &begun, &ended, 2),
         || {
             join(
                 rt,
@@ -77,4 +79,32 @@ fn wake_two<R: Abort + Clock + Threads + Wait + Sync>(rt: &R) {
 #[test]
 fn one_wake_ends_the_sleep_of_two(rt: HostRuntime) {
     wake_two(&rt);
+}
+
+/// Sleeps, though the sleep of another wait ends after the announcement of this one: a wake came
+/// between the two announcements.
+fn sleep_beside_another<R: Wait>(rt: &R, waiters: &Waiters, begun: &AtomicU64, ended: &AtomicU64) {
+    let mut other = waiters.begin();
+    other.announce();
+    waiters.wake_all();
+    let mut waiting = waiters.begin();
+    waiting.announce();
+    other.sleep(rt);
+    begun.fetch_add(1, Ordering::SeqCst);
+    waiting.sleep(rt);
+    ended.fetch_add(1, Ordering::SeqCst);
+}
+
+/// Tests `Waiting::announce`, `Waiting::sleep` and `Waiters::wake_all`.
+#[test]
+fn end_of_a_sleep_wakes_nobody(rt: HostRuntime) {
+    let waiters = Waiters::new();
+    let begun = AtomicU64::new(0);
+    let ended = AtomicU64::new(0);
+    let (asleep, ()) = join(
+        &rt,
+        || wake_late(&rt, &waiters, &begun, &ended, 1),
+        || sleep_beside_another(&rt, &waiters, &begun, &ended),
+    );
+    same(&rt, asleep, true, "whether it slept");
 }

@@ -3,11 +3,15 @@ ghost use Rattle.std.specs.Prelude.{◌≡◌, ◌+◌, length};
 ghost use Rattle.ext_locks.specs.Sets.{HoldsNothing, AllBelow};
 ghost use Rattle.ext_locks.specs.Opening.{fresh_lanes};
 
-use crate::held::same;
+use crate::held::{same, spin, watch_next};
+use crate::idle::{Began, has_idled};
 use crate::locks::asking::{read, write};
 use crate::locks::scenario::{merged, open};
+use crate::rounds::{Progress, turns_after};
+use crate::{idle, rounds};
 use ext_locks::{LockLane, LockMode, LockNo, LockSet, Locks};
 use std::process::Abort;
+use std::rt::Files;
 use std::sync::Wait;
 use std::sync::atomic::{AtomicU64, Ordering};
 use std::thread::{Threads, join, sleep};
@@ -63,36 +67,38 @@ fn give_late<R: Abort + Clock>(
     };
     done.store(HELD, Ordering::SeqCst);
     watch(rt, done, BEGUN);
-    sleep(rt, Duration::from_millis(20));
+    sleep(rt, Duration::from_millis(idle::HELD));
     let waits = done.load(Ordering::SeqCst) == BEGUN;
     locks.give(lane, held);
     watch(rt, done, TAKEN);
     waits
 }
 
-/// Waits for the set once another lane holds it. Answers its first lock.
-fn take_late<R: Wait + Clock>(
+/// Waits for the set once another lane holds it. Answers its first lock, and whether the lane took
+/// no processor while it waited.
+fn take_late<R: AllocGlobal + Clock + Files + Wait>(
     rt: &R,
     locks: &Locks,
     lane: &mut LockLane,
     set: &LockSet,
     done: &AtomicU64,
-) -> Option<(LockNo, LockMode)>
+) -> (Option<(LockNo, LockMode)>, bool)
     requires lane { lane.old.table ≡ locks.now.table }
     requires nothing { HoldsNothing lane.old }
     requires set { AllBelow (length locks.now.names + 1) set.now }
 {
     reaches(rt, done, HELD);
+    let began = Began::now(rt);
     done.store(BEGUN, Ordering::SeqCst);
     let held = locks.take_wait(rt, lane, set);
     done.store(TAKEN, Ordering::SeqCst);
     let lock = held.set().get(0);
     locks.give(lane, held);
-    lock
+    (lock, has_idled(rt, began))
 }
 
 /// Asserts that a lane waits until another one, which writes, has given back.
-fn read_behind_writer<R: Abort + Clock + Sync + Threads + Wait>(
+fn read_behind_writer<R: Abort + AllocGlobal + Clock + Files + Sync + Threads + Wait>(
     rt: &R,
     locks: &Locks,
     lanes: &mut [LockLane],
@@ -113,16 +119,99 @@ fn read_behind_writer<R: Abort + Clock + Sync + Threads + Wait>(
     same(
         rt,
         answers,
-        (true, Some((1, LockMode::Read))),
-        "whether it waited, and its lock",
+        (true, (Some((1, LockMode::Read)), true)),
+        "whether it waited, its lock, and whether it took no processor",
     );
 }
 
-/// Tests `Waiting::sleep` and `Locks::take_wait`.
+/// The reader takes no processor while it waits. Tests `Waiting::sleep` and `Locks::take_wait`.
 #[test]
 fn reader_waits_for_a_writer(rt: HostRuntime) {
     let (locks, mut lanes) = open(&rt, rt.alloc(), &["a"], 2, 8);
     read_behind_writer(&rt, &locks, lanes.as_mut_slice());
+}
+
+/// In each round takes the set, and gives it back some turns later. The next round begins once the
+/// other lane was answered: so a wake that it misses is the last.
+fn give_in_rounds<R: Abort + Clock>(
+    rt: &R,
+    locks: &Locks,
+    lane: &mut LockLane,
+    set: &LockSet,
+    progress: &Progress,
+)
+    requires lane { lane.old.table ≡ locks.now.table }
+    requires nothing { HoldsNothing lane.old }
+    requires set { AllBelow (length locks.now.names + 1) set.now }
+{
+    for before in 0..rounds::ROUNDS {
+        let Ok(held) = locks.try_take(lane, set) else {
+            panic!(rt; "not taken");
+        };
+        progress.claimed.fetch_add(1, Ordering::SeqCst);
+        spin(turns_after(before));
+        locks.give(lane, held);
+        watch_next(rt, &progress.answered, before);
+    }
+}
+
+/// In each round waits for the set once the other lane has taken its own.
+fn take_in_rounds<R: Abort + Clock + Wait>(
+    rt: &R,
+    locks: &Locks,
+    lane: &mut LockLane,
+    set: &LockSet,
+    progress: &Progress,
+)
+    requires lane { lane.old.table ≡ locks.now.table }
+    requires nothing { HoldsNothing lane.old }
+    requires set { AllBelow (length locks.now.names + 1) set.now }
+{
+    for before in 0..rounds::ROUNDS {
+        watch_next(rt, &progress.claimed, before);
+        let held = locks.take_wait(rt, lane, set);
+        locks.give(lane, held);
+        progress.answered.store(before + 1, Ordering::SeqCst);
+    }
+}
+
+/// Asserts that a lane that waits for the last of many locks is answered in each round.
+fn take_the_last<R: Abort + Clock + Sync + Threads + Wait>(
+    rt: &R,
+    locks: &Locks,
+    lanes: &mut [LockLane],
+)
+    requires { lanes.old ≡ fresh_lanes locks.now.table 2 2 }
+{
+    let [first, second] = lanes else {
+        panic!(rt; "not two lanes");
+    };
+    let all = [
+        write("a"),
+        write("b"),
+        write("c"),
+        write("d"),
+        write("e"),
+        write("f"),
+        write("g"),
+        write("h"),
+    ];
+    let all = merged(rt, locks, &all);
+    let last = merged(rt, locks, &[write("h")]);
+    let progress = Progress::new();
+    join(
+        rt,
+        || give_in_rounds(rt, locks, first, &all, &progress),
+        || take_in_rounds(rt, locks, second, &last, &progress),
+    );
+}
+
+/// Who gives locks back wakes after the last of them. Tests `Locks::take_wait` and `Locks::give`.
+#[test]
+fn locks_are_given_before_their_giver_wakes(rt: HostRuntime) {
+    let names = ["a", "b", "c", "d", "e", "f", "g", "h"];
+    let (locks, mut lanes) = open(&rt, rt.alloc(), &names, 2, 8);
+    take_the_last(&rt, &locks, lanes.as_mut_slice());
 }
 
 /// In each round waits for the set, and adds one to the number, in two steps, while it is held.
