@@ -24,7 +24,7 @@ const TIMES: &str = "/proc/thread-self/schedstat";
 /// waits may run meanwhile.
 pub(crate) const HELD: u64 = 300;
 
-const MOST: u64 = 5_000_000;
+const MOST: u64 = 10_000_000;
 
 /// For how many nanoseconds this thread has run; `None` where the system doesn't tell.
 fn time_taken<R: AllocGlobal + Files>(rt: &R) -> Option<u64> {
