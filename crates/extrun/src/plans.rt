@@ -113,14 +113,25 @@ where
 {
     let begun = Instant::now(rt).ok();
     let done = outcome_of_task(rt, input, writer, task, explained);
+    write_time(rt, writer, task, &done, begun);
+    told_done(rt, input, task, done, explained)
+}
+
+/// The outcome of a task with the plan in these bytes. Prints why if it was not done.
+fn told_done<R: AllocGlobal + Eprint>(
+    rt: &R,
+    input: &[u8],
+    task: Task,
+    done: Result<Summary, RunFault>,
+    explained: bool,
+) -> Result<Summary, RequestFault>
+    ensures { result ≡ told_of done }
+{
     if let Task::CheckAll(size) = task
         && let Err(RunFault::Plan(fault)) = done
     {
         tell_faults(rt, input, size, fault, explained);
         return Err(RequestFault::Run(RunFault::Plan(fault)));
-    }
-    if done.is_ok() {
-        write_time(rt, writer, task, begun);
     }
     let outcome = told(rt, done);
     if explained {
@@ -139,16 +150,18 @@ pub(crate) fn is_for_people(task: Task) -> bool
     }
 }
 
-/// Writes the time since a run began behind its report, if that is for people.
+/// Writes the time since a run began behind its report, if it has one and that is for people.
 fn write_time<R: Clock + AllocGlobal, W: Write>(
     rt: &R,
     writer: &mut W,
     task: Task,
+    done: &Result<Summary, RunFault>,
     begun: Option<Instant>,
 )
     ensures { is_for_people task ≡ false → writer.new ≡ writer.old }
 {
-    if is_for_people(task)
+    if done.is_ok()
+        && is_for_people(task)
         && let Some(begun) = begun
         && let Ok(took) = begun.elapsed(rt)
         && let Ok(time) = seconds(rt.alloc(), took)
