@@ -6,16 +6,16 @@ use Rattle.ext_run.proofs.ReadBytes.{fault_is}
 use Rattle.ext_run.proofs.RunReports.{IsRunFault-read, RefusedAs-read, reported, unwritten}
 use Rattle.ext_run.proofs.runs.run_plan.Goals as goal
 
-pub returns-in_err-output_of-clause-refused : goal.returns-in_err-output_of-clause-refused
-returns-in_err-output_of-clause-refused g c =
+pub returns-in_err-output-clause-refused : goal.returns-in_err-output-clause-refused
+returns-in_err-output-clause-refused g c =
     let plan = plan_view c.args.plan.now in
     fault_is (λ fault. RefusedAs c.args.options fault (Ok plan)) c.from_residual.result _ c.from_residual.ensures.1
-    (RefusedAs-read c.args.options plan _ c.in_err-output_of.ensures.fault)
+    (RefusedAs-read c.args.options plan _ c.in_err-output.ensures.fault)
 
-pub returns-in_err-output_of-clause-of_run : goal.returns-in_err-output_of-clause-of_run
-returns-in_err-output_of-clause-of_run g c =
+pub returns-in_err-output-clause-of_run : goal.returns-in_err-output-clause-of_run
+returns-in_err-output-clause-of_run g c =
     fault_is IsRunFault c.from_residual.result _ c.from_residual.ensures.1
-    (IsRunFault-read c.args.options (plan_view c.args.plan.now) _ c.in_err-output_of.ensures.fault)
+    (IsRunFault-read c.args.options (plan_view c.args.plan.now) _ c.in_err-output.ensures.fault)
 
 pub returns-in_err-write_whole-clause-refused : goal.returns-in_err-write_whole-clause-refused
 returns-in_err-write_whole-clause-refused g c =
