@@ -100,8 +100,8 @@ abbrev pub Answers : {A : Type 0} → ℕ → Lane → Lane → (Result A CellRe
 Answers tries before after acts_of reply_at result =
     model.Answers before.cells.limits tries (Err Contended) before.view after.view acts_of reply_at result
 
--- How many events changed the word that an act at this place changes. That is the cell's word; for a keep, which has no
--- cell, it is the count of numbers.
+-- How many events changed the word that an act changes: that of its cell or, for a keep, which has no cell, the
+-- count of numbers.
 abbrev pub changes_at : Option ℕ → History → ℕ
 changes_at None h = (state_after h).drawn
 changes_at (Some cell) h = version_of h cell

@@ -44,16 +44,16 @@ whole (x ∷ xs) ys = ap (λ l. x ∷ l) (whole xs ys)
 pub lent_back : {X : Type 0} (n : ℕ) (xs ys : List X) → length xs ≡ n → take n (xs ++ ys) ≡ xs
 lent_back {X} n xs ys e = subst (λ (k : ℕ). take k (xs ++ ys) ≡ xs) e (whole xs ys)
 
--- places that are all full
-first_of_some : {O : Type 0} (x : O) (places : List (Option O)) → ((i : ℕ) (o : O) → slice_get places i ≡ Some (Some o) → slice_get (filter_map (λ p. p) places) i ≡ Some o)
-    → (i : ℕ) (o : O) → slice_get (Some x ∷ places) i ≡ Some (Some o) → slice_get (x ∷ filter_map (λ p. p) places) i ≡ Some o
-first_of_some x places rest zero o e = cc
-first_of_some x places rest (suc i) o e = rest i o e
+-- options that all hold something
+first_of_some : {O : Type 0} (x : O) (by_job : List (Option O)) → ((i : ℕ) (o : O) → slice_get by_job i ≡ Some (Some o) → slice_get (filter_map (λ p. p) by_job) i ≡ Some o)
+    → (i : ℕ) (o : O) → slice_get (Some x ∷ by_job) i ≡ Some (Some o) → slice_get (x ∷ filter_map (λ p. p) by_job) i ≡ Some o
+first_of_some x by_job rest zero o e = cc
+first_of_some x by_job rest (suc i) o e = rest i o e
 
-pub full : {O : Type 0} (places : List (Option O)) → ((i : ℕ) → i < length places → (o : O) × (slice_get places i ≡ Some (Some o)))
-    → (length (filter_map (λ p. p) places) ≡ length places) × ((i : ℕ) (o : O) → slice_get places i ≡ Some (Some o) → slice_get (filter_map (λ p. p) places) i ≡ Some o)
+pub full : {O : Type 0} (by_job : List (Option O)) → ((i : ℕ) → i < length by_job → (o : O) × (slice_get by_job i ≡ Some (Some o)))
+    → (length (filter_map (λ p. p) by_job) ≡ length by_job) × ((i : ℕ) (o : O) → slice_get by_job i ≡ Some (Some o) → slice_get (filter_map (λ p. p) by_job) i ≡ Some o)
 full [] all = (refl, λ i o e. cc)
-full {O} (None ∷ places) all = let h = all 0 (omega arith) in let bad : Some None ≡ Some (Some h.0) = h.1 in cc
-full {O} (Some x ∷ places) all =
-    let rest = full places (λ i l. all (suc i) (omega arith)) in
-    (ap suc rest.0, first_of_some x places rest.1)
+full {O} (None ∷ by_job) all = let h = all 0 (omega arith) in let bad : Some None ≡ Some (Some h.0) = h.1 in cc
+full {O} (Some x ∷ by_job) all =
+    let rest = full by_job (λ i l. all (suc i) (omega arith)) in
+    (ap suc rest.0, first_of_some x by_job rest.1)

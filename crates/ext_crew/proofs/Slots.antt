@@ -15,13 +15,13 @@ outcomes-one_more (slot.Item item ∷ slots) (suc k) x at = outcomes-one_more sl
 outcomes-one_more (slot.Outcome outcome ∷ slots) (suc k) x at = ap (λ l. outcome ∷ l) (outcomes-one_more slots k x at)
 outcomes-one_more (slot.Empty ∷ slots) (suc k) x at = outcomes-one_more slots k x at
 
--- the outcome in a slot is the one at its place
-pub place_of : {T O : Type 0} (slots : List (Slot T O)) (k : ℕ) (o : O) → get_elem? slots k ≡ some (slot.Outcome o) → slice_get (map outcome_in slots) k ≡ Some (Some o)
-place_of [] k o at = absurd (some-ne-none (slot.Outcome o) (sym at))
-place_of (x ∷ slots) zero o at = ap (λ z. Some (outcome_in z)) (some-injective x (slot.Outcome o) at)
-place_of (x ∷ slots) (suc k) o at = place_of slots k o at
+-- the outcome in a slot is the one at its index
+pub outcome_at : {T O : Type 0} (slots : List (Slot T O)) (k : ℕ) (o : O) → get_elem? slots k ≡ some (slot.Outcome o) → slice_get (map outcome_in slots) k ≡ Some (Some o)
+outcome_at [] k o at = absurd (some-ne-none (slot.Outcome o) (sym at))
+outcome_at (x ∷ slots) zero o at = ap (λ z. Some (outcome_in z)) (some-injective x (slot.Outcome o) at)
+outcome_at (x ∷ slots) (suc k) o at = outcome_at slots k o at
 
--- where all before a place are false, and that place becomes false, all up to it are
+-- where all before an index are false, and that at the index becomes false, all up to it are
 pub false_up_to : (marks : List Bool) (i k : ℕ) → k < suc i → ((j : ℕ) → j < i → get_or marks j false ≡ false) → get_or (set marks i false) k false ≡ false
 false_up_to [] i k l before = refl
 false_up_to (m ∷ marks) zero zero l before = refl

@@ -48,17 +48,17 @@ module _ (xs : List ℕ) (order : AllPairs (λ a b. a < b) xs) where
     | inr (inr more) ↦ absurd (omega (arith, l, more))
   ]
 
-  one-place : (i j : ℕ) → i < length xs → j < length xs → get_or xs i 0 ≡ get_or xs j 0 → i ≡ j
-  one-place i j l m is = elim (cases_order i j) [
+  one-index : (i j : ℕ) → i < length xs → j < length xs → get_or xs i 0 ≡ get_or xs j 0 → i ≡ j
+  one-index i j l m is = elim (cases_order i j) [
     | inl same ↦ same
     | inr (inl less) ↦ let e = order i j 0 less m in absurd (omega (arith, e, is))
     | inr (inr more) ↦ let e = order j i 0 more l in absurd (omega (arith, e, is))
   ]
 
   -- a search finds it there
-  pub finds-place : (x at : ℕ) (r : Result ℕ ℕ) → IsBinarySearchResult (λ y. nat_cmp y x) xs r → at < length xs → get_or xs at 0 ≡ x → result_ok r ≡ Some at
-  finds-place x at (Ok i) found l is = let f = searched xs x (Ok i) found rises in ap Some (one-place i at f.0 l (f.1 ∙ sym is))
-  finds-place x at (Err i) found l is =
+  pub finds-index : (x at : ℕ) (r : Result ℕ ℕ) → IsBinarySearchResult (λ y. nat_cmp y x) xs r → at < length xs → get_or xs at 0 ≡ x → result_ok r ≡ Some at
+  finds-index x at (Ok i) found l is = let f = searched xs x (Ok i) found rises in ap Some (one-index i at f.0 l (f.1 ∙ sym is))
+  finds-index x at (Err i) found l is =
       let f = searched xs x (Err i) found rises in
       elim (cases_lt at i) [
         | inl before ↦ let e = f.1 at before in absurd (omega (arith, e, is))
@@ -144,11 +144,11 @@ module _ (store : StoreView) (seen : List CloserView) (c : CloserView) where
           | inl same ↦
               let there : slice_index_or (set items at next) i d ≡ next = ap (λ k. slice_index_or (set items at next) k d) same ∙ get_or-set_same items at next d inside in
               subst (HasTaken store (seen ++ c ∷ [])) (sym there) (taken-in was next named pushed own (subst (HasTaken store seen) (sym is) (taken at was inside)))
-          | inr other ↦ subst (HasTaken store (seen ++ c ∷ [])) (sym (get_or-set_other items at i next d other)) (outside (Some at) found i d (omega (arith, l, n)) (λ e. other (sym (same-place e))))
+          | inr other ↦ subst (HasTaken store (seen ++ c ∷ [])) (sym (get_or-set_other items at i next d other)) (outside (Some at) found i d (omega (arith, l, n)) (λ e. other (sym (same-index e))))
         ]
       where
-        same-place : {i : ℕ} → (let place : Option ℕ = Some at in place ≡ Some i) → at ≡ i
-        same-place e = cc e
+        same-index : {i : ℕ} → (let place : Option ℕ = Some at in place ≡ Some i) → at ≡ i
+        same-index e = cc e
 
 -- ---- the items of the children
 

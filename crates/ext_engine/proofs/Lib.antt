@@ -23,7 +23,7 @@ pub mod NodesSeen
 pub mod OneEach
 pub mod Order
 pub mod Ordered
-pub mod Placing
+pub mod Putting
 pub mod Read
 pub mod Refusals
 pub mod Relates

@@ -11,7 +11,7 @@ use Rattle.ext_model.specs.declared.look.Fault.{Fault}
 use Rattle.ext_lifecycle.specs.declared.status.Status.TheVariants as statuses
 use Rattle.ext_lifecycle.specs.Results.{ResultOf, skipped_result}
 use Rattle.ext_engine.specs.Suites.{SuiteView}
-use Rattle.ext_engine.specs.TreeRun.{Ran, placed, all_skipped, all_results}
+use Rattle.ext_engine.specs.TreeRun.{Ran, with_results, all_skipped, all_results}
 use Rattle.ext_engine.specs.RunLaws.{HasRun, IsLeftOut, IsOneEach, nodes_of}
 use Rattle.ext_history.proofs.Once.{Once, contains-from_map}
 
@@ -38,7 +38,7 @@ module _ {X : Type 0} where
   one_value : (o : Option X) (x y : X) → o ≡ Some x → o ≡ Some y → x ≡ y
   one_value o x y a b = cc
 
--- a number at its own place changes nothing
+-- a number at its own index changes nothing
 set-number : (from count i k : ℕ) → k ≡ from + i → slice_set (range_with_len from count) i k ≡ range_with_len from count
 set-number from zero i k is = refl
 set-number from (suc count) zero k is = ap (λ n. n ∷ range_with_len (from + 1) count) (omega (arith, is))
@@ -71,39 +71,39 @@ numbers results = map (λ r. r.node) results
 abbrev kinds : Results → List Bool
 kinds results = map (λ r. r.is_test) results
 
-placed-numbers : (count : ℕ) (ran : List Ran) (places : Results) → numbers places ≡ range_with_len 0 count → numbers (placed places ran) ≡ range_with_len 0 count
-placed-numbers count [] places is = is
-placed-numbers count (r ∷ ran) places is =
-    placed-numbers count ran (slice_set places r.result.node r.result)
-    (map-set (λ x. x.node) places r.result.node r.result ∙ ap (λ l. slice_set l r.result.node r.result.node) is ∙ set-number 0 count r.result.node r.result.node (omega arith))
+put-numbers : (count : ℕ) (ran : List Ran) (results : Results) → numbers results ≡ range_with_len 0 count → numbers (with_results results ran) ≡ range_with_len 0 count
+put-numbers count [] results is = is
+put-numbers count (r ∷ ran) results is =
+    put-numbers count ran (slice_set results r.result.node r.result)
+    (map-set (λ x. x.node) results r.result.node r.result ∙ ap (λ l. slice_set l r.result.node r.result.node) is ∙ set-number 0 count r.result.node r.result.node (omega arith))
 
--- where a place tells the kind of its node, and each result that of its own, all places do
-placed-kinds : (suite : SuiteView) (count : ℕ) (ran : List Ran) (places : Results) → ((r : Ran) → Contains ran r → r.result.is_test ≡ suite.is_test r.result.node)
-    → kinds places ≡ map suite.is_test (range_with_len 0 count) → kinds (placed places ran) ≡ map suite.is_test (range_with_len 0 count)
-placed-kinds suite count [] places told is = is
-placed-kinds suite count (r ∷ ran) places told is =
+-- where results tell the kinds of their nodes, and so does each that is put, all do
+put-kinds : (suite : SuiteView) (count : ℕ) (ran : List Ran) (results : Results) → ((r : Ran) → Contains ran r → r.result.is_test ≡ suite.is_test r.result.node)
+    → kinds results ≡ map suite.is_test (range_with_len 0 count) → kinds (with_results results ran) ≡ map suite.is_test (range_with_len 0 count)
+put-kinds suite count [] results told is = is
+put-kinds suite count (r ∷ ran) results told is =
     let at = r.result.node in
-    placed-kinds suite count ran (slice_set places at r.result) (λ x there. told x (contains_later r ran x there))
-    (map-set (λ x. x.is_test) places at r.result
-    ∙ ap (λ b. slice_set (kinds places) at b) (told r (contains_here r ran))
+    put-kinds suite count ran (slice_set results at r.result) (λ x there. told x (contains_later r ran x there))
+    (map-set (λ x. x.is_test) results at r.result
+    ∙ ap (λ b. slice_set (kinds results) at b) (told r (contains_here r ran))
     ∙ ap (λ l. slice_set l at (suite.is_test at)) is
     ∙ sym (map-set suite.is_test (range_with_len 0 count) at at)
     ∙ ap (map suite.is_test) (set-number 0 count at at (omega arith)))
 
-placed-other : (ran : List Ran) (places : Results) (k : ℕ) → (¬ HasRun ran k) → slice_get (placed places ran) k ≡ slice_get places k
-placed-other [] places k not_run = refl
-placed-other (r ∷ ran) places k not_run =
-    placed-other ran (slice_set places r.result.node r.result) k (λ later. not_run (contains_later r.result.node (nodes_of ran) k later))
-    ∙ get-set_other places r.result.node k r.result (λ same. not_run (subst (λ n. Contains (n ∷ nodes_of ran) k) (sym same) (contains_here k (nodes_of ran))))
+put-other : (ran : List Ran) (results : Results) (k : ℕ) → (¬ HasRun ran k) → slice_get (with_results results ran) k ≡ slice_get results k
+put-other [] results k not_run = refl
+put-other (r ∷ ran) results k not_run =
+    put-other ran (slice_set results r.result.node r.result) k (λ later. not_run (contains_later r.result.node (nodes_of ran) k later))
+    ∙ get-set_other results r.result.node k r.result (λ same. not_run (subst (λ n. Contains (n ∷ nodes_of ran) k) (sym same) (contains_here k (nodes_of ran))))
 
-placed-ran : (ran : List Ran) (places : Results) → Once (nodes_of ran) → (r : Ran) → Contains ran r → r.result.node < length places → slice_get (placed places ran) r.result.node ≡ Some r.result
-placed-ran [] places once r there within = absurd (contains_none r there)
-placed-ran (x ∷ ran) places once r there within = elim (contains_cons x ran r there) [
+put-ran : (ran : List Ran) (results : Results) → Once (nodes_of ran) → (r : Ran) → Contains ran r → r.result.node < length results → slice_get (with_results results ran) r.result.node ≡ Some r.result
+put-ran [] results once r there within = absurd (contains_none r there)
+put-ran (x ∷ ran) results once r there within = elim (contains_cons x ran r there) [
   | inl same ↦
-      subst (λ z. slice_get (placed places (x ∷ ran)) z.result.node ≡ Some z.result) same
-      (placed-other ran (slice_set places x.result.node x.result) x.result.node once.0
-      ∙ get-set_same places x.result.node x.result (subst (λ z. z.result.node < length places) (sym same) within))
-  | inr later ↦ placed-ran ran (slice_set places x.result.node x.result) once.1 r later (let e = length-set places x.result.node x.result in omega (arith, e, within))
+      subst (λ z. slice_get (with_results results (x ∷ ran)) z.result.node ≡ Some z.result) same
+      (put-other ran (slice_set results x.result.node x.result) x.result.node once.0
+      ∙ get-set_same results x.result.node x.result (subst (λ z. z.result.node < length results) (sym same) within))
+  | inr later ↦ put-ran ran (slice_set results x.result.node x.result) once.1 r later (let e = length-set results x.result.node x.result in omega (arith, e, within))
 ]
 
 skipped-numbers : (suite : SuiteView) (nodes : List ℕ) → map (λ r. r.node) (map (λ node. skipped_result {F = Fault} node (suite.is_test node)) nodes) ≡ nodes
@@ -134,13 +134,13 @@ module _ (suite : SuiteView) (enabled_gives : ℕ → Bool → Type 0) (count : 
     (left_only : (r : Ran) → Contains ran r → r.result.status ≡ statuses.Skipped → (r ≡ record { result = skipped_result r.result.node (suite.is_test r.result.node); went_on = false }) × enabled_gives r.result.node false)
     (enabled_only : (r : Ran) → Contains ran r → r.result.status ≢ statuses.Skipped → enabled_gives r.result.node true) where
   of_run : (r : Ran) → Contains ran r → slice_get (all_results suite count ran) r.result.node ≡ Some r.result
-  of_run r there = placed-ran ran (all_skipped suite count) once r there (let e = skipped-length suite count in let less = within r there in omega (arith, e, less))
+  of_run r there = put-ran ran (all_skipped suite count) once r there (let e = skipped-length suite count in let less = within r there in omega (arith, e, less))
 
   of_skipped : (node : ℕ) → node < count → (¬ HasRun ran node) → slice_get (all_results suite count ran) node ≡ Some (skipped_result node (suite.is_test node))
-  of_skipped node less not_run = placed-other ran (all_skipped suite count) node not_run ∙ skipped-at suite count node less
+  of_skipped node less not_run = put-other ran (all_skipped suite count) node not_run ∙ skipped-at suite count node less
 
   in_order : numbers (all_results suite count ran) ≡ range_with_len 0 count
-  in_order = placed-numbers count ran (all_skipped suite count) (skipped-numbers suite (range_with_len 0 count))
+  in_order = put-numbers count ran (all_skipped suite count) (skipped-numbers suite (range_with_len 0 count))
 
   a_place : (node : ℕ) (result : ResultOf Fault) → slice_get (all_results suite count ran) node ≡ Some result → node < count
   a_place node result is = place_within (all_results suite count ran) count node result in_order is
@@ -181,7 +181,7 @@ module _ (suite : SuiteView) (enabled_gives : ℕ → Bool → Type 0) (count : 
   pub one_each : IsOneEach suite enabled_gives count ran (all_results suite count ran)
   one_each = record {
     nodes = in_order;
-    tests = placed-kinds suite count ran (all_skipped suite count) told (skipped-kinds suite (range_with_len 0 count));
+    tests = put-kinds suite count ran (all_skipped suite count) told (skipped-kinds suite (range_with_len 0 count));
     of_run = of_run;
     of_skipped = of_skipped;
     enabled = went;

@@ -1,4 +1,4 @@
--- The whole tree: its root with all closers, and a place for the result of each node.
+-- The whole tree: its root with all closers, and an index for the result of each node.
 use Rattle.std.proofs.Common.{◌≡◌, ℕ, ◌<◌, inl, inr, zero, suc, List, [], ◌∷◌, ◌++◌, length, map, ap, ◌∙◌, sym, refl, subst, arith}
 use Rattle.std.specs.Prelude.{All, Contains, slice_index_or}
 use Rattle.std.proofs.lemmas.Bool.{cases_order}
@@ -10,7 +10,7 @@ use Rattle.ext_tree.specs.Trees.{id_at, IsTree}
 use Rattle.ext_store.specs.Stores.{StoreView, CloserView, closers_below}
 use Rattle.ext_store.proofs.Fresh.{closers_own}
 use Rattle.ext_lifecycle.specs.declared.node_result.NodeResult.{NodeResult}
-use Rattle.ext_lifecycle.specs.Results.{told, skipped_result}
+use Rattle.ext_lifecycle.specs.Results.{as_result, skipped_result}
 use Rattle.ext_engine.specs.declared.node.closers.Item.{Item}
 use Rattle.ext_engine.specs.declared.node.results.RanNode.{RanNode}
 use Rattle.ext_engine.specs.InnerResults.{ran_view}
@@ -42,16 +42,16 @@ root-item store item tree root all =
       closers = record { each = λ k less within. subst (λ l. Contains (contexts l) k) (sym all) (has-all store.id.cells (length store.tree) k less) };
     }
 
--- ---- places of results
+-- ---- indices of results
 
 -- as many results as contexts
-pub skipped-count : (suite : SuiteView) (results : List NodeResult) (count : ℕ) → map told results ≡ all_skipped suite count → length results ≡ count
+pub skipped-count : (suite : SuiteView) (results : List NodeResult) (count : ℕ) → map as_result results ≡ all_skipped suite count → length results ≡ count
 skipped-count suite results count are =
-    sym (length-map results told) ∙ (ap length are ∙ length-map-range_with_len (λ node. skipped_result node (suite.is_test node)) 0 count)
+    sym (length-map results as_result) ∙ (ap length are ∙ length-map-range_with_len (λ node. skipped_result node (suite.is_test node)) 0 count)
 
--- so each node that ran has a place
-pub ran-placed : (ran : List RanNode) (count places : ℕ) → places ≡ count → ((r : Ran) → Contains (map ran_view ran) r → r.result.node < count) → All (λ r. r.result.node < places) ran
-ran-placed ran count places same within k d less =
+-- so each node that ran has an index
+pub ran-within : (ran : List RanNode) (count places : ℕ) → places ≡ count → ((r : Ran) → Contains (map ran_view ran) r → r.result.node < count) → All (λ r. r.result.node < places) ran
+ran-within ran count places same within k d less =
     let one = slice_index_or ran k d in
     let there : one.result.node < count = within (ran_view one) (contains-map ran_view ran one (Contains-get_or ran k d less)) in
     omega (arith, there, same)

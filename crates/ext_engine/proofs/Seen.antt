@@ -20,7 +20,7 @@ use Rattle.ext_engine.proofs.Order.{came_from}
 
 module _ {V : Type 0} (h : History) where
   acts_same : (xs : List (StoreLane V)) → Acts h xs xs
-  acts_same xs = record { goes = all_same xs; seen = λ place made. absurd (same_made h xs place made) }
+  acts_same xs = record { goes = all_same xs; seen = λ index made. absurd (same_made h xs index made) }
 
   pub acts_then : (xs ys zs : List (StoreLane V)) → Acts h xs ys → Acts h ys zs → Acts h xs zs
   acts_then xs ys zs one two =
@@ -28,9 +28,9 @@ module _ {V : Type 0} (h : History) where
       let high = shorter (first_seen ys) (first_seen zs) (heads_go ys zs two.goes) in
       record {
         goes = all_then xs ys zs one.goes two.goes;
-        seen = λ place made. elim (all_made_then h xs ys zs place one.goes made) [
-          | inl first ↦ let a = one.seen place first in let a0 = a.0 in let a1 = a.1 in (a0, omega (arith, a1, high))
-          | inr second ↦ let b = two.seen place second in let b0 = b.0 in let b1 = b.1 in (omega (arith, b0, low), b1)
+        seen = λ index made. elim (all_made_then h xs ys zs index one.goes made) [
+          | inl first ↦ let a = one.seen index first in let a0 = a.0 in let a1 = a.1 in (a0, omega (arith, a1, high))
+          | inr second ↦ let b = two.seen index second in let b0 = b.0 in let b1 = b.1 in (omega (arith, b0, low), b1)
         ];
       }
 
@@ -51,11 +51,11 @@ module _ {V : Type 0} (h : History) where
   acts_between store before forked between joined fork first go join last begins ends within_forked within_joined =
       record {
         goes = all_then before forked joined first (all_then forked between joined go last);
-        seen = λ place made. elim (all_made_then h before forked joined place first made) [
-          | inl met ↦ absurd (all_met_made h store before forked place fork within_forked met)
-          | inr more ↦ elim (all_made_then h forked between joined place go more) [
-            | inl acted ↦ shown_made h (first_seen before) (first_seen joined) forked between place begins ends acted
-            | inr met ↦ absurd (all_met_made h store between joined place join within_joined met)
+        seen = λ index made. elim (all_made_then h before forked joined index first made) [
+          | inl met ↦ absurd (all_met_made h store before forked index fork within_forked met)
+          | inr more ↦ elim (all_made_then h forked between joined index go more) [
+            | inl acted ↦ shown_made h (first_seen before) (first_seen joined) forked between index begins ends acted
+            | inr met ↦ absurd (all_met_made h store between joined index join within_joined met)
           ]
         ];
       }

@@ -5,7 +5,7 @@ use Rattle.std.specs.List.{flat_map}
 use Rattle.std.specs.declared.alloc.Global.{Global}
 use Rattle.ext_lifecycle.specs.declared.node_result.NodeResult.{NodeResult}
 use Rattle.ext_lifecycle.specs.Callbacks.{befores_of, afters_of}
-use Rattle.ext_lifecycle.specs.Results.{told}
+use Rattle.ext_lifecycle.specs.Results.{as_result}
 use Rattle.ext_tree.specs.Trees.{IsPathOf}
 use Rattle.ext_locks.specs.Sets.{AllBelow}
 use Rattle.ext_engine.specs.Suites.{locks_on, IsSetOf}
@@ -17,7 +17,7 @@ use Rattle.ext_engine.specs.NodeRun.{Ran, TreeSetting, Lanes, TestRun, IsUsable}
 use Rattle.ext_engine.specs.NodeFailing.{TestEndsEarly}
 
 abbrev pub ran_view : RanNode → Ran
-ran_view r = record { result = told r.result; went_on = r.went_on }
+ran_view r = record { result = as_result r.result; went_on = r.went_on }
 
 -- The nodes that ran, by an answer. A fault has none.
 abbrev pub ran_in : {E : Type 0} → Result (Vec RanNode Global) E → List Ran
@@ -35,7 +35,7 @@ answer_of (Err why) = Err why
 
 -- The one node that ran, a test.
 abbrev pub of_test : NodeResult → List Ran
-of_test r = record { result = told r; went_on = true } ∷ []
+of_test r = record { result = as_result r; went_on = true } ∷ []
 
 -- What a test is run with: its callbacks, its locks, and room for its result.
 pub record ArePartsOf {V A : Type 0} (t : TreeSetting V A) (node : ℕ) (parts : TestParts) : Type 0 where

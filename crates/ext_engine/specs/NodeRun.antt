@@ -33,10 +33,10 @@ pub record Ran : Type 0 where
   pub result : ResultOf Fault
   pub went_on : Bool
 
--- Each result in its node's place.
-abbrev pub placed : List (ResultOf Fault) → List Ran → List (ResultOf Fault)
-placed places [] = places
-placed places (r ∷ rs) = placed (slice_set places r.result.node r.result) rs
+-- The results, where each node that ran has its own.
+abbrev pub with_results : List (ResultOf Fault) → List Ran → List (ResultOf Fault)
+with_results results [] = places
+with_results results (r ∷ rs) = with_results (slice_set results r.result.node r.result) rs
 
 -- Before any node ran, each is skipped.
 abbrev pub all_skipped : SuiteView → ℕ → List (ResultOf Fault)

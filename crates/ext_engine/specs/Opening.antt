@@ -18,11 +18,11 @@ use Rattle.ext_engine.specs.declared.opening.OpenFault.TheVariants as faults
 
 -- ---- texts of ids
 
--- Each text is read as the id at its place.
+-- Each text is read as the id with its index.
 abbrev pub AreRead : List (List ℕ) → List Id → Type 0
 AreRead texts ids = map (λ text. read_id text) texts ≡ map (λ id. Ok id) ids
 
--- The text at this place is the first that is not read as an id, for this fault; or memory ran out there.
+-- The text with this index is the first that is not read as an id, for this fault; or memory ran out there.
 pub record IsFirstUnread (texts : List (List ℕ)) (at : ℕ) (why : IdFault) : Type 0 where
   pub within : at < length texts
   pub before : List Id

@@ -1,6 +1,6 @@
 -- In which order the lanes of a run do what they do (JUnit 5 User Guide, "Relative Execution Order of User Code and
 -- Extensions" and "Parallel Execution"). All lanes of a run see one history, and what a lane does is an event of it. So
--- the places of events in that history say what comes first, which is not from JUnit.
+-- the order of events in that history says what comes first, which is not from JUnit.
 use Rattle.std.specs.Prelude.{◌≡◌, ◌⊎◌, ℕ, ◌<◌, ◌≤◌, true, List, [], ◌∷◌, length, Option, Some, min, All, slice_get, slice_index_or}
 use Rattle.std.specs.List.{AllZip, FoldsTo}
 use mathlib.Core.List.{IsPrefix}
@@ -42,19 +42,19 @@ pub record IsWithin {V : Type 0} (since until : History) (before after : Lanes V
 
 -- ---- events
 
--- The event at this place of the history is the lane's, made between these two states of it.
-pub record IsMadeBy {V : Type 0} (h : History) (place : ℕ) (before after : StoreLane V) : Type 0 where
+-- The event at this index of the history is the lane's, made between these two states of it.
+pub record IsMadeBy {V : Type 0} (h : History) (index : ℕ) (before after : StoreLane V) : Type 0 where
   pub event : Event ℕ
-  pub there : slice_get h place ≡ Some event
+  pub there : slice_get h index ≡ Some event
   pub own_event : event.lane ≡ before.cells.view.number
-  pub since : length (seen_by before.cells.view) ≤ place
-  pub until : place < length (seen_by after.cells.view)
+  pub since : length (seen_by before.cells.view) ≤ index
+  pub until : index < length (seen_by after.cells.view)
 
 -- One of these lanes made the event between these two states.
 abbrev pub IsMadeIn : {V : Type 0} → History → ℕ → List (StoreLane V) → List (StoreLane V) → Type 0
-IsMadeIn h place [] after = ⊥
-IsMadeIn h place (lane ∷ before) [] = ⊥
-IsMadeIn h place (lane ∷ before) (later ∷ after) = IsMadeBy h place lane later ⊎ IsMadeIn h place before after
+IsMadeIn h index [] after = ⊥
+IsMadeIn h index (lane ∷ before) [] = ⊥
+IsMadeIn h index (lane ∷ before) (later ∷ after) = IsMadeBy h index lane later ⊎ IsMadeIn h index before after
 
 -- Every event that lanes made from `before` to `after` comes before every event that the same or other lanes made from
 -- `next` to `later`.
@@ -66,8 +66,8 @@ ComesBefore h before after next later = (first second : ℕ) → IsMadeIn h firs
 -- Every event that these lanes made comes after what the first of them had seen when they began, and within what it has
 -- seen when they end.
 abbrev pub IsSeenByFirst : {V : Type 0} → History → List (StoreLane V) → List (StoreLane V) → Type 0
-IsSeenByFirst h before after = (place : ℕ) → IsMadeIn h place before after → (length (first_seen before) ≤ place)
-    × (place < length (first_seen after))
+IsSeenByFirst h before after = (index : ℕ) → IsMadeIn h index before after → (length (first_seen before) ≤ index)
+    × (index < length (first_seen after))
 
 -- ---- containers
 

@@ -13,13 +13,13 @@ use Rattle.ext_store.specs.Stores.{StoreLane}
 use Rattle.ext_crew.specs.Dealing.{Share, RunByDealing}
 use Rattle.ext_engine.specs.Suites.{SuiteView}
 use Rattle.ext_engine.specs.Meeting.{Forks, Joins}
-pub use Rattle.ext_engine.specs.NodeRun.{Ran, TreeSetting, setting_of, with_calls, Lanes, placed, all_skipped, OnFirst, IsDisabled, ClosesNode, MakesOn, TestRun, CallsBefores, EndsContainer, TakesSet, GivesBack, IsIdle, IsUsable, IsNamedLock, IsRunnable, IsRefusedClose, IsUnjoined, IsFault}
+pub use Rattle.ext_engine.specs.NodeRun.{Ran, TreeSetting, setting_of, with_calls, Lanes, with_results, all_skipped, OnFirst, IsDisabled, ClosesNode, MakesOn, TestRun, CallsBefores, EndsContainer, TakesSet, GivesBack, IsIdle, IsUsable, IsNamedLock, IsRunnable, IsRefusedClose, IsUnjoined, IsFault}
 
 -- ---- results
 
 -- One result for each node, in order. Nodes that did not run are skipped.
 abbrev pub all_results : SuiteView → ℕ → List Ran → List (ResultOf Fault)
-all_results suite count ran = placed (all_skipped suite count) ran
+all_results suite count ran = with_results (all_skipped suite count) ran
 
 -- The same share with these lanes of the store.
 abbrev pub with_lanes : {V : Type 0} → List (StoreLane V) → Lanes V → Lanes V

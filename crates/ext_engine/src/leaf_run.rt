@@ -1,7 +1,7 @@
 //! A run of tests that are the leaves of a tree, from its opening to its results.
 ghost use Rattle.std.specs.Prelude.{◌≡◌, ◌<◌, All, IfErr, IfOk, List, length, map};
 ghost use Rattle.ext_lifecycle.specs.Modes.{is_concurrent};
-ghost use Rattle.ext_lifecycle.specs.Results.{told};
+ghost use Rattle.ext_lifecycle.specs.Results.{as_result};
 ghost use Rattle.ext_store.specs.Stores.{StoreView, closers_below};
 ghost use Rattle.ext_engine.specs.Failing.{EndsEarly};
 ghost use Rattle.ext_engine.specs.LeafRuns.{IsLeafFault, IsLeafRun, IsStoreFor};
@@ -70,7 +70,7 @@ pub fn run_leaves<
     requires fits { (store : StoreView) → IsStoreFor ids.now limits store → S.fits suite.now store }
     ensures run { IfOk result (λ run. IsLeafRun
         (leaf_setting V.is_closeable S.may_disable S.run_gives S.action_gives S.Action.close_gives suite.now (is_concurrent mode))
-        ids.now limits run.store (map told run.results.items)) }
+        ids.now limits run.store (map as_result run.results.items)) }
     ensures nodes { IfOk result (λ run. All (λ r. r.node < length run.store.tree) run.results.items) }
     ensures fault { IfErr result (IsLeafFault
         (leaf_setting V.is_closeable S.may_disable S.run_gives S.action_gives S.Action.close_gives suite.now (is_concurrent mode))
@@ -119,7 +119,7 @@ fn results_over<
     ensures run { IfOk result (λ results. (ran : List Ran)
         × TreeRun (leaf_setting V.is_closeable S.may_disable S.run_gives S.action_gives S.Action.close_gives suite.now (is_concurrent mode) store.now locks.now)
         16 0 (record { first = lanes.old; second = lock_lanes.old }) ran (record { first = lanes.new; second = lock_lanes.new })
-        × (map told results.items ≡ all_results (leaves_view (is_concurrent mode) store.now.tree) (length store.now.tree) ran)) }
+        × (map as_result results.items ≡ all_results (leaves_view (is_concurrent mode) store.now.tree) (length store.now.tree) ran)) }
     ensures nodes { IfOk result (λ results. All (λ r. r.node < length store.now.tree) results.items) }
     ensures early { IfErr result (λ why.
         EndsEarly (leaf_setting V.is_closeable S.may_disable S.run_gives S.action_gives S.Action.close_gives suite.now (is_concurrent mode) store.now locks.now)

@@ -39,8 +39,8 @@ pub struct Opened<V> {
 /// Prints as a sentence without capital or full stop.
 #[derive(Clone, Copy, Debug, PartialEq, Eq, Error)]
 pub enum OpenFault {
-    /// The text at this place, from 0, is no id, or memory ran out at it. It is the first such
-    /// place. Only `read_ids` answers it.
+    /// The text with this index, from 0, is no id, or memory ran out at it. It is the first such
+    /// text. Only `read_ids` answers it.
     #[error("text {0} is no id: {1}")]
     Id(usize, IdFault),
     /// The ids are no tree of contexts, or memory ran out for it.

@@ -3,7 +3,7 @@ ghost use Rattle.std.specs.Prelude.{◌≡◌, ◌++◌, [], All, IfNone, IfSome
 ghost use Rattle.ext_store.specs.Stores.{IsCloserOf, IsLaneOf};
 ghost use Rattle.ext_engine.specs.Opening.{HasNone, IsTaken};
 
-use crate::node::place_of;
+use crate::node::closer_index;
 use ext_model::ContextNo;
 use ext_store::{Closer, Lane, Store, StoreValue};
 
@@ -19,7 +19,7 @@ pub fn take_closer<V: StoreValue + Drop>(
     ensures own { IfSome result (IsCloserOf store.now) }
     ensures others { All (IsCloserOf store.now) closers.new.items }
 {
-    let at = place_of(closers.as_slice(), context)?;
+    let at = closer_index(closers.as_slice(), context)?;
     Some(closers.remove(at))
 }
 

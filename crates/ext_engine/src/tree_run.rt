@@ -1,7 +1,7 @@
 //! The run of a tree.
 ghost use Rattle.std.specs.Prelude.{◌≡◌, ◌+◌, ◌-◌, ◌<◌, ◌≤◌, List, length, map, IfOk, IfErr, All, [], vec_capacity, vec_len};
 ghost use denote.Param.Send.{IsSync, IsSend};
-ghost use Rattle.ext_lifecycle.specs.Results.{told};
+ghost use Rattle.ext_lifecycle.specs.Results.{as_result};
 ghost use Rattle.ext_store.specs.Stores.{closers_below};
 ghost use Rattle.ext_engine.specs.InnerClosers.{IsNode};
 ghost use Rattle.ext_engine.specs.InnerContainers.{AreChildren};
@@ -12,7 +12,7 @@ ghost use Rattle.ext_engine.specs.InnerRuns.{nodes_in, NodeEnds, BodyEnds, TurnE
 use crate::meeting::{fork, join};
 use crate::node::{
     Below, Children, Item, NodeRunner, RanNode, all_skipped, close_container, first_refusal,
-    gathered, open_container, place,
+    gathered, open_container, put_results,
 };
 use crate::runner::TreeRunner;
 use crate::{EngineFault, Suite};
@@ -92,7 +92,7 @@ pub fn run_tree<
     ensures run { IfOk result (λ results. (ran : List Ran)
         × TreeRun (setting_of V.is_closeable S.suite_view S.enabled_gives S.registered S.call_gives S.action_gives S.Action.close_gives suite.now store.now locks.now)
         16 0 (record { first = lanes.old; second = lock_lanes.old }) ran (record { first = lanes.new; second = lock_lanes.new })
-        × (map told results.items ≡ all_results (S.suite_view suite.now) (length store.now.tree) ran)) }
+        × (map as_result results.items ≡ all_results (S.suite_view suite.now) (length store.now.tree) ran)) }
     ensures nodes { IfOk result (λ results. All (λ r. r.node < length store.now.tree) results.items) }
     ensures early { IfErr result (λ why.
         EndsEarly (setting_of V.is_closeable S.suite_view S.enabled_gives S.registered S.call_gives S.action_gives S.Action.close_gives suite.now store.now locks.now)
@@ -108,7 +108,7 @@ pub fn run_tree<
     let mut results = all_skipped(alloc, suite, store.tree().len())?;
     let item = Item { node: 0, closers };
     let ran = runner.run_node(alloc, LEVELS, item, lanes, lock_lanes)?;
-    place(&mut results, ran);
+    put_results(&mut results, ran);
     Ok(results)
 }
 

@@ -1,4 +1,4 @@
--- The line that is printed for each fault: its code, and its place if it has one. Texts are lists of bytes, numbers are
+-- The line that is printed for each fault: its code, and its offset if it has one. Texts are lists of bytes, numbers are
 -- decimal.
 use Rattle.std.specs.Prelude.{ℕ, codes, List, ◌++◌}
 use Rattle.std.specs.Fmt.{decimal}

@@ -1,4 +1,4 @@
--- The first fault of a text that is no id: the text is right up to a place, and wrong there.
+-- The first fault of a text that is no id: the text is right up to a byte, and wrong there.
 --
 --     where                          what stands there                   fault
 --     the whole text                 nothing                             Empty
@@ -13,7 +13,7 @@
 --     after a segment's `]`          anything but `/` or the end         RawCharacter
 --     after the 16th segment's `]`   `/`                                 TooDeep
 --
--- A place is a byte offset. If the text ended too soon it is the text's length.
+-- An offset counts bytes. If the text ended too soon it is the text's length.
 use Rattle.std.specs.Prelude.{ℕ, ◌+◌, ◌≡◌, ◌≢◌, ◌<◌, ◌==◌, ◌||◌, Bool, true, false, if◌then◌else◌, List, [], ◌∷◌, ◌++◌, length, Option, Some, None, is_some}
 use Rattle.std.specs.List.{flat_map, AllByRecursion}
 use Rattle.ext_ids.specs.declared.fault.IdFault.{IdFault}
@@ -45,7 +45,7 @@ value_fault at some (c ∷ rest) =
     else if c == right_bracket then (if some then None else Some (faults.EmptyPart at))
     else None
 
--- The segments before a place, each with its `/`.
+-- The segments before an offset, each with its `/`.
 abbrev pub ahead : List Pair → List ℕ
 ahead pairs = flat_map (λ p. segment_text p ++ slash ∷ []) pairs
 
@@ -58,7 +58,7 @@ pub record BeginsWith (text : List ℕ) (before : List Pair) (rest : List ℕ) :
   pub filled : AllByRecursion IsFilled before
   pub splits : text ≡ ahead before ++ rest
 
--- The text has this fault: it follows the grammar up to the fault's place, and no further.
+-- The text has this fault: it follows the grammar up to the fault's offset, and no further.
 pub data HasFault (text : List ℕ) : IdFault → Type 0 where
   no_text : text ≡ [] → HasFault text faults.Empty
   no_segment : (before : List Pair) (rest : List ℕ) → length before < 16 → text ≢ [] → BeginsWith text before rest

@@ -39,7 +39,7 @@ abbrev pub ended : Part → ℕ → IdFault
 ended parts.Type at = faults.NoSeparator at
 ended parts.Value at = faults.NoClose at
 
--- The place of a closing mark; a fault if the part is empty.
+-- The offset of a closing mark; a fault if the part is empty.
 abbrev pub closed : Bool → ℕ → Result ℕ IdFault
 closed some at = if some then Ok at else Err (faults.EmptyPart at)
 
@@ -51,7 +51,7 @@ abbrev pub at_bracket : Part → Bool → ℕ → Result ℕ IdFault
 at_bracket parts.Type some at = Err (faults.NoSeparator at)
 at_bracket parts.Value some at = closed some at
 
--- Where a part ends, read from the place `at`. `some` says whether it has a character yet. The two digits after the `%`
+-- Where a part ends, read from the offset `at`. `some` says whether it has a character yet. The two digits after the `%`
 -- of an escape are read like other characters.
 abbrev pub part_end : Part → ℕ → Bool → List ℕ → Result ℕ IdFault
 part_end part at some [] = Err (ended part at)
@@ -71,7 +71,7 @@ segment_at text at =
       value ← part_end parts.Value (kind + 1) false (drop (kind + 1) text)
       Ok (kind, value)
 
--- The type and the value that end at these places, decoded.
+-- The type and the value that end at these offsets, decoded.
 abbrev pub pair_of : List ℕ → ℕ → ℕ × ℕ → Pair
 pair_of text at ends =
     (unescaped 0 (slice_range text (at + 1) ends.0), unescaped 0 (slice_range text (ends.0 + 1) ends.1))

@@ -8,7 +8,7 @@ use Rattle.ext_model.specs.Closed.{close_faults, or_else}
 use Rattle.ext_model.specs.Lacks.{fault_tells_lack, tells_lack}
 use Rattle.ext_lifecycle.specs.Endings.{Ending, successful, aborted, failed, is_successful, fault_in, abort_in, first_fault, first_abort, unsuccessful, ending_tells, endings_tell, total_by, total_of, with_fault, with_fault_in_total}
 use Rattle.ext_lifecycle.specs.FaultTexts.{fault_text}
-use Rattle.ext_lifecycle.specs.Results.{close_ending, result_by, result_of, with_fault_told}
+use Rattle.ext_lifecycle.specs.Results.{close_ending, result_by, result_of, map_fault}
 use Rattle.ext_lifecycle.proofs.EndingLaws.{weight, unsuccessful-cons, unsuccessful-closes}
 
 module _ {F G : Type 0} (to : F → G) where
@@ -90,7 +90,7 @@ module _ {F G : Type 0} (to : F → G) where
     endings_tell-to (e ∷ es) = λ i. ending_tells-to e i || endings_tell-to es i
 
     pub result_by-to : (node : ℕ) (is_test : Bool) (es : List (Ending F)) (computed found : ℕ) (cs : List (Option F))
-        → result_by others node is_test (map (with_fault to) es) computed found (map (option_map to) cs) ≡ with_fault_told to (result_by tells node is_test es computed found cs)
+        → result_by others node is_test (map (with_fault to) es) computed found (map (option_map to) cs) ≡ map_fault to (result_by tells node is_test es computed found cs)
     result_by-to node is_test es computed found cs =
         let ends : map (with_fault to) es ++ map close_ending (map (option_map to) cs) ≡ map (with_fault to) (es ++ map close_ending cs) = ap (λ l. map (with_fault to) es ++ l) (closes-to cs) ∙ sym (map-append (with_fault to) es (map close_ending cs)) in
         let total = ap total_of ends ∙ total_of-to (es ++ map close_ending cs) in
@@ -116,5 +116,5 @@ text-tells (faults.Text text) = refl
 text-tells faults.Memory = refl
 
 pub result_of-told : (node : ℕ) (is_test : Bool) (es : List (Ending Fault)) (computed found : ℕ) (cs : List (Option Fault))
-    → result_by tells_lack node is_test (map (with_fault fault_text) es) computed found (map (option_map fault_text) cs) ≡ with_fault_told fault_text (result_of node is_test es computed found cs)
+    → result_by tells_lack node is_test (map (with_fault fault_text) es) computed found (map (option_map fault_text) cs) ≡ map_fault fault_text (result_of node is_test es computed found cs)
 result_of-told = result_by-to fault_text fault_tells_lack tells_lack text-tells

@@ -7,7 +7,7 @@ use Rattle.ext_lifecycle.specs.declared.node_result.NodeResult.{NodeResult}
 use Rattle.ext_lifecycle.specs.declared.outcome.Verdict.{Verdict}
 use Rattle.ext_lifecycle.specs.Endings.{Ending, with_fault}
 use Rattle.ext_lifecycle.specs.Lifecycle.{ending_of}
-use Rattle.ext_lifecycle.specs.Results.{ResultOf, told, with_fault_told}
+use Rattle.ext_lifecycle.specs.Results.{ResultOf, as_result, map_fault}
 
 abbrev pub fault_text : Fault → List ℕ
 fault_text (faults.Text text) = string_bytes text
@@ -25,7 +25,7 @@ abbrev pub NodeOutcome : Type 0
 NodeOutcome = ResultOf (List ℕ)
 
 abbrev pub result_view : NodeResult → NodeOutcome
-result_view r = with_fault_told fault_text (told r)
+result_view r = map_fault fault_text (as_result r)
 
 abbrev pub results_view : List NodeResult → List NodeOutcome
 results_view results = map result_view results

@@ -1,7 +1,7 @@
 -- What a run reports about a node: how its calls ended and what they counted, and how the closes of its context ended,
 -- which come after them (JUnit 5 User Guide, "Keeping State in Extensions"). A close is successful or fails. The fault
--- of a close is reported if no call failed; each other fault and abort is counted. Whether one of all tells of a lack is
--- told too (`Lacks` of ext_model). What is reported is chosen here.
+-- of a close is reported if no call failed; each other fault and abort is counted. So is whether one of
+-- all tells of a lack (`Lacks` of ext_model). What is reported is chosen here.
 use Rattle.std.specs.Prelude.{ℕ, Bool, false, List, ◌++◌, length, map, Option, Some, None, option_map}
 use Rattle.ext_model.specs.declared.look.Fault.{Fault}
 use Rattle.ext_model.specs.Closed.{close_faults}
@@ -24,9 +24,9 @@ pub record ResultOf (F : Type 0) : Type 0 where
   pub close_faults : ℕ
   pub lacked : Bool
 
--- What a result in memory says.
-abbrev pub told : NodeResult → ResultOf Fault
-told r = record {
+-- A result in memory, by its fields.
+abbrev pub as_result : NodeResult → ResultOf Fault
+as_result r = record {
   node = r.node;
   is_test = r.is_test;
   status = r.status;
@@ -40,8 +40,8 @@ told r = record {
 }
 
 -- The same with its fault converted, for instance to its text.
-abbrev pub with_fault_told : {F G : Type 0} → (F → G) → ResultOf F → ResultOf G
-with_fault_told to r = record {
+abbrev pub map_fault : {F G : Type 0} → (F → G) → ResultOf F → ResultOf G
+map_fault to r = record {
   node = r.node;
   is_test = r.is_test;
   status = r.status;

@@ -1,6 +1,6 @@
 //! The result of a node.
 ghost use Rattle.std.specs.Prelude.{◌≡◌};
-ghost use Rattle.ext_lifecycle.specs.Results.{told, skipped_result};
+ghost use Rattle.ext_lifecycle.specs.Results.{as_result, skipped_result};
 
 use crate::Status;
 use ext_model::{ContextNo, Fault};
@@ -34,7 +34,7 @@ pub struct NodeResult {
 impl NodeResult {
     /// The result of a node that did not run: skipped, with no fault, no lack and all counts 0.
     pub fn skipped(node: ContextNo, is_test: bool) -> NodeResult
-        ensures { told result ≡ skipped_result node is_test }
+        ensures { as_result result ≡ skipped_result node is_test }
     {
         NodeResult {
             node,

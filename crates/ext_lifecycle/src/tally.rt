@@ -5,7 +5,7 @@ ghost use Rattle.ext_lifecycle.specs.declared.outcome.Outcome.{Outcome};
 ghost use Rattle.ext_lifecycle.specs.Endings.{aborted, all_successful, failed};
 ghost use Rattle.ext_lifecycle.specs.Lifecycle.{IsRoomy, computed_in, endings_of, found_in, tally_of};
 ghost use Rattle.ext_lifecycle.specs.InnerTotals.{total_in, with_ending};
-ghost use Rattle.ext_lifecycle.specs.Results.{result_of, told};
+ghost use Rattle.ext_lifecycle.specs.Results.{result_of, as_result};
 ghost use Rattle.ext_model.specs.Closed.{closed_of};
 ghost use Rattle.ext_model.specs.Lacks.{fault_tells_lack};
 
@@ -81,7 +81,7 @@ impl Tally {
     pub fn result(self, node: ContextNo, is_test: bool, closes: Closed) -> NodeResult
         requires room { IsRoomy 1 self }
         ensures { (outcomes : List Outcome) (closed : List (Option Fault)) → self ≡ tally_of outcomes → closes ≡ closed_of closed
-            → told result ≡ result_of node is_test (endings_of outcomes) (computed_in outcomes) (found_in outcomes) closed }
+            → as_result result ≡ result_of node is_test (endings_of outcomes) (computed_in outcomes) (found_in outcomes) closed }
     {
         let Closed {
             closed,

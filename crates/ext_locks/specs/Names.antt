@@ -21,7 +21,7 @@ texts_of texts = map (λ t. t.now) texts
 abbrev pub AreDifferent : List (List ℕ) → Type 0
 AreDifferent names = AllPairs (λ a b. a ≢ b) names
 
--- The name at this place also stands before it, and no earlier name stands twice.
+-- The name with this index also stands before it, and no earlier name stands twice.
 pub record IsFirstTwice (names : List (List ℕ)) (at : ℕ) : Type 0 where
   pub within : at < length names
   pub earlier : ℕ
@@ -74,7 +74,7 @@ pub record IsMerged (names : List (List ℕ)) (requests : List LockRequest) (set
   pub asked : (lock : ℕ) (mode : LockMode) → wants set lock mode ≡ true → Any (AsksFor names lock mode) requests
   pub ordered : IsStrictlyIncreasing (map (λ lock. lock.0) set)
 
--- The resource of the request at this place is unknown, and those before it are known.
+-- The resource of the request with this index is unknown, and those before it are known.
 pub record IsFirstUnknown (names : List (List ℕ)) (requests : List LockRequest) (at : ℕ) : Type 0 where
   pub within : at < length requests
   pub unknown : HoldsAt (λ r. ¬ (IsKnown names r.resource)) requests at

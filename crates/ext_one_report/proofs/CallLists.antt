@@ -10,7 +10,7 @@ use Rattle.ext_lifecycle.specs.declared.outcome.Outcome.{Outcome}
 use Rattle.ext_lifecycle.specs.Endings.{all_successful, is_successful}
 use Rattle.ext_lifecycle.specs.FaultTexts.{VerdictText, fault_text}
 use Rattle.ext_lifecycle.specs.Lifecycle.{MakesAll, MakesBefores, computed_in, ending_of, endings_of, found_in}
-use Rattle.ext_lifecycle.specs.Results.{result_by, result_of, with_fault_told}
+use Rattle.ext_lifecycle.specs.Results.{result_by, result_of, map_fault}
 use Rattle.ext_lifecycle.proofs.OtherFaults.{result_of-told}
 use Rattle.ext_plan.specs.Plans.{PlanText}
 use Rattle.ext_plan.specs.PlanCalls.{steps_of_call}
@@ -70,7 +70,7 @@ module _ (run : RunView) (plan : PlanText) (node : ℕ) (path : List ℕ) (place
 
 pub told_alike : (run : RunView) (places : Places) (node : ℕ) (is_test : Bool) (outcomes : List Outcome) (after : PlanLane) (end : CallsEnd) (faults : List (Option Fault))
     → CallsAlike run places outcomes after end
-    → with_fault_told fault_text (result_of node is_test (endings_of outcomes) (computed_in outcomes) (found_in outcomes) faults) ≡ outcome_of node is_test end (map (option_map fault_text) faults)
+    → map_fault fault_text (result_of node is_test (endings_of outcomes) (computed_in outcomes) (found_in outcomes) faults) ≡ outcome_of node is_test end (map (option_map fault_text) faults)
 told_alike run places node is_test outcomes after end faults alike =
     let closed = map (option_map fault_text) faults in
     sym (result_of-told node is_test (endings_of outcomes) (computed_in outcomes) (found_in outcomes) faults)

@@ -10,7 +10,7 @@ use Rattle.ext_tree.specs.Keys.{KeyValue}
 use Rattle.ext_lifecycle.specs.declared.outcome.Outcome.{Outcome}
 use Rattle.ext_lifecycle.specs.FaultTexts.{fault_text}
 use Rattle.ext_lifecycle.specs.Lifecycle.{computed_in, endings_of, found_in}
-use Rattle.ext_lifecycle.specs.Results.{result_of, with_fault_told}
+use Rattle.ext_lifecycle.specs.Results.{result_of, map_fault}
 use Rattle.ext_locks.specs.Opening.{LocksView}
 use Rattle.ext_plan.specs.Plans.{PlanText}
 use Rattle.ext_engine.specs.Meeting.{HasSeenWithin, first_seen}
@@ -66,7 +66,7 @@ pub record SealsCells (run : RunView) (node : ℕ) (places : Places) (before aft
 -- A node's context is closed on lanes and in the plain run: the same stands at all other places after it, and one result is told of the node
 pub record ClosesLevel (plan : PlanText) (run : RunView) (node : ℕ) (places : Places) (is_test : Bool) (outcomes : List Outcome) (faults : List (Option Fault)) (after : History) (end : CallsEnd) : Type 0 where
   pub level : AreLevel plan run (besides node places) after (seal_keys end.state.places node end.state)
-  pub told : with_fault_told fault_text (result_of node is_test (endings_of outcomes) (computed_in outcomes) (found_in outcomes) faults)
+  pub told : map_fault fault_text (result_of node is_test (endings_of outcomes) (computed_in outcomes) (found_in outcomes) faults)
       ≡ outcome_of node is_test end (faults_of_closes end.state.places node (seal_keys end.state.places node end.state))
 
 module _ (plan : PlanText) (run : RunView) (locks : LocksView) (h : History) (touched changes : ℕ → Places) (changed : ℕ → List ℕ) (shares : ℕ → Open) where

@@ -10,7 +10,7 @@ use Rattle.ext_history.proofs.Once.{Once, contains-from_map}
 use Rattle.ext_model.specs.declared.look.Fault.{Fault}
 use Rattle.ext_model.specs.History.{Limits}
 use Rattle.ext_lifecycle.specs.FaultTexts.{NodeOutcome, fault_text}
-use Rattle.ext_lifecycle.specs.Results.{ResultOf, skipped_result, with_fault_told}
+use Rattle.ext_lifecycle.specs.Results.{ResultOf, skipped_result, map_fault}
 use Rattle.ext_plan.specs.Plans.{NodeText, PlanText}
 use Rattle.ext_plan.specs.PlanCalls.{test_in}
 use Rattle.ext_plan.specs.ReadPlans.{IsReadPlan}
@@ -56,19 +56,19 @@ module _ (nodes : List NodeText) (suite : SuiteView) (ran : List Ran) (results :
   itself : (shared : SharedValues) (a b : NodeOutcome) → a ≡ b → AreNearResults shared a b
   itself shared a b same = subst (λ x. AreNearResults shared a x) same (record { same = refl; counts = refl; exact = λ nothing. refl })
 
-  at : (k : ℕ) (here there : NodeOutcome) → k < length nodes → HasRun ran k ⊎ (¬ HasRun ran k) → option_map (with_fault_told fault_text) (slice_get results k) ≡ Some here → slice_get after k ≡ Some there
+  at : (k : ℕ) (here there : NodeOutcome) → k < length nodes → HasRun ran k ⊎ (¬ HasRun ran k) → option_map (map_fault fault_text) (slice_get results k) ≡ Some here → slice_get after k ≡ Some there
       → AreNearResults (values_of (shares k)) here there
   at k here there within (inl has) is is' =
       let r = contains-from_map (λ (x : Ran). x.result.node) ran k has in
       let t = told.each r.0 r.1 in
-      let mine : Some (with_fault_told fault_text r.0.result) ≡ Some here = sym (ap (λ o. option_map (with_fault_told fault_text) o) (ap (λ n. slice_get results n) (sym r.2) ∙ one.of_run r.0 r.1)) ∙ is in
+      let mine : Some (map_fault fault_text r.0.result) ≡ Some here = sym (ap (λ o. option_map (map_fault fault_text) o) (ap (λ n. slice_get results n) (sym r.2) ∙ one.of_run r.0 r.1)) ∙ is in
       let theirs : Some t.0 ≡ Some there = sym (ap (λ n. slice_get after n) (sym r.2) ∙ t.1) ∙ is' in
-      let here_is : with_fault_told fault_text r.0.result ≡ here = cc mine in
+      let here_is : map_fault fault_text r.0.result ≡ here = cc mine in
       let there_is : t.0 ≡ there = cc theirs in
       subst (λ n. AreNearResults (values_of (shares n)) here there) r.2
-      (subst (λ x. AreNearResults (values_of (shares r.0.result.node)) x there) here_is (subst (λ x. AreNearResults (values_of (shares r.0.result.node)) (with_fault_told fault_text r.0.result) x) there_is t.2))
+      (subst (λ x. AreNearResults (values_of (shares r.0.result.node)) x there) here_is (subst (λ x. AreNearResults (values_of (shares r.0.result.node)) (map_fault fault_text r.0.result) x) there_is t.2))
   at k here there within (inr none) is is' =
-      let mine : Some (skipped_result k (is_some (test_in (slice_get nodes k)))) ≡ Some here = sym (ap (λ o. option_map (with_fault_told fault_text) o) (one.of_skipped k within none) ∙ ap (λ b. Some (skipped_result k b)) (tests k)) ∙ is in
+      let mine : Some (skipped_result k (is_some (test_in (slice_get nodes k)))) ≡ Some here = sym (ap (λ o. option_map (map_fault fault_text) o) (one.of_skipped k within none) ∙ ap (λ b. Some (skipped_result k b)) (tests k)) ∙ is in
       let theirs : Some (skipped_result k (is_some (test_in (slice_get nodes k)))) ≡ Some there =
       sym (told.others k none ∙ skipped_at nodes 0 k within ∙ ap (λ n. Some (skipped_result n (is_some (test_in (slice_get nodes k))))) (zero-add k)) ∙ is' in
       itself (values_of (shares k)) here there (cc (sym mine ∙ theirs))
@@ -76,10 +76,10 @@ module _ (nodes : List NodeText) (suite : SuiteView) (ran : List Ran) (results :
   -- ---- how many values all nodes computed
 
   abbrev here : List NodeOutcome
-  here = map (with_fault_told fault_text) results
+  here = map (map_fault fault_text) results
 
   long : length here ≡ length nodes
-  long = length-map results (with_fault_told fault_text) ∙ length_results nodes suite ran results one ∙ length_skipped 0 nodes
+  long = length-map results (map_fault fault_text) ∙ length_results nodes suite ran results one ∙ length_skipped 0 nodes
 
   long_after : length after ≡ length nodes
   long_after = told.count ∙ length_skipped 0 nodes
@@ -93,7 +93,7 @@ module _ (nodes : List NodeText) (suite : SuiteView) (ran : List Ran) (results :
       omega (arith, inside, count, r.2)
 
   here_at : (k : ℕ) (result : ResultOf Fault) → slice_get results k ≡ Some result → computed_at here k ≡ result.computed
-  here_at k result is = computed_is here k (with_fault_told fault_text result) (slice_get-map (with_fault_told fault_text) results k ∙ ap (λ o. option_map (with_fault_told fault_text) o) is)
+  here_at k result is = computed_is here k (map_fault fault_text result) (slice_get-map (map_fault fault_text) results k ∙ ap (λ o. option_map (map_fault fault_text) o) is)
 
   here_told : (some : List Ran) → ((r : Ran) → Contains some r → Contains ran r) → computed_told some here ≡ computed_of some
   here_told [] all = refl
@@ -104,7 +104,7 @@ module _ (nodes : List NodeText) (suite : SuiteView) (ran : List Ran) (results :
       let right = of_first r some in
       omega (arith, first, rest, left, right)
 
-  pub totals : sum_by (λ outcome. outcome.computed) (map (with_fault_told fault_text) results) ≡ sum_by (λ outcome. outcome.computed) after
+  pub totals : sum_by (λ outcome. outcome.computed) (map (map_fault fault_text) results) ≡ sum_by (λ outcome. outcome.computed) after
   totals =
       told_is_total here ran once (λ k has. let inside = ran_within k has in let count = long in omega (arith, inside, count))
       (λ k less none. let count = long in here_at k (skipped_result k (suite.is_test k)) (one.of_skipped k (omega (arith, less, count)) none))
@@ -114,16 +114,16 @@ module _ (nodes : List NodeText) (suite : SuiteView) (ran : List Ran) (results :
       told.others k none ∙ skipped_at nodes 0 k (omega (arith, less, count)) ∙ ap (λ n. Some (skipped_result n (is_some (test_in (slice_get nodes k))))) (zero-add k) in
       computed_is after k (skipped_result k (is_some (test_in (slice_get nodes k)))) skipped))))
 
-  pub near_reports : AreNearReports (λ node. values_of (shares node)) (map (with_fault_told fault_text) results) after
+  pub near_reports : AreNearReports (λ node. values_of (shares node)) (map (map_fault fault_text) results) after
   near_reports = record {
-    count = length-map results (with_fault_told fault_text) ∙ length_results nodes suite ran results one ∙ sym told.count;
+    count = length-map results (map_fault fault_text) ∙ length_results nodes suite ran results one ∙ sym told.count;
     computed = totals;
     near = λ k here there is is'.
-        let inside = slice_get_within (map (with_fault_told fault_text) results) k here is in
-        let long = length-map results (with_fault_told fault_text) in
+        let inside = slice_get_within (map (map_fault fault_text) results) k here is in
+        let long = length-map results (map_fault fault_text) in
         let count = length_results nodes suite ran results one in
         let skipped = length_skipped 0 nodes in
-        at k here there (omega (arith, inside, long, count, skipped)) (stands_or_not (nodes_of ran) k) (sym (slice_get-map (with_fault_told fault_text) results k) ∙ is) is';
+        at k here there (omega (arith, inside, long, count, skipped)) (stands_or_not (nodes_of ran) k) (sym (slice_get-map (map_fault fault_text) results k) ∙ is) is';
   }
 
 module _ (plan : PlanText) (lanes : ℕ) (results : List (ResultOf Fault)) (read : IsReadPlan plan) (has : HasNearReport plan) (run : ParallelRun plan lanes results) (full : LacksNothing plan lanes results run)
@@ -186,9 +186,9 @@ module _ (plan : PlanText) (lanes : ℕ) (results : List (ResultOf Fault)) (read
       nodes_end_near plan mine run.locks run.shared.history (touched_in plan) (changed_in plan) cells_changed shares 16 (length plan.nodes) 0 (0 ∷ []) none_open run.first run.ran run.after (enough_opening plan) basis (refl, refl)
       (omega arith) (run_in_view plan lanes results run full) begins (numbers_left plan lanes results read run full has.numbers)
 
-  pub told_near : AreNearReports (λ node. values_of (shares node)) (map (with_fault_told fault_text) results) (plain_run plan)
+  pub told_near : AreNearReports (λ node. values_of (shares node)) (map (map_fault fault_text) results) (plain_run plan)
   told_near =
-      subst (AreNearReports (λ node. values_of (shares node)) (map (with_fault_told fault_text) results)) (enough_results plan lanes results read run full has.numbers)
+      subst (AreNearReports (λ node. values_of (shares node)) (map (map_fault fault_text) results)) (enough_results plan lanes results read run full has.numbers)
       (near_reports plan.nodes (suite_of plan) run.ran results (enough_end plan).results (λ node. refl) (one_each plan lanes results run full read) shares ends.told
       (each_once plan lanes results run full read) (none_filled_apart _ none_open _ _ _ _ (λ context key. refl) ends.fills))
 
@@ -208,11 +208,11 @@ same_reports shares here there nothing near = same_by_places here there near.cou
 
 pub near_report : NearReport
 near_report plan lanes results read has run full =
-    subst (λ (shares : ℕ → SharedValues). AreNearReports shares (map (with_fault_told fault_text) results) (plain_run plan)) (λ i node. values_are_shared plan node i)
+    subst (λ (shares : ℕ → SharedValues). AreNearReports shares (map (map_fault fault_text) results) (plain_run plan)) (λ i node. values_are_shared plan node i)
     (told_near plan lanes results read has run full (given_in plan) (plans_are_shared plan (its plan lanes results read run full) read has.alike run.store_is.tree))
 
 -- So plans whose nodes keep apart have one report, as those whose nodes share values have near ones: no node of them shares a value
 pub one_report : OneReport
 one_report plan lanes results read has run full =
-    same_reports (shares_in plan) (map (with_fault_told fault_text) results) (plain_run plan) (apart_shares_nothing plan read has.apart)
+    same_reports (shares_in plan) (map (map_fault fault_text) results) (plain_run plan) (apart_shares_nothing plan read has.apart)
     (near_report plan lanes results read (record { alike = apart_shares_values plan has.apart; closes = has.closes; keys = has.keys; numbers = has.numbers }) run full)

@@ -21,7 +21,7 @@ use Rattle.ext_lifecycle.specs.Endings.{all_successful}
 use Rattle.ext_lifecycle.specs.FaultTexts.{NodeOutcome, fault_text}
 use Rattle.ext_lifecycle.specs.Lifecycle.{computed_in, endings_of, found_in}
 use Rattle.ext_lifecycle.specs.Modes.{in_run_order}
-use Rattle.ext_lifecycle.specs.Results.{with_fault_told}
+use Rattle.ext_lifecycle.specs.Results.{map_fault}
 use Rattle.ext_locks.specs.Opening.{LocksView}
 use Rattle.ext_plan.specs.Plans.{PlanText}
 use Rattle.ext_plan.specs.PlanCalls.{concurrent_of, registered, test_of}
@@ -537,9 +537,9 @@ module _ (g : Ground) (container : is_some (test_of g.plan g.node) ≡ false) (e
     own_node : lanes_run.own.result.node ≡ g.node
     own_node = ap (λ (x : Ran). x.result.node) lanes_run.ends.own_is
 
-    own_told : AreNearResults (values_of (g.shares lanes_run.own.result.node)) (with_fault_told fault_text lanes_run.own.result) outcome
+    own_told : AreNearResults (values_of (g.shares lanes_run.own.result.node)) (map_fault fault_text lanes_run.own.result) outcome
     own_told =
-        subst (λ (x : Ran). AreNearResults (values_of (g.shares x.result.node)) (with_fault_told fault_text x.result) outcome) (sym lanes_run.ends.own_is)
+        subst (λ (x : Ran). AreNearResults (values_of (g.shares x.result.node)) (map_fault fault_text x.result) outcome) (sym lanes_run.ends.own_is)
         (told_as (g.shares g.node) g.node false (lanes_run.befores ++ lanes_run.ends.afters) lanes_run.ends.faults called_end (faults_of_closes called_end.state.places g.node sealed) closed.told called.near.counts called.counted)
 
     own_apart : HasRun lanes_run.below lanes_run.own.result.node → ⊥

@@ -8,7 +8,7 @@ use Rattle.ext_model.specs.declared.look.Fault.{Fault}
 use Rattle.ext_lifecycle.specs.declared.outcome.Outcome.{Outcome}
 use Rattle.ext_lifecycle.specs.FaultTexts.{NodeOutcome, fault_text}
 use Rattle.ext_lifecycle.specs.Lifecycle.{computed_in, endings_of, found_in}
-use Rattle.ext_lifecycle.specs.Results.{result_of, with_fault_told}
+use Rattle.ext_lifecycle.specs.Results.{result_of, map_fault}
 use Rattle.ext_engine.specs.RunLaws.{HasRun, nodes_of}
 use Rattle.ext_engine.specs.TreeRun.{Ran}
 use Rattle.ext_plan_plain.specs.NodeCalls.{CallsEnd}
@@ -33,7 +33,7 @@ near_then shares xs ys a b c apart one two = record {
 }
 
 -- those below a node, and then the node
-pub near_own : (shares : ℕ → Open) (own : Ran) (below : List Ran) (a b : List NodeOutcome) (outcome : NodeOutcome) → AreNearResults (values_of (shares own.result.node)) (with_fault_told fault_text own.result) outcome → own.result.node < length a
+pub near_own : (shares : ℕ → Open) (own : Ran) (below : List Ran) (a b : List NodeOutcome) (outcome : NodeOutcome) → AreNearResults (values_of (shares own.result.node)) (map_fault fault_text own.result) outcome → own.result.node < length a
     → (HasRun below own.result.node → ⊥) → AllResultsNear shares below a b → AllResultsNear shares (own ∷ below) a (with_result outcome b)
 near_own shares own below a b outcome told within apart under =
     let at : own.result.node ≡ outcome.node = ap (λ (o : NodeOutcome). o.node) told.same in
@@ -43,7 +43,7 @@ near_own shares own below a b outcome told within apart under =
       count = set-long b outcome.node outcome ∙ under.count;
       each = λ r there. elim (contains_cons own below r there) [
         | inl same ↦
-            subst (λ (x : Ran). (one : NodeOutcome) × (slice_get (with_result outcome b) x.result.node ≡ Some one) × AreNearResults (values_of (shares x.result.node)) (with_fault_told fault_text x.result) one) same (outcome, here, told)
+            subst (λ (x : Ran). (one : NodeOutcome) × (slice_get (with_result outcome b) x.result.node ≡ Some one) × AreNearResults (values_of (shares x.result.node)) (map_fault fault_text x.result) one) same (outcome, here, told)
         | inr later ↦
             let one = under.each r later in (
               one.0,
@@ -65,10 +65,10 @@ pub record AreCounted (outcomes : List Outcome) (end : CallsEnd) : Type 0 where
 
 -- where the same is told with the counts of the lanes, near the same is told
 pub told_as : (shared : Open) (node : ℕ) (is_test : Bool) (outcomes : List Outcome) (faults : List (Option Fault)) (end : CallsEnd) (closes : List (Option (List ℕ)))
-    → with_fault_told fault_text (result_of node is_test (endings_of outcomes) (computed_in outcomes) (found_in outcomes) faults)
+    → map_fault fault_text (result_of node is_test (endings_of outcomes) (computed_in outcomes) (found_in outcomes) faults)
     ≡ outcome_of node is_test (record end { computed = computed_in outcomes; found = found_in outcomes }) closes
     → computed_in outcomes + found_in outcomes ≡ end.computed + end.found → (SharesNothing (values_of shared) → AreCounted outcomes end)
-    → AreNearResults (values_of shared) (with_fault_told fault_text (result_of node is_test (endings_of outcomes) (computed_in outcomes) (found_in outcomes) faults)) (outcome_of node is_test end closes)
+    → AreNearResults (values_of shared) (map_fault fault_text (result_of node is_test (endings_of outcomes) (computed_in outcomes) (found_in outcomes) faults)) (outcome_of node is_test end closes)
 told_as shared node is_test outcomes faults end closes told counts counted = record {
   same = ap (λ (o : NodeOutcome). record o { computed = 0; found = 0 }) told;
   counts = counts;

@@ -10,7 +10,7 @@ use Rattle.ext_one_report.proofs.Numbers.{enough_numbers}
 use Rattle.ext_tree.specs.Keys.{KeyValue}
 use Rattle.ext_tree.specs.Trees.{IsPathOf}
 use Rattle.ext_lifecycle.specs.FaultTexts.{NodeOutcome, fault_text}
-use Rattle.ext_lifecycle.specs.Results.{with_fault_told}
+use Rattle.ext_lifecycle.specs.Results.{map_fault}
 use Rattle.ext_locks.specs.Opening.{LocksView}
 use Rattle.ext_plan.specs.Plans.{PlanText}
 use Rattle.ext_plan.specs.PlanCalls.{test_of}
@@ -81,7 +81,7 @@ pub record IsSharedBasis (plan : PlanText) (run : RunView) (locks : LocksView) (
 
 pub record AllResultsNear (shares : ℕ → Open) (ran : List Ran) (before after : List NodeOutcome) : Type 0 where
   pub count : length after ≡ length before
-  pub each : (one : Ran) → Contains ran one → (told : NodeOutcome) × (slice_get after one.result.node ≡ Some told) × AreNearResults (values_of (shares one.result.node)) (with_fault_told fault_text one.result) told
+  pub each : (one : Ran) → Contains ran one → (told : NodeOutcome) × (slice_get after one.result.node ≡ Some told) × AreNearResults (values_of (shares one.result.node)) (map_fault fault_text one.result) told
   pub others : (node : ℕ) → ¬ HasRun ran node → slice_get after node ≡ slice_get before node
 
 -- ---- laws

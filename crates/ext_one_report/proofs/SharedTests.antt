@@ -16,7 +16,7 @@ use Rattle.ext_lifecycle.specs.declared.call.Call.{Call}
 use Rattle.ext_lifecycle.specs.Callbacks.{test_call}
 use Rattle.ext_lifecycle.specs.FaultTexts.{NodeOutcome, fault_text}
 use Rattle.ext_lifecycle.specs.Lifecycle.{computed_in, endings_of, found_in}
-use Rattle.ext_lifecycle.specs.Results.{result_of, with_fault_told}
+use Rattle.ext_lifecycle.specs.Results.{result_of, map_fault}
 use Rattle.ext_locks.specs.Opening.{LocksView}
 use Rattle.ext_plan.specs.Plans.{PlanText}
 use Rattle.ext_plan.specs.PlanCalls.{test_of}
@@ -282,7 +282,7 @@ module _ (plan : PlanText) (run : RunView) (locks : LocksView) (h : History) (to
     abbrev outcome : NodeOutcome
     outcome = outcome_of node true end (faults_of_closes end.state.places node sealed)
 
-    told : AreNearResults (values_of (shares node)) (with_fault_told fault_text own.result) outcome
+    told : AreNearResults (values_of (shares node)) (map_fault fault_text own.result) outcome
     told =
         told_as (shares node) node true its_run.outcomes its_run.faults end (faults_of_closes end.state.places node sealed) closed.told near.0.counts
         (λ nothing.

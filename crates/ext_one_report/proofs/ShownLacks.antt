@@ -12,7 +12,7 @@ use Rattle.ext_lifecycle.specs.declared.outcome.Outcome.{Outcome}
 use Rattle.ext_lifecycle.specs.Endings.{all_successful}
 use Rattle.ext_lifecycle.specs.FaultTexts.{fault_text}
 use Rattle.ext_lifecycle.specs.Lifecycle.{MakesAll, MakesBefores, MakesCalls, MakesIf, computed_in, endings_of, found_in}
-use Rattle.ext_lifecycle.specs.Results.{ResultOf, close_ending, with_fault_told}
+use Rattle.ext_lifecycle.specs.Results.{ResultOf, close_ending, map_fault}
 use Rattle.ext_locks.specs.Opening.{LocksView}
 use Rattle.ext_locks.specs.Sets.{HeldView}
 use Rattle.ext_plan.specs.LockNames.{lock_names}
@@ -275,13 +275,13 @@ module _ (plan : PlanText) (store : StoreView) (locks : LocksView) where
 
 -- ---- the results of a run
 
-one-spared : (results : List (ResultOf Fault)) (node : ℕ) (r : ResultOf Fault) → may_have_lacked (map (with_fault_told fault_text) results) ≡ false → slice_get results node ≡ Some r → NodeSpared r
+one-spared : (results : List (ResultOf Fault)) (node : ℕ) (r : ResultOf Fault) → may_have_lacked (map (map_fault fault_text) results) ≡ false → slice_get results node ≡ Some r → NodeSpared r
 one-spared [] node r spared is = absurd cc
 one-spared (x ∷ results) zero r spared is =
     let same : x ≡ r = cc is in
-    subst NodeSpared same (neither x.lacked (may_have_lacked (map (with_fault_told fault_text) results)) spared).0
+    subst NodeSpared same (neither x.lacked (may_have_lacked (map (map_fault fault_text) results)) spared).0
 one-spared (x ∷ results) (suc node) r spared is =
-    one-spared results node r (neither x.lacked (may_have_lacked (map (with_fault_told fault_text) results)) spared).1 is
+    one-spared results node r (neither x.lacked (may_have_lacked (map (map_fault fault_text) results)) spared).1 is
 
 module _ (plan : PlanText) (lanes : ℕ) (results : List (ResultOf Fault)) (read : IsReadPlan plan) (run : ParallelRun plan lanes results) where
   one_each : IsOneEach (suite_of plan) (λ node answer. answer ≡ true) (length plan.nodes) run.ran results
@@ -295,7 +295,7 @@ module _ (plan : PlanText) (lanes : ℕ) (results : List (ResultOf Fault)) (read
       let one = one_result_each st.tree (suite_of plan) (λ node answer. answer ≡ true) is_tree 16 run.ran (grown t is_tree runnable 16 0 run.first run.ran run.after run.run) in
       subst (λ r. IsOneEach (suite_of plan) (λ node answer. answer ≡ true) (length plan.nodes) run.ran r) (sym run.results_are) (subst (λ n. IsOneEach (suite_of plan) (λ node answer. answer ≡ true) n run.ran (all_results (suite_of plan) n run.ran)) counted one)
 
-  ran_spared : may_have_lacked (map (with_fault_told fault_text) results) ≡ false → RanSpared run.ran
+  ran_spared : may_have_lacked (map (map_fault fault_text) results) ≡ false → RanSpared run.ran
   ran_spared spared = all-contained (λ r. NodeSpared r.result) run.ran (λ r there. one-spared results r.result.node r.result spared (one_each.of_run r there))
 
 pub tells_lacks : TellsLacks

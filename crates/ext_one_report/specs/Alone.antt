@@ -26,15 +26,15 @@ use Rattle.ext_engine.specs.TreeRun.{Lanes, Ran, TreeSetting, concurrent_childre
 
 -- ---- what is seen meanwhile
 
--- The event at this place is one that the first of the lanes was shown, or made, between these two states of them.
-pub record IsSeenMeanwhile {V : Type 0} (place : ℕ) (before after : List (StoreLane V)) : Type 0 where
-  pub since : length (first_seen before) ≤ place
-  pub until : place < length (first_seen after)
+-- The event at this index is one that the first of the lanes was shown, or made, between these two states of them.
+pub record IsSeenMeanwhile {V : Type 0} (index : ℕ) (before after : List (StoreLane V)) : Type 0 where
+  pub since : length (first_seen before) ≤ index
+  pub until : index < length (first_seen after)
 
 -- Each such event was made by one of these lanes between the two states, or is one of others.
 pub record IsTheirsOr {V : Type 0} (h : History) (Others : ℕ → Type 0) (before after : List (StoreLane V))
     : Type 0 where
-  pub each : (place : ℕ) → IsSeenMeanwhile place before after → IsMadeIn h place before after ⊎ Others place
+  pub each : (index : ℕ) → IsSeenMeanwhile index before after → IsMadeIn h index before after ⊎ Others index
 
 -- ---- a whole run
 
@@ -49,7 +49,7 @@ HasJustItsOwn h lane = own lane.cells.view.number h ≡ own lane.cells.view.numb
 -- After the run the history has exactly those events of each lane that this lane has seen.
 pub record AreAllLanes {V : Type 0} (h : History) (before after : List (StoreLane V)) : Type 0 where
   pub first : All (HasSeenWithin (first_seen before)) before
-  pub by_lanes : (place : ℕ) (event : Event ℕ) → slice_get h place ≡ Some event
+  pub by_lanes : (index : ℕ) (event : Event ℕ) → slice_get h index ≡ Some event
       → Contains (numbers_of before) event.lane
   pub parts : All (HasSeenWithin h) after
   pub own_events : All (HasJustItsOwn h) after
@@ -57,18 +57,18 @@ pub record AreAllLanes {V : Type 0} (h : History) (before after : List (StoreLan
 -- ---- nodes beside one another
 
 module _ {V A : Type 0} (t : TreeSetting V A) where
-  -- In a run of the node and of those below it, down to `depth` levels, one of its lanes made the event at this place.
-  pub record IsMadeByNode (h : History) (depth node place : ℕ) : Type 0 where
+  -- In a run of the node and of those below it, down to `depth` levels, one of its lanes made the event at this index.
+  pub record IsMadeByNode (h : History) (depth node index : ℕ) : Type 0 where
     pub before : Lanes V
     pub ran : List Ran
     pub after : Lanes V
     pub run : ChildRun t depth node before ran after
     pub within : All (HasSeenWithin h) after.first
-    pub made : IsMadeIn h place before.first after.first
+    pub made : IsMadeIn h index before.first after.first
 
   -- A node that may run beside this one made the event: of two different concurrent children of a container, this node
   -- is at or below one, and the event was made in a run of the other.
-  pub record IsMadeBeside (h : History) (node place : ℕ) : Type 0 where
+  pub record IsMadeBeside (h : History) (node index : ℕ) : Type 0 where
     pub container : ℕ
     pub child : ℕ
     pub other : ℕ
@@ -77,7 +77,7 @@ module _ {V A : Type 0} (t : TreeSetting V A) where
     pub differ : child ≢ other
     pub below : IsAtOrBelow t.store.tree child node
     pub depth : ℕ
-    pub made : IsMadeByNode h depth other place
+    pub made : IsMadeByNode h depth other index
 
   -- While the node runs, or some part of it, its lanes are alone except for nodes beside it: each event that the first
   -- lane sees meanwhile is theirs, or was made by a node that may run beside this one.

@@ -86,7 +86,7 @@ module _ {V A : Type 0} (t : TreeSetting V A) where
   abbrev pub WholeRunsAreAlone : Type 0
   WholeRunsAreAlone = (depth node : ℕ) (before : Lanes V) (ran : List Ran) (after : Lanes V)
       → ChildRun t depth node before ran after → (h : History)
-      → AreAllLanes h before.first after.first → IsTheirsOr h (λ place. ⊥) before.first after.first
+      → AreAllLanes h before.first after.first → IsTheirsOr h (λ index. ⊥) before.first after.first
       × RunsAlone t h depth node before ran after
 
 -- The lanes with which a store was opened are all its lanes, if afterwards all have seen beginnings of one legal

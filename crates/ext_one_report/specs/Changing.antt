@@ -30,7 +30,7 @@ events_at cell h = filter (λ e. is_on nat_eq cell e.act) h
 
 -- Each event that the lane makes between these two states of it is on no cell, or on one of these.
 pub record MakesOnly {V : Type 0} (cells : List ℕ) (before after : StoreLane V) : Type 0 where
-  pub each : (place cell : ℕ) → (made : IsMadeBy (seen_by after.cells.view) place before after)
+  pub each : (index cell : ℕ) → (made : IsMadeBy (seen_by after.cells.view) index before after)
       → place_of made.event.act ≡ Some cell → Contains cells cell
 
 -- A call whose acts are only on such cells makes only such events.
@@ -82,9 +82,9 @@ module _ {V A : Type 0} (t : TreeSetting V A) where
     -- The lanes are alone on the cells that are left to the node: each event there that is seen meanwhile was made by
     -- one of these lanes between the two states.
     pub record IsAloneOnCells (h : History) (node : ℕ) (before after : List (StoreLane V)) : Type 0 where
-      pub each : (place cell : ℕ) (event : Event ℕ) → IsSeenMeanwhile place before after
-          → slice_get h place ≡ Some event → place_of event.act ≡ Some cell → IsLeftTo node cell
-          → IsMadeIn h place before after
+      pub each : (index cell : ℕ) (event : Event ℕ) → IsSeenMeanwhile index before after
+          → slice_get h index ≡ Some event → place_of event.act ≡ Some cell → IsLeftTo node cell
+          → IsMadeIn h index before after
 
     -- What a call of a node does to a lane that is alone meanwhile on the cells left to the node.
     pub record CallsAloneOnCells (h : History) (node : ℕ) (call : Call) (held : Option HeldView) (before : StoreLane V)
@@ -100,8 +100,8 @@ module _ {V A : Type 0} (t : TreeSetting V A) where
     RunsChangeOnly = IsTree t.store.tree → NodesChangeOnly
         → (h : History) (depth node : ℕ) (before : Lanes V) (ran : List Ran) (after : Lanes V)
         → ChildRun t depth node before ran after
-        → All (HasSeenWithin h) after.first → (place cell : ℕ) (event : Event ℕ)
-        → IsMadeIn h place before.first after.first → slice_get h place ≡ Some event → place_of event.act ≡ Some cell
+        → All (HasSeenWithin h) after.first → (index cell : ℕ) (event : Event ℕ)
+        → IsMadeIn h index before.first after.first → slice_get h index ≡ Some event → place_of event.act ≡ Some cell
         → IsBelow changed node cell
 
     -- A node, or a part of it, that is alone except for nodes beside it is alone on the cells left to it.

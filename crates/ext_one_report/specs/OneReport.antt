@@ -4,7 +4,7 @@ use Rattle.std.specs.Prelude.{◌≡◌, ℕ, List, length, map, Some, slice_get
 use Rattle.std.specs.List.{sum_by}
 use Rattle.ext_model.specs.declared.look.Fault.{Fault}
 use Rattle.ext_lifecycle.specs.FaultTexts.{NodeOutcome, fault_text}
-use Rattle.ext_lifecycle.specs.Results.{ResultOf, with_fault_told}
+use Rattle.ext_lifecycle.specs.Results.{ResultOf, map_fault}
 use Rattle.ext_plan.specs.Plans.{PlanText}
 use Rattle.ext_plan.specs.ReadPlans.{IsReadPlan}
 use Rattle.ext_plan_parallel.specs.ParallelRun.{ParallelRun}
@@ -19,7 +19,7 @@ abbrev pub OneReport : Type 0
 OneReport =
     (plan : PlanText) (lanes : ℕ) (results : List (ResultOf Fault)) → IsReadPlan plan → HasOneReport plan
     → (run : ParallelRun plan lanes results) → LacksNothing plan lanes results run
-    → map (with_fault_told fault_text) results ≡ plain_run plan
+    → map (map_fault fault_text) results ≡ plain_run plan
 
 -- The reports are the same for each node, except for which shared values it computed and which it found. All nodes
 -- together have computed as many.
@@ -35,4 +35,4 @@ abbrev pub NearReport : Type 0
 NearReport =
     (plan : PlanText) (lanes : ℕ) (results : List (ResultOf Fault)) → IsReadPlan plan → HasNearReport plan
     → (run : ParallelRun plan lanes results) → LacksNothing plan lanes results run
-    → AreNearReports (shares_in plan) (map (with_fault_told fault_text) results) (plain_run plan)
+    → AreNearReports (shares_in plan) (map (map_fault fault_text) results) (plain_run plan)

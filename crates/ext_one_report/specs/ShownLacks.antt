@@ -4,7 +4,7 @@
 use Rattle.std.specs.Prelude.{◌≡◌, ℕ, false, List, map}
 use Rattle.ext_model.specs.declared.look.Fault.{Fault}
 use Rattle.ext_lifecycle.specs.FaultTexts.{fault_text}
-use Rattle.ext_lifecycle.specs.Results.{ResultOf, with_fault_told}
+use Rattle.ext_lifecycle.specs.Results.{ResultOf, map_fault}
 use Rattle.ext_plan.specs.Plans.{PlanText}
 use Rattle.ext_plan.specs.ReadPlans.{IsReadPlan}
 use Rattle.ext_plan_parallel.specs.Lacking.{may_have_lacked}
@@ -19,12 +19,12 @@ abbrev pub TellsLacks : Type 0
 TellsLacks =
     (plan : PlanText) (lanes : ℕ) (results : List (ResultOf Fault)) → IsReadPlan plan
     → (run : ParallelRun plan lanes results)
-    → may_have_lacked (map (with_fault_told fault_text) results) ≡ false → LacksNothing plan lanes results run
+    → may_have_lacked (map (map_fault fault_text) results) ≡ false → LacksNothing plan lanes results run
 
 -- Such a run of a plan that has one report reports of each node what the plain run does.
 abbrev pub OneReportWithoutLack : Type 0
 OneReportWithoutLack =
     (plan : PlanText) (lanes : ℕ) (results : List (ResultOf Fault)) → IsReadPlan plan → HasOneReport plan
     → ParallelRun plan lanes results
-    → may_have_lacked (map (with_fault_told fault_text) results) ≡ false
-    → map (with_fault_told fault_text) results ≡ plain_run plan
+    → may_have_lacked (map (map_fault fault_text) results) ≡ false
+    → map (map_fault fault_text) results ≡ plain_run plan

@@ -1,6 +1,6 @@
 //! The run of a plan on several lanes.
 ghost use Rattle.std.specs.Prelude.{◌≡◌, ◌<◌, ◌≤◌, All, List, length, map, IfOk, IfErr};
-ghost use Rattle.ext_lifecycle.specs.Results.{told};
+ghost use Rattle.ext_lifecycle.specs.Results.{as_result};
 ghost use Rattle.ext_plan.specs.Plans.{plan_view};
 ghost use Rattle.ext_plan.specs.ReadPlans.{IsRunnablePlan};
 ghost use Rattle.ext_store.specs.Stores.{closers_below};
@@ -50,7 +50,7 @@ pub fn parallel_results<R: Threads + Wait + Sync, L: RunListener + Sync>(
 ) -> Result<Vec<NodeResult>, EngineFault>
     requires lanes { (1 ≤ lanes) × (lanes ≤ 16) }
     requires runnable { IsRunnablePlan (plan_view plan.now) }
-    ensures run { IfOk result (λ results. ParallelRun (plan_view plan.now) lanes (map told results.items)) }
+    ensures run { IfOk result (λ results. ParallelRun (plan_view plan.now) lanes (map as_result results.items)) }
     ensures in_tree { IfOk result (λ results. All (λ r. r.node < length plan.now.nodes.items) results.items) }
     ensures fault { IfErr result (IsRefusedRun (plan_view plan.now) lanes) }
 {
@@ -81,7 +81,7 @@ fn results_of<'a, R: Threads + Wait + Sync, L: RunListener + Sync>(
     requires runnable { IsRunnable store.now locks.now (suite_of suite.now) }
     ensures run { IfOk result (λ results. (ran : List Ran) × (after : Lanes StoredValue)
         × TreeRun (setting_of_plan suite.now store.now locks.now) 16 0 (record { first = lanes.old; second = lock_lanes.old }) ran after
-        × (map told results.items ≡ all_results (suite_of suite.now) (length store.now.tree) ran)
+        × (map as_result results.items ≡ all_results (suite_of suite.now) (length store.now.tree) ran)
         × ShareHistory store.now after.first × ShareKeys after.first) }
     ensures in_tree { IfOk result (λ results. All (λ r. r.node < length store.now.tree) results.items) }
     ensures early { IfErr result (EndsOver suite.now store.now locks.now (record { first = lanes.old; second = lock_lanes.old })) }

@@ -10,7 +10,7 @@ use Rattle.ext_lifecycle.specs.declared.node_result.NodeResult.{NodeResult}
 use Rattle.ext_lifecycle.specs.declared.outcome.Outcome.{Outcome}
 use Rattle.ext_lifecycle.specs.FaultTexts.{NodeOutcome, fault_text, result_view}
 use Rattle.ext_lifecycle.specs.Lifecycle.{computed_in, endings_of, found_in}
-use Rattle.ext_lifecycle.specs.Results.{result_of, told, with_fault_told}
+use Rattle.ext_lifecycle.specs.Results.{result_of, as_result, map_fault}
 use Rattle.ext_lifecycle.proofs.OtherFaults.{result_of-told}
 use Rattle.ext_plan.specs.StepCalls.{start_of}
 use Rattle.ext_plan_plain.specs.ContextEnds.{seal_keys, faults_of_closes}
@@ -60,9 +60,9 @@ child_is ids at children k d within is less = (parents_list_children ids at with
 
 -- the result of a node whose calls and closes came to this
 pub outcome_is : (at : ℕ) (is_test : Bool) (s : ValueState) (closed : List (Option (List ℕ))) (outcomes : List Outcome) (faults : List (Option Fault)) (r : NodeResult)
-    → told r ≡ result_of at is_test (endings_of outcomes) (computed_in outcomes) (found_in outcomes) faults → map (option_map fault_text) faults ≡ closed → result_view r ≡ outcome_of at is_test (calls_end s outcomes) closed
+    → as_result r ≡ result_of at is_test (endings_of outcomes) (computed_in outcomes) (found_in outcomes) faults → map (option_map fault_text) faults ≡ closed → result_view r ≡ outcome_of at is_test (calls_end s outcomes) closed
 outcome_is at is_test s closed outcomes faults r is closes =
-    ap (with_fault_told fault_text) is
+    ap (map_fault fault_text) is
     ∙ sym (result_of-told at is_test (endings_of outcomes) (computed_in outcomes) (found_in outcomes) faults)
     ∙ ap (outcome_of at is_test (calls_end s outcomes)) closes
 

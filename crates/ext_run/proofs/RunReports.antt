@@ -7,7 +7,7 @@ use Rattle.std.specs.Str.{IsUtf8, is_utf8}
 use Rattle.std.proofs.lemmas.Str.{IsUtf8-from_is_utf8, is_utf8-from_IsUtf8}
 use Rattle.ext_lifecycle.specs.declared.node_result.NodeResult.{NodeResult}
 use Rattle.ext_lifecycle.specs.FaultTexts.{fault_text, result_view, results_view}
-use Rattle.ext_lifecycle.specs.Results.{told, with_fault_told}
+use Rattle.ext_lifecycle.specs.Results.{as_result, map_fault}
 use Rattle.ext_model.specs.declared.size.Size.{Size}
 use Rattle.ext_plan_reading.specs.declared.fault.PlanFault.{PlanFault}
 use Rattle.ext_plan_reading.specs.declared.fault.PlanFault.TheVariants as plan
@@ -83,7 +83,7 @@ pub run_report_is : (report report' : List ℕ) (failed failed' lacked : Bool) �
 run_report_is report report' failed failed' lacked e f = ap (λ r. record { report = r; failed = failed; lacked = lacked }) e ∙ ap (λ b. record { report = report'; failed = b; lacked = lacked }) f
 
 -- what is told of the results, with the texts of their faults
-pub with_texts : (results : List NodeResult) → results_view results ≡ map (with_fault_told fault_text) (map told results)
+pub with_texts : (results : List NodeResult) → results_view results ≡ map (map_fault fault_text) (map as_result results)
 with_texts [] = refl
 with_texts (r ∷ results) = ap (λ l. result_view r ∷ l) (with_texts results)
 

@@ -4,7 +4,7 @@ use Rattle.std.specs.Prelude.{◌≡◌, ℕ, Bool, true, false, List, length, m
 use Rattle.std.specs.Str.{is_utf8}
 use Rattle.ext_plan_parallel.specs.Fault.{Fault}
 use Rattle.ext_lifecycle.specs.FaultTexts.{NodeOutcome, fault_text}
-use Rattle.ext_lifecycle.specs.Results.{ResultOf, with_fault_told}
+use Rattle.ext_lifecycle.specs.Results.{ResultOf, map_fault}
 use Rattle.ext_model.specs.declared.size.Size.{Size}
 use Rattle.ext_model.specs.declared.size.Size.TheVariants as sizes
 use Rattle.ext_plan_reading.specs.declared.fault.PlanFault.{PlanFault}
@@ -51,7 +51,7 @@ plan_of_input size input = if nat_lt (input_limit size) (length input) then Err 
 pub record RunsOnLanes (plan : PlanText) (lanes : ℕ) (results : List NodeOutcome) : Type 0 where
   pub ran : List (ResultOf Fault)
   pub run : ParallelRun plan lanes ran
-  pub texts : results ≡ map (with_fault_told fault_text) ran
+  pub texts : results ≡ map (map_fault fault_text) ran
 
 -- The results of the nodes, and whether a step may have lacked something. A plain run can only lack memory. A run on
 -- several lanes may lack anything, as the results show.

@@ -5,7 +5,7 @@ use Rattle.std.specs.Str.{chars}
 use Rattle.std.specs.Duration.{as_nanos}
 use Rattle.std.specs.declared.time.Duration.{Duration}
 use Rattle.ext_lifecycle.specs.FaultTexts.{NodeOutcome}
-use Rattle.ext_lifecycle.specs.Results.{with_fault_told}
+use Rattle.ext_lifecycle.specs.Results.{map_fault}
 use Rattle.ext_lifecycle.specs.declared.node_result.NodeResult.{NodeResult}
 use Rattle.ext_report.specs.Report.{any_failed}
 use Rattle.ext_report.specs.declared.extra.Extra.{Extra}
@@ -55,7 +55,7 @@ abbrev pub indented : List ℕ → List ℕ
 indented text = flat_map indented_character (chars text)
 
 abbrev pub with_indented_fault : NodeOutcome → NodeOutcome
-with_indented_fault r = with_fault_told indented r
+with_indented_fault r = map_fault indented r
 
 -- ---- endings
 

@@ -1,6 +1,6 @@
 //! A run of a table, from its opening to its results.
 ghost use Rattle.std.specs.Prelude.{◌≡◌, ◌<◌, All, IfErr, IfOk, IsPermutation, List, length, map};
-ghost use Rattle.ext_lifecycle.specs.Results.{told};
+ghost use Rattle.ext_lifecycle.specs.Results.{as_result};
 ghost use Rattle.ext_locks.specs.Names.{texts_of};
 ghost use Rattle.ext_store.specs.Stores.{closers_below};
 ghost use Rattle.ext_engine.specs.Failing.{EndsEarly};
@@ -93,7 +93,7 @@ where
     E::Shared: Send + Sync,
     ensures run { IfOk result (λ done. IsTableRun
         (table_setting {L = L} engine.now (E.test_gives engine.now) (E.make_gives engine.now) (E.lane_gives engine.now) E.close_gives table.now.rows.items (texts_in table.now.lock_names.items) run.attempts run.stop_after)
-        table.now.ids.items (texts_in table.now.lock_names.items) run.limits done.store (map told done.results.items)) }
+        table.now.ids.items (texts_in table.now.lock_names.items) run.limits done.store (map as_result done.results.items)) }
     ensures nodes { IfOk result (λ done. All (λ r. r.node < length done.store.tree) done.results.items) }
     ensures fault { IfErr result (λ why. IsTableFault
         (table_setting {L = L} engine.now (E.test_gives engine.now) (E.make_gives engine.now) (E.lane_gives engine.now) E.close_gives table.now.rows.items (texts_in table.now.lock_names.items) run.attempts run.stop_after)
@@ -161,7 +161,7 @@ where
     ensures run { IfOk result (λ results. (ran : List Ran)
         × TreeRun (table_setting {L = L} suite.now.engine.now (E.test_gives suite.now.engine.now) (E.make_gives suite.now.engine.now) (E.lane_gives suite.now.engine.now) E.close_gives suite.now.rows.now (texts_of suite.now.names.now) suite.now.attempts suite.now.stop_after suite.now.store.now locks.now)
         16 0 (record { first = lanes.old; second = lock_lanes.old }) ran (record { first = lanes.new; second = lock_lanes.new })
-        × (map told results.items ≡ all_results (table_view suite.now.rows.now (texts_of suite.now.names.now) suite.now.store.now.tree) (length suite.now.store.now.tree) ran)) }
+        × (map as_result results.items ≡ all_results (table_view suite.now.rows.now (texts_of suite.now.names.now) suite.now.store.now.tree) (length suite.now.store.now.tree) ran)) }
     ensures nodes { IfOk result (λ results. All (λ r. r.node < length suite.now.store.now.tree) results.items) }
     ensures early { IfErr result (λ why.
         EndsEarly (table_setting {L = L} suite.now.engine.now (E.test_gives suite.now.engine.now) (E.make_gives suite.now.engine.now) (E.lane_gives suite.now.engine.now) E.close_gives suite.now.rows.now (texts_of suite.now.names.now) suite.now.attempts suite.now.stop_after suite.now.store.now locks.now)

@@ -53,8 +53,8 @@ impl Running {
 
     /// Records the lane of a node, or none if it does not run.
     fn set(&mut self, node: usize, lane: Option<usize>) {
-        if let Some(place) = self.lanes.get_mut(node) {
-            *place = lane;
+        if let Some(of_node) = self.lanes.get_mut(node) {
+            *of_node = lane;
         }
     }
 

@@ -138,10 +138,10 @@ fn take_closer(
     ensures own { IsCloserOf store.now result }
     ensures others { All (IsCloserOf store.now) closers.new.items }
 {
-    let place = closers
+    let found = closers
         .iter()
         .position(|closer| closer.context() == context);
-    let Some(at) = place else {
+    let Some(at) = found else {
         panic!(rt; "there is no closer of context {context}");
     };
     closers.remove(at)

@@ -141,9 +141,9 @@ pub(crate) fn take_outcomes<T: Drop, O: Drop, M: Allocator>(
     requires room { length table.shared.key.value.items ≤ vec_capacity outcomes.old }
     requires none { outcomes.old.items ≡ [] }
     ensures drawn { (drawn : ℕ) × ((x : ℕ) → times x first.me.0.draws ≡ cond (ltb x drawn) 1 0) }
-    ensures places { (places : List (Option O)) × (length places ≡ length table.shared.key.value.items)
-        × All (λ d. slice_get places d.job ≡ Some (Some d.outcome)) first.me.0.given
-        × (outcomes.new.items ≡ filter_map (λ o. o) places) }
+    ensures by_job { (by_job : List (Option O)) × (length by_job ≡ length table.shared.key.value.items)
+        × All (λ d. slice_get by_job d.job ≡ Some (Some d.outcome)) first.me.0.given
+        × (outcomes.new.items ≡ filter_map (λ o. o) by_job) }
 {
     let mut closed = table.close_with(first);
     for slot in 0..closed.slot_count() {

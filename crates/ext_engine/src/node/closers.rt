@@ -29,7 +29,7 @@ pub(crate) fn take_own<V>(store: &Store<V>, node: ContextNo, closers: &mut Vec<C
     ensures of_node { result.context ≡ node }
     ensures closers { HasBelow store.now node closers.new.items }
 {
-    let Some(at) = place_of(closers.as_slice(), node) else {
+    let Some(at) = closer_index(closers.as_slice(), node) else {
         unreachable!()
     };
     closers.remove(at)
@@ -47,7 +47,7 @@ pub(crate) fn closer_of<V>(store: &Store<V>, item: Item) -> Closer
 }
 
 /// The index of the first closer of the node, if there is one.
-pub(crate) fn place_of(closers: &[Closer], node: ContextNo) -> Option<usize>
+pub(crate) fn closer_index(closers: &[Closer], node: ContextNo) -> Option<usize>
     ensures within { IfSome result (λ at. at < length closers.now) }
     ensures at { IfSome result (λ at. (d : _) → (slice_index_or closers.now at d).context ≡ node) }
     ensures first { IfSome result (λ at. All (λ c. c.context ≢ node) (take at closers.now)) }
@@ -117,7 +117,7 @@ fn hand_out<V>(
     ensures closers { IfOk result (λ _. All (HasTaken store.now closers.items) items.new.items) }
 {
     for closer in closers {
-        if let Some(at) = place_among_children(store, node, closer.context()) {
+        if let Some(at) = child_above(store, node, closer.context()) {
             items[at].closers.push(closer)?;
         }
     }
@@ -125,7 +125,7 @@ fn hand_out<V>(
 }
 
 /// The index, among the node's children, of the one at or above the context, if there is one.
-fn place_among_children<V>(store: &Store<V>, node: ContextNo, context: ContextNo) -> Option<usize>
+fn child_above<V>(store: &Store<V>, node: ContextNo, context: ContextNo) -> Option<usize>
     requires node { node < length store.now.tree }
     requires context { context < length store.now.tree }
     ensures within { IfSome result (λ at. at < length (children_of store.now.tree node)) }

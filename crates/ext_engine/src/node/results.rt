@@ -1,8 +1,8 @@
 //! The results of nodes.
 ghost use Rattle.std.specs.Prelude.{◌≡◌, ◌<◌, ◌≤◌, ◌+◌, ◌++◌, ◌∷◌, [], IfOk, IfErr, All, IsOk, length, map, vec_len, vec_capacity};
 ghost use Rattle.std.specs.List.{flat_map};
-ghost use Rattle.ext_lifecycle.specs.Results.{told};
-ghost use Rattle.ext_engine.specs.NodeRun.{all_skipped, placed};
+ghost use Rattle.ext_lifecycle.specs.Results.{as_result};
+ghost use Rattle.ext_engine.specs.NodeRun.{all_skipped, with_results};
 ghost use Rattle.ext_engine.specs.InnerResults.{ran_view, ran_in, rans_below};
 ghost use Rattle.ext_engine.specs.NodeFailing.{IsFirstRefusal};
 
@@ -28,7 +28,7 @@ pub(crate) fn all_skipped<V: StoreValue + Drop, S: Suite<V>>(
     suite: &S,
     count: usize,
 ) -> Result<Vec<NodeResult>, AllocError>
-    ensures { IfOk result (λ v. map told v.items ≡ all_skipped (S.suite_view suite.now) count) }
+    ensures { IfOk result (λ v. map as_result v.items ≡ all_skipped (S.suite_view suite.now) count) }
 {
     let mut results = Vec::new(alloc);
     for node in 0..count {
@@ -37,10 +37,10 @@ pub(crate) fn all_skipped<V: StoreValue + Drop, S: Suite<V>>(
     Ok(results)
 }
 
-/// Puts each result at the place of its node. Each node has a place.
-pub(crate) fn place(results: &mut Vec<NodeResult>, ran: Vec<RanNode>)
+/// Puts each result at the index of its node, which there is.
+pub(crate) fn put_results(results: &mut Vec<NodeResult>, ran: Vec<RanNode>)
     requires { All (λ r. r.result.node < vec_len results.old) ran.items }
-    ensures { map told results.new.items ≡ placed (map told results.old.items) (map ran_view ran.items) }
+    ensures { map as_result results.new.items ≡ with_results (map as_result results.old.items) (map ran_view ran.items) }
 {
     for RanNode { result, went_on: _ } in ran {
         let node = result.node;

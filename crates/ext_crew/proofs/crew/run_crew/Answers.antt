@@ -6,7 +6,7 @@ use Rattle.ext_crew.specs.InnerHands.{jobs_done, draws_of, given_of, HasWorked}
 use Rattle.ext_crew.specs.Dealing.{times, IsDealing, Runs}
 use Rattle.ext_crew.proofs.Dealt.{dealt}
 use Rattle.ext_crew.proofs.Lists.{lent_back}
-use Rattle.ext_crew.proofs.Places.{run-made}
+use Rattle.ext_crew.proofs.ByJob.{run-made}
 use Rattle.ext_crew.proofs.Shares.{some_each}
 use Rattle.ext_crew.proofs.crew.run_crew.Goals as goal
 
@@ -35,14 +35,14 @@ returns g c =
     let drew : c.join_hands.new.first.me.0.draws ≡ flat_map F new = joined.draws ∙ ap (flat_map F) back in
     let gave : c.join_hands.new.first.me.0.given ≡ flat_map D new = joined.given ∙ ap (flat_map D) back in
     let last = c.take_outcomes.ensures in
-    let places = last.places.0 in
+    let by_job = last.by_job.0 in
     let workers = c.len-workers.result in
     let made : length new ≡ workers = search rules in
     let positive : 0 < workers = search rules in
     let count = c.requires.opened.counter.1 in
     let dealing : IsDealing c.args.count workers (map jobs_done new) =
     dealt c.args.crew.table.shared.table_id items new c.args.count workers count made positive c.run_hands.ensures.jobs (last.drawn.0, λ x. ap (times x) (sym drew) ∙ last.drawn.1 x) in
-    let P : List (Done g.row.O.Denot) → Type 0 = λ l. All (λ d. slice_get places d.job ≡ Some (Some d.outcome)) l in
-    run-made (Runs g.F.Fn c.args.run.now items) c.args.count workers _ new places c.take_outcomes.new.outcomes.items
+    let P : List (Done g.row.O.Denot) → Type 0 = λ l. All (λ d. slice_get by_job d.job ≡ Some (Some d.outcome)) l in
+    run-made (Runs g.F.Fn c.args.run.now items) c.args.count workers _ new by_job c.take_outcomes.new.outcomes.items
     (record { first = c.args.first.now; second = c.args.second.now }) (record { first = c.run_hands.new.first; second = c.run_hands.new.second })
-    dealing (last.places.1 ∙ count) (subst P gave last.places.2) last.places.3 c.run_hands.ensures.worked (search rules)
+    dealing (last.by_job.1 ∙ count) (subst P gave last.by_job.2) last.by_job.3 c.run_hands.ensures.worked (search rules)

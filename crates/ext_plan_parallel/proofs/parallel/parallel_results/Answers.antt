@@ -1,7 +1,7 @@
 use Rattle.std.proofs.Common.{◌≡◌, ◌∙◌, ◌<◌, inr, ℕ, All, List, length, map, ap, arith, sym, subst}
 use Rattle.std.proofs.lemmas.List.Sorted.{Contains-permutation}
 use Rattle.ext_plan.specs.LockNames.{lock_names}
-use Rattle.ext_lifecycle.specs.Results.{told}
+use Rattle.ext_lifecycle.specs.Results.{as_result}
 use Rattle.ext_plan.specs.Plans.{PlanText, node_view, plan_view}
 use Rattle.ext_store.specs.Stores.{StoreLane}
 use Rattle.ext_locks.specs.Views.{Lane}
@@ -52,8 +52,8 @@ returns-clause-run g c =
       after = ran.1;
       run = subst (λ (p : PlanText). TreeRun (setting_of_plan p st lk) 16 0 first ran.0 ran.1) c.in_ok-suite.ensures ran.2;
       results_are =
-          subst (λ (n : ℕ). map told results.items ≡ all_results (suite_of plan) n ran.0) count
-          (subst (λ (p : PlanText). map told results.items ≡ all_results (suite_of p) (length st.tree) ran.0) c.in_ok-suite.ensures ran.3);
+          subst (λ (n : ℕ). map as_result results.items ≡ all_results (suite_of plan) n ran.0) count
+          (subst (λ (p : PlanText). map as_result results.items ≡ all_results (suite_of p) (length st.tree) ran.0) c.in_ok-suite.ensures ran.3);
       shared = ran.4;
       numbered = ran.5;
       placed =

@@ -1,6 +1,6 @@
 use Rattle.std.proofs.Common.{◌∙◌, Bool, map, ap, sym, subst}
 use Rattle.ext_lifecycle.specs.FaultTexts.{results_view}
-use Rattle.ext_lifecycle.specs.Results.{told}
+use Rattle.ext_lifecycle.specs.Results.{as_result}
 use Rattle.ext_plan_parallel.specs.Lacking.{may_have_lacked}
 use Rattle.ext_plan_reading.specs.Plans.{plan_view}
 use Rattle.ext_run.specs.declared.fault.RunFault.TheVariants as faults
@@ -31,7 +31,7 @@ returns-in-Ok-clause-run g c =
     let results = c.in-Ok.results.items in
     let lacked = c.may_have_lacked-lacked.result in
     let P : Bool → Type 0 = λ plain. IsRunBy plain c.args.options.lanes (plan_view c.args.plan.now) (results_view results) lacked in
-    subst P (sym c.if-options.false) (record { ran = map told results; run = c.in-Ok.ensures.run; texts = with_texts results }, c.may_have_lacked-lacked.ensures ∙ ap (λ l. may_have_lacked (results_view l)) c.as_slice.ensures.value)
+    subst P (sym c.if-options.false) (record { ran = map as_result results; run = c.in-Ok.ensures.run; texts = with_texts results }, c.may_have_lacked-lacked.ensures ∙ ap (λ l. may_have_lacked (results_view l)) c.as_slice.ensures.value)
 
 pub returns-in-Ok-clause-fault : goal.returns-in-Ok-clause-fault
 returns-in-Ok-clause-fault g c = tt

@@ -1,6 +1,6 @@
 use Rattle.std.proofs.Common.{◌≡◌, ◌∙◌, ℕ, List, Bor, String, Global, string_bytes, ap, map, length, subst, sym}
 use Rattle.std.proofs.lemmas.List.{length-map}
-use Rattle.ext_lifecycle.specs.Results.{told}
+use Rattle.ext_lifecycle.specs.Results.{as_result}
 use Rattle.ext_locks.specs.Names.{texts_of}
 use Rattle.ext_table.specs.TableRuns.{EndsTableRun, IsTableRun, table_setting}
 use Rattle.ext_table.specs.Tables.{AreKnown, texts_in}
@@ -13,7 +13,7 @@ returns-in-Ok-results_over-clause-run g c =
     let o = c.in-Ok-open_run.opened in
     let ran = c.in-Ok-results_over.ensures.run in
     let named : texts_of c.as_slice-names.result.now ≡ texts_in c.args.table.now.lock_names.items = ap texts_of c.as_slice-names.ensures.value ∙ c.in-Ok.ensures ∙ ap texts_in c.as_slice.ensures.value in
-    at_others (λ rows ids names. IsTableRun (table_setting {L = g.row.L.Denot} c.args.engine.now (g.E.Engine.test_gives c.args.engine.now) (g.E.Engine.make_gives c.args.engine.now) (g.E.Engine.lane_gives c.args.engine.now) g.E.Engine.close_gives rows names c.args.run.attempts c.args.run.stop_after) ids names c.args.run.limits o.store (map told c.in-Ok-results_over.results.items))
+    at_others (λ rows ids names. IsTableRun (table_setting {L = g.row.L.Denot} c.args.engine.now (g.E.Engine.test_gives c.args.engine.now) (g.E.Engine.make_gives c.args.engine.now) (g.E.Engine.lane_gives c.args.engine.now) g.E.Engine.close_gives rows names c.args.run.attempts c.args.run.stop_after) ids names c.args.run.limits o.store (map as_result c.in-Ok-results_over.results.items))
     c.as_slice-rows.result.now c.args.table.now.rows.items c.as_slice-ids.result.now c.args.table.now.ids.items (texts_of c.as_slice-names.result.now) (texts_in c.args.table.now.lock_names.items)
     c.as_slice-rows.ensures.value c.as_slice-ids.ensures.value named
     (record {

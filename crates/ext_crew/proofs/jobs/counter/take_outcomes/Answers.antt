@@ -7,7 +7,7 @@ use Rattle.ext_crew.specs.InnerCounter.{outcome_in, outcomes_in}
 use Rattle.ext_crew.specs.declared.jobs.slot.Slot.{Slot}
 use Rattle.ext_crew.proofs.Draws.{ends_with}
 use Rattle.std.proofs.Common.{take_all}
-use Rattle.ext_crew.proofs.Slots.{false_up_to, outcomes-one_more, place_of}
+use Rattle.ext_crew.proofs.Slots.{false_up_to, outcomes-one_more, outcome_at}
 use Rattle.ext_crew.proofs.jobs.counter.take_outcomes.Goals as goal
 
 pub loop-slot-preserved : goal.loop-slot-preserved
@@ -33,8 +33,8 @@ loop-slot-preserved g c =
 pub returns-clause-drawn : goal.returns-clause-drawn
 returns-clause-drawn g c = (ends_with c.args.table.shared.key.value.items c.args.first.id c.args.first.me.0 _ _ c.requires.first.1 c.close_with-closed.ensures.values.2).0
 
-pub returns-clause-places : goal.returns-clause-places
-returns-clause-places g c =
+pub returns-clause-by_job : goal.returns-clause-by_job
+returns-clause-by_job g c =
     let last = ends_with c.args.table.shared.key.value.items c.args.first.id c.args.first.me.0 _ _ c.requires.first.1 c.close_with-closed.ensures.values.2 in
     let xs : List (Slot g.row.T.Denot g.row.O.Denot) = slots_items c.close_with-closed.result.slots in
     let given = c.args.first.me.0.given in
@@ -42,6 +42,6 @@ returns-clause-places g c =
     let all : length xs ≡ c.loop-slot.slot = search rules in (
       map outcome_in xs,
       length-map xs outcome_in ∙ count,
-      (λ k d l. let e = get_or given k d in place_of xs e.job e.outcome (last.2 k d l)),
+      (λ k d l. let e = get_or given k d in outcome_at xs e.job e.outcome (last.2 k d l)),
       c.loop-slot.invariant.outcomes ∙ ap outcomes_in (take_all c.loop-slot.slot xs (omega (arith, all))),
     )

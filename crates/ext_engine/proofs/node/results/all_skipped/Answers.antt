@@ -1,5 +1,5 @@
 use Rattle.std.proofs.Common.{rules}
-use Rattle.ext_engine.proofs.Placing.{skipped-more}
+use Rattle.ext_engine.proofs.Putting.{skipped-more}
 use Rattle.ext_engine.proofs.node.results.all_skipped.Goals as goal
 
 pub loop-node-preserved : goal.loop-node-preserved

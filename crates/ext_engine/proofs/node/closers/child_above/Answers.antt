@@ -4,8 +4,8 @@ use Rattle.std.specs.List.Sorted.{IsBinarySearchResult}
 use Rattle.ext_tree.specs.Trees.{children_of}
 use Rattle.ext_tree.proofs.TreeLaws.{parents_list_children}
 use Rattle.ext_engine.specs.InnerClosers.{IsWithin}
-use Rattle.ext_engine.proofs.Items.{finds-place, too-short, passes-child}
-use Rattle.ext_engine.proofs.node.closers.place_among_children.Goals as goal
+use Rattle.ext_engine.proofs.Items.{finds-index, too-short, passes-child}
+use Rattle.ext_engine.proofs.node.closers.child_above.Goals as goal
 
 pub returns-then-path-depth-clause-at : goal.returns-then-path-depth-clause-at
 returns-then-path-depth-clause-at g c =
@@ -26,4 +26,4 @@ returns-clause-at g c =
     (λ at l within.
     let passes = passes-child ids node at context less l within path node_path c.path-2.result.now c.path.result.now c.as_slice-path.ensures.contexts c.as_slice-depth.ensures.contexts
     c.path-2.ensures.path c.path-2.ensures.depth c.path.ensures.depth c.len-count.ensures.tree c.path-2.ensures.within (omega (arith, c.if-path-depth.false)) in
-    c.ok.ensures.value ∙ finds-place (children_of ids node) (parents_list_children ids node less).order x at c.binary_search.result found l (sym passes))
+    c.ok.ensures.value ∙ finds-index (children_of ids node) (parents_list_children ids node less).order x at c.binary_search.result found l (sym passes))
