@@ -2,13 +2,17 @@
 writes with Python's own XML parser. Each suite and each case has to be what the same run says in JSON, with the same message, and the numbers of cases its totals
 there: a container that failed or aborted itself is one case more. The totals in JSON have to be those of the report's text. Prints a line for each plan.
 
-A plan's report has no times and no attempts. One that has them stands in crates/test_runs/src/timed.rt, whose test makes sure that it is written so: it is read here by
-the same parser, and has to have the times and attempts that the engine knew, as TIMED has them, in milliseconds.
+The files of `--junit` and `--json` have to be those reports with times: of each node that ran in JSON, and the same of each case of a test in XML. One that cannot be
+written is told, once the report and the other file are written.
+
+Attempts no plan has. A report that has them stands in crates/test_runs/src/timed.rt, whose test makes sure that it is written so: it is read here by the same parser,
+and has to have the times and attempts that the engine knew, as TIMED has them, in milliseconds.
 """
 import json
 import pathlib
 import re
 import subprocess
+import tempfile
 import urllib.parse
 import xml.etree.ElementTree
 
@@ -40,6 +44,15 @@ def written(program, form, plan):
     if ran.returncode not in (0, 1) or ran.stderr:
         raise ValueError(f"status {ran.returncode}: {ran.stderr[:1000].decode(errors='replace')}")
     return ran.stdout
+
+
+def written_beside(program, plan, folder):
+    """The text that a plain run of the plan writes, and the two files beside it: XML and JSON."""
+    files = [folder / name for name in ("report.xml", "report.json")]
+    ran = subprocess.run([program, "run", "--store", "plain", "--report", "text", "--junit", files[0], "--json", files[1]], input=plan, capture_output=True, timeout=120)
+    if ran.returncode not in (0, 1) or ran.stderr:
+        raise ValueError(f"status {ran.returncode}: {ran.stderr[:1000].decode(errors='replace')}")
+    return ran.stdout, *(file.read_bytes() for file in files)
 
 
 def values_of(id):
@@ -128,6 +141,32 @@ def cases_by(nodes, totals):
     }
 
 
+def without_times(element):
+    """The element and those in it without their times, as text."""
+    for each in element.iter():
+        each.attrib.pop("time", None)
+    return xml.etree.ElementTree.tostring(element)
+
+
+def check_times(root, nodes, timed_root, timed_nodes):
+    """Compares the report with the files that have times beside it."""
+    for node in timed_nodes:
+        if (node["status"] == "skipped") == ("millis" in node):
+            raise ValueError(f"of its time {node} tells")
+    millis = {}
+    for node in timed_nodes:
+        if node["test"]:
+            millis.setdefault((class_of(suite_of(node)), values_of(node["id"])[-1]), []).append(node.get("millis"))
+    for case in timed_root.iter("testcase"):
+        time, known = case.get("time"), millis.get((case.get("classname"), case.get("name")))
+        if known and known.pop(0) != (time and round(float(time) * 1000)):
+            raise ValueError(f"a case is {case.attrib}, and in JSON it took another time")
+    if not all("time" in it.attrib for it in timed_root.iter() if it.tag in ("testsuite", "testsuites")):
+        raise ValueError("a suite has no time")
+    if [{name: it for name, it in node.items() if name != "millis"} for node in timed_nodes] != nodes or without_times(timed_root) != without_times(root):
+        raise ValueError("a file is not the report with times")
+
+
 def check(program, plan):
     """Compares the forms of the plan's report, and says how many cases there are."""
     root = xml.etree.ElementTree.fromstring(written(program, "junit", plan))
@@ -135,8 +174,12 @@ def check(program, plan):
     suites, wanted = suites_in(root), suites_of(nodes)
     if suites != wanted:
         raise ValueError(f"the suites are {suites} and not {wanted}")
-    totals = totals_in(written(program, "text", plan))
-    if last != {"version": 1, "totals": totals}:
+    with tempfile.TemporaryDirectory() as folder:
+        text, xml_file, json_file = written_beside(program, plan, pathlib.Path(folder))
+    totals = totals_in(text)
+    *timed, timed_last = [json.loads(line) for line in json_file.split(b"\n")[:-1]]
+    check_times(root, nodes, xml.etree.ElementTree.fromstring(xml_file), timed)
+    if not last == timed_last == {"version": 1, "totals": totals}:
         raise ValueError(f"the last line is {last}, and the totals are {totals}")
     counts = cases_by(nodes, totals)
     if root.attrib != counts:
@@ -165,6 +208,21 @@ def check_timed():
     return len(read)
 
 
+def check_unwritten(program):
+    """Runs a plan whose report cannot be written to one of the files, and then to none, and says how many files are written."""
+    plan, count = (TOP / "examples/cases/junit.toml").read_bytes(), 0
+    report = written(program, "text", plan)
+    with tempfile.TemporaryDirectory() as folder:
+        for names in ("none/a.xml", "b.json"), ("c.xml", "none/d.json"), ("none/e.xml", "none/f.json"):
+            files = [f"{folder}/{name}" for name in names]
+            ran = subprocess.run([program, "run", "--store", "plain", "--junit", files[0], "--json", files[1]], input=plan, capture_output=True, timeout=120)
+            told = "".join(f'write failed: "{it}": No such file or directory (os error 2)\n' for it in files if "none" in it)
+            if (ran.returncode, ran.stdout, ran.stderr.decode()) != (3, report, told):
+                raise ValueError(f"status {ran.returncode} and {ran.stderr} where {names} cannot be written whole")
+            count += sum(pathlib.Path(it).stat().st_size > 0 for it in files if "none" not in it)
+    return count
+
+
 def is_right(name, what, count):
     """Whether these can be counted; prints how many there are, or why not."""
     try:
@@ -178,5 +236,6 @@ def is_right(name, what, count):
 def main(program, _words):
     files = [TOP / "examples/cases/junit.toml", *sorted((TOP / "examples/cases/rows").glob("*.toml")), *sorted((TOP / "examples/cases/outside").glob("*.toml"))]
     right = [is_right("times and attempts", "times and attempts in XML", check_timed)]
+    right += [is_right("unwritten", "files beside them", lambda: check_unwritten(program))]
     right += [is_right(f"{file.parent.name}/{file.stem}", "cases in XML", lambda: check(program, file.read_bytes())) for file in files]  # noqa: B023
     return sum(right), len(right) - sum(right)

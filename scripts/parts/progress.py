@@ -11,7 +11,7 @@ import subprocess
 import threading
 import time
 
-from parts.terminal import SLOWEST, TIME, ran
+from parts.terminal import IN_ALL, SLOWEST, TIME, ran
 
 # As many nodes as a plan may have, whose ids make the report longer than a pipe: it holds 65,536 bytes.
 IDS = ["[engine:x]"] + [f"[engine:x]/[test:{number}{'x' * 300}]" for number in range(255)]
@@ -84,16 +84,16 @@ def stopped_run(program, words, plan, sign):
 
 
 def are_right(slowest, ran_in, tests, measured, behind):
-    """Whether these times are those of a run that was stopped. What is measured here is the most, then come what the report says, the whole run, the root, the class and its
-    tests. All have the stop in them. But for the tests, of which one may end long before the other, none is much less than the time from the line on."""
+    """Whether these times are those of a run that was stopped. What is measured here is the most, then come what the report says, all nodes together and the tests. All have
+    the stop in them. But for the tests, of which one may end long before the other, none is much less than the time from the line on."""
     times = [it for it in map(SLOWEST.fullmatch, slowest) if it]
     if len(times) != 6 or not ran_in:
         return False
-    root, above, *below, whole = [*times[: 2 + len(tests)], times[5]]
-    took = [measured, *(float(it[1]) for it in (ran_in, whole, root, above, *below))]
-    if [it[2] for it in (whole, root, above)] != ["the whole run", OTHERS[0], OTHERS[-1]] or sorted(it[2] for it in below) != tests:
+    *below, in_all = [*times[: len(tests)], times[5]]
+    took = [measured, *(float(it[1]) for it in (ran_in, in_all, *below))]
+    if in_all[2] != IN_ALL or sorted(it[2] for it in below) != tests:
         return False
-    return took == sorted(took, reverse=True) and took[-1] >= STOPPED and took[4] >= 0.75 * behind
+    return took == sorted(took, reverse=True) and took[-1] >= STOPPED and took[2] >= 0.75 * behind
 
 
 def stopped(program, words, names, steps):

@@ -196,27 +196,29 @@ def unread(program):
                 yield f"run {' '.join(words)} of {path[len(folder):] or 'a folder'} at {sorted(terminals)}", right, repr(found)
 
 
-SLOWEST = re.compile(r"(\d+\.\d{3}) s (.+)")
+SLOWEST = re.compile(r"took (\d+\.\d{3}) s (.+)")
+
+# What is told of all nodes together.
+IN_ALL = "from the start of the first node to the end of the last"
 
 
 def durations(program):
-    """The times of the slowest nodes and of the whole run, beside the report as it is without them."""
+    """The times of the slowest tests and of all nodes, beside the report as it is without them."""
     report = ran(program, ["run"], PLAN, set())[1]
-    shown = {id for id, status, _ in LINES if status != "skipped"}
+    tests = {id for id, status, _ in LINES if "[test:" in id and status != "skipped"}
     for words in ([], ["--store", "plain"], ["--failures"]):
         status, found, errors = ran(program, ["run", "--durations", *words], PLAN, set())
         behind = ran(program, ["run", *words], PLAN, set())[2]
         lines = errors[: len(errors) - len(behind)].splitlines()
         times = [SLOWEST.fullmatch(line) for line in lines]
-        right = status == 1 and found == report and errors.endswith(behind) and len(lines) == 6 and all(times)
+        right = status == 1 and found == report and errors.endswith(behind) and len(lines) == 4 and all(times)
         if right:
             nodes, seconds = [it[2] for it in times], [float(it[1]) for it in times]
-            right = set(nodes[:5]) == shown and nodes[5] == "the whole run"
-            right = right and seconds[:5] == sorted(seconds[:5], reverse=True) and seconds[5] >= seconds[0]
-            right = right and nodes[0] == "[engine:x]"
+            right = set(nodes[:3]) == tests and nodes[3] == IN_ALL
+            right = right and seconds[:3] == sorted(seconds[:3], reverse=True) and seconds[3] >= seconds[0]
         yield f"run --durations {' '.join(words)}", right, errors
     status, found, errors = ran(program, ["run", "--durations"], ROOT, set())
-    right = (status, len(errors.splitlines())) == (0, 2) and errors.splitlines()[0].endswith(" s [engine:x]")
+    right = status == 0 and errors == f"took 0.000 s {IN_ALL}\n"
     yield "run --durations of one node", right, errors
     found = ran(program, ["run", "--durations"], REFUSED, set())
     yield "run --durations of a refused plan", found == (2, "", LINE), repr(found)

@@ -5,9 +5,11 @@
 -- A time is told in seconds with three decimals, and in JSON in milliseconds. An attempt is told of a successful node
 -- alone, and from the second on: one that passed at its first attempt is told like one of which nothing is known. JUnit
 -- has neither.
-use Rattle.std.specs.Prelude.{ℕ, ◌/◌, ◌%◌, codes, List, [], ◌++◌, Option, Some, None, if◌then◌else◌, nat_lt}
+use Rattle.std.specs.Prelude.{ℕ, ◌/◌, ◌%◌, ◌^◌, codes, List, [], ◌++◌, Option, Some, None, if◌then◌else◌, nat_lt}
 use Rattle.std.specs.List.{slice_index_or}
 use Rattle.std.specs.Fmt.{decimal}
+use Rattle.std.specs.Duration.{as_nanos}
+use Rattle.std.specs.declared.time.Duration.{Duration}
 use Rattle.ext_lifecycle.specs.declared.status.Status.{Status}
 use Rattle.ext_lifecycle.specs.declared.status.Status.TheVariants as statuses
 use Rattle.ext_report.specs.declared.extra.Extra.{Extra}
@@ -17,6 +19,15 @@ nothing_known = record { millis = None; attempt = 0 }
 
 abbrev pub extra_of : List Extra → ℕ → Extra
 extra_of extras node = slice_index_or extras node nothing_known
+
+-- How long a node took in whole milliseconds, if it is known, and they fit 64 bits.
+abbrev pub whole_millis : Option Duration → Option ℕ
+whole_millis None = None
+whole_millis (Some took) = if nat_lt (as_nanos took / 1_000_000) (2 ^ 64) then Some (as_nanos took / 1_000_000) else None
+
+-- What is known of a node by its time and its last attempt.
+abbrev pub extra_by : Option Duration → ℕ → Extra
+extra_by took attempt = record { millis = whole_millis took; attempt = attempt }
 
 -- So many milliseconds in seconds, as `0.123`.
 unfoldable pub seconds : ℕ → List ℕ

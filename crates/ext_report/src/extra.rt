@@ -1,10 +1,11 @@
 //! What an engine knows of its nodes beside their results.
 ghost use Rattle.std.specs.Prelude.{◌≡◌, ◌++◌, string_bytes, OnOk};
-ghost use Rattle.ext_report.specs.Extras.{attempt_part, extra_of, extra_part, flaky_part, seconds, time_part};
+ghost use Rattle.ext_report.specs.Extras.{attempt_part, extra_of, extra_part, flaky_part, seconds, time_part, whole_millis};
 
 use ext_lifecycle::Status;
 use ext_model::ContextNo;
 use std::alloc::AllocError;
+use std::time::Duration;
 
 /// What an engine knows of a node beside its result, by a clock and a count of its own: a suite
 /// notes it in its calls. Of a node of which nothing is known it is the default.
@@ -15,6 +16,31 @@ pub struct Extra {
     /// The attempt at which it passed, from 1. It is told from 2 on, and of a successful node
     /// alone.
     pub attempt: u32,
+}
+
+impl Extra {
+    ghost use Rattle.ext_report.specs.Extras.{extra_by};
+
+    /// What is known of a node that took this long, whose last attempt is this one. The time is not
+    /// known where its milliseconds do not fit 64 bits.
+    pub fn new(took: Option<Duration>, attempt: u32) -> Extra
+        ensures { result ≡ extra_by took attempt }
+    {
+        Extra {
+            millis: whole_millis(took),
+            attempt,
+        }
+    }
+}
+
+/// The time in whole milliseconds, if it is known and they fit.
+fn whole_millis(took: Option<Duration>) -> Option<u64>
+    ensures { result ≡ whole_millis took }
+{
+    match took {
+        Some(took) => u64::try_from(took.as_millis()).ok(),
+        None => None,
+    }
 }
 
 /// What is known of a node: nothing past the end of the list.

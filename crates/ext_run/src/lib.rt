@@ -55,4 +55,4 @@ pub use options::{Options, Summary};
 pub use plan_faults::faults_of_plan;
 pub use reading::plan_of;
 pub use request_fault::{RequestFault, status_of};
-pub use runs::{report_text, run, run_plan};
+pub use runs::{PlanRun, report_text, run, run_plan};

@@ -2,8 +2,9 @@
 ghost use Rattle.std.specs.Prelude.{◌≡◌, ◌≢◌, ◌≤◌, ◌<◌, ◌+◌, ℕ, false, List, Ok, length, string_bytes, IfOk, IfErr, IfSome, OnOk, All};
 ghost use Rattle.std.specs.Io.KnownBytes.{Consumes, Appends};
 ghost use Rattle.ext_plan_reading.specs.Plans.{plan_view};
-ghost use Rattle.ext_plan_reading.specs.ReadPlans.{IsReadPlan};
+ghost use Rattle.ext_plan_reading.specs.ReadPlans.{IsReadPlan, ids_of_nodes};
 ghost use Rattle.ext_lifecycle.specs.FaultTexts.{results_view};
+ghost use Rattle.ext_report.specs.Forms.{report_in};
 ghost use Rattle.ext_report.specs.Report.{report_of};
 ghost use Rattle.ext_run.specs.OneReports.{ReportsOne};
 ghost use Rattle.ext_run.specs.Reports.{input_limit, plan_of_input, IsRunFault, RefusedAs, Reports};
@@ -23,9 +24,18 @@ use std::io::{Read, Write};
 use std::sync::Wait;
 use std::thread::Threads;
 
-/// A report, whether a node failed, and whether a step may have lacked something.
-#[derive(Debug, Drop)]
+/// What a run of a plan gave.
+#[derive(Drop)]
+pub struct PlanRun {
+    /// A result for each node, in the order of the plan.
+    pub results: Vec<NodeResult>,
+    pub summary: Summary,
+}
+
+/// Results with their report, whether a node failed, and whether a step may have lacked something.
+#[derive(Drop)]
 struct Output {
+    results: Vec<NodeResult>,
     report: Vec<u8>,
     failed: bool,
     lacked: bool,
@@ -92,17 +102,20 @@ pub fn run<R: Threads + Wait + Sync, I: Read, W: Write>(
         Ok(plan) => plan,
         Err(fault) => return Err(RunFault::Plan(fault)),
     };
-    run_plan(rt, alloc, writer, &plan, options, &NoListener)
+    match run_plan(rt, alloc, writer, &plan, options, &NoListener) {
+        Ok(ran) => Ok(ran.summary),
+        Err(fault) => Err(fault),
+    }
 }
 
-/// Runs a plan that was read, and writes its report like `run`. It notifies the listener when a node
-/// starts, of each of its faults, and when it has ended.
+/// Runs a plan that was read, writes its report like `run`, and hands back the results that it is
+/// of. It notifies the listener when a node starts, of each of its faults, and when it has ended.
 ///
 /// The listener is called on the threads that run the nodes, and has no effect on what is written.
 ///
-/// Refused as `Engine` or `Memory`, with nothing written, or as `Write`, as by `run`. Takes memory for the
-/// values, the results and the report, and gives all of it back. It waits for the writer, and on
-/// several lanes for its threads and for their steps.
+/// Refused as `Engine` or `Memory`, with nothing written, or as `Write`, as by `run`. Takes memory for
+/// the values, the results and the report, and gives all but the results back. It waits for the
+/// writer, and on several lanes for its threads and for their steps.
 pub fn run_plan<R: Threads + Wait + Sync, W: Write, L: RunListener + Sync>(
     rt: &R,
     alloc: Global,
@@ -110,24 +123,31 @@ pub fn run_plan<R: Threads + Wait + Sync, W: Write, L: RunListener + Sync>(
     plan: &Plan,
     options: Options,
     listener: &L,
-) -> Result<Summary, RunFault>
+) -> Result<PlanRun, RunFault>
     requires lanes { options.plain ≡ false → (1 ≤ options.lanes) × (options.lanes ≤ 16) }
     requires plan { IsReadPlan (plan_view plan.now) }
-    ensures written { IfOk result (λ summary. (report : List ℕ)
-        × Reports options (Ok (plan_view plan.now)) (record { report = report; failed = summary.failed; lacked = summary.lacked })
+    ensures written { IfOk result (λ ran. (report : List ℕ)
+        × Reports options (Ok (plan_view plan.now)) (record { report = report; failed = ran.summary.failed; lacked = ran.summary.lacked })
         × Appends (W.contents writer.old) (W.contents writer.new) report) }
-    ensures one_report { IfOk result (λ summary. (report : List ℕ)
-        × ReportsOne options (Ok (plan_view plan.now)) (record { report = report; failed = summary.failed; lacked = summary.lacked })
+    ensures one_report { IfOk result (λ ran. (report : List ℕ)
+        × ReportsOne options (Ok (plan_view plan.now)) (record { report = report; failed = ran.summary.failed; lacked = ran.summary.lacked })
         × Appends (W.contents writer.old) (W.contents writer.new) report) }
+    ensures results { IfOk result (λ ran. Appends (W.contents writer.old) (W.contents writer.new)
+        (report_in options.form (ids_of_nodes (plan_view plan.now).nodes) (results_view ran.results.items))) }
+    ensures in_tree { IfOk result (λ ran. All (λ r. r.node < length (ids_of_nodes (plan_view plan.now).nodes)) ran.results.items) }
     ensures refused { IfErr result (λ fault. RefusedAs options fault (Ok (plan_view plan.now))) }
     ensures of_run { IfErr result IsRunFault }
     ensures unwritten { IfErr result (λ fault. fault ≢ RunFault.Write → writer.new ≡ writer.old) }
 {
     let output = output_of(rt, alloc, plan, options, listener)?;
     write_whole(writer, output.report.as_slice())?;
-    Ok(Summary {
+    let summary = Summary {
         failed: output.failed,
         lacked: output.lacked,
+    };
+    Ok(PlanRun {
+        results: output.results,
+        summary,
     })
 }
 
@@ -154,7 +174,7 @@ pub(crate) fn write_whole<W: Write>(writer: &mut W, bytes: &[u8]) -> Result<(), 
     Ok(())
 }
 
-/// The report of a run of a plan.
+/// The results of a run of a plan, with their report.
 fn output_of<R: Threads + Wait + Sync, L: RunListener + Sync>(
     rt: &R,
     alloc: Global,
@@ -166,6 +186,8 @@ fn output_of<R: Threads + Wait + Sync, L: RunListener + Sync>(
     requires plan { IsReadPlan (plan_view plan.now) }
     ensures run { IfOk result (λ o. Reports options (Ok (plan_view plan.now)) (output_view o)) }
     ensures one { IfOk result (λ o. ReportsOne options (Ok (plan_view plan.now)) (output_view o)) }
+    ensures report { IfOk result (λ o. o.report.items ≡ report_in options.form (ids_of_nodes (plan_view plan.now).nodes) (results_view o.results.items)) }
+    ensures in_tree { IfOk result (λ o. All (λ r. r.node < length (ids_of_nodes (plan_view plan.now).nodes)) o.results.items) }
     ensures fault { IfErr result (IsPlanFault options (plan_view plan.now)) }
 {
     let ran = match results_of(rt, alloc, plan, options, listener) {
@@ -173,9 +195,11 @@ fn output_of<R: Threads + Wait + Sync, L: RunListener + Sync>(
         Err(fault) => return Err(fault),
     };
     let report = report_in(alloc, options.form, plan.tree(), ran.results.as_slice())?;
+    let failed = any_failed(ran.results.as_slice());
     Ok(Output {
+        results: ran.results,
         report,
-        failed: any_failed(ran.results.as_slice()),
+        failed,
         lacked: ran.lacked,
     })
 }

@@ -1,12 +1,11 @@
 -- What is reported of a run, and how the program ends. `ext_report` has the forms of a report.
-use Rattle.std.specs.Prelude.{ℕ, ◌/◌, ◌^◌, ◌==◌, ◌&&◌, nat_lt, Bool, true, false, codes, encode_utf8, List, ◌++◌, Option, Some, None, if◌then◌else◌, slice_get}
+use Rattle.std.specs.Prelude.{ℕ, ◌==◌, ◌&&◌, nat_lt, Bool, true, false, codes, encode_utf8, List, ◌++◌, Option, Some, None, if◌then◌else◌, slice_get}
 use Rattle.std.specs.List.{flat_map}
 use Rattle.std.specs.Str.{chars}
-use Rattle.std.specs.Duration.{as_nanos}
-use Rattle.std.specs.declared.time.Duration.{Duration}
 use Rattle.ext_lifecycle.specs.FaultTexts.{NodeOutcome}
 use Rattle.ext_lifecycle.specs.Results.{map_fault}
 use Rattle.ext_lifecycle.specs.declared.node_result.NodeResult.{NodeResult}
+use Rattle.ext_report.specs.Extras.{extra_by}
 use Rattle.ext_report.specs.Report.{any_failed}
 use Rattle.ext_report.specs.declared.extra.Extra.{Extra}
 use Rattle.ext_table.specs.declared.listener.LeftOut.{LeftOut}
@@ -35,14 +34,9 @@ is_reported count logs r = nat_lt r.node count && has_come (slice_get logs r.nod
 abbrev pub without_faults : NodeResult → NodeResult
 without_faults r = record r { fault = None; more = 0 }
 
--- How long a node took in whole milliseconds, if it is known, and they fit 64 bits.
-abbrev pub whole_millis : Option Duration → Option ℕ
-whole_millis None = None
-whole_millis (Some took) = if nat_lt (as_nanos took / 1_000_000) (2 ^ 64) then Some (as_nanos took / 1_000_000) else None
-
 -- What is reported of a node beside its result.
 abbrev pub extra_of : NodeLog → Extra
-extra_of log = record { millis = whole_millis log.took; attempt = log.attempt }
+extra_of log = extra_by log.took log.attempt
 
 -- ---- texts
 

@@ -1,7 +1,7 @@
 //! The results of a run as they are reported: with all that failed, and without what did not come.
 ghost use Rattle.std.specs.Prelude.{◌≡◌, ◌<◌, ◌++◌, All, IfOk, OnOk, filter, length, map, option_map, string_bytes};
 ghost use Rattle.ext_lifecycle.specs.FaultTexts.{fault_text, result_view, results_view};
-ghost use Rattle.ext_runner.specs.InnerTelling.{extra_of, has_come, indented, indented_character, is_reported, whole_millis, with_indented_fault, without_faults};
+ghost use Rattle.ext_runner.specs.InnerTelling.{extra_of, has_come, indented, indented_character, is_reported, with_indented_fault, without_faults};
 
 use crate::node_log::{NodeLog, ReportedFault};
 use crate::run_log::{Listed, State};
@@ -9,7 +9,6 @@ use ext_report::{Extra, NodeResult};
 use ext_table::{ContextNo, Fault, FaultOrigin, Kind, LeftOut};
 use ext_tree::Tree;
 use std::alloc::{AllocError, Global};
-use std::time::Duration;
 
 /// The results as they are reported, and what is known beside them.
 #[derive(Drop)]
@@ -86,20 +85,7 @@ fn extras_of(alloc: Global, logs: &[NodeLog]) -> Result<Vec<Extra>, AllocError>
 fn extra_of(log: &NodeLog) -> Extra
     ensures { result ≡ extra_of log.now }
 {
-    Extra {
-        millis: whole_millis(log.took),
-        attempt: log.attempt,
-    }
-}
-
-/// The time in whole milliseconds, if it is known and they fit.
-fn whole_millis(took: Option<Duration>) -> Option<u64>
-    ensures { result ≡ whole_millis took }
-{
-    match took {
-        Some(took) => u64::try_from(took.as_millis()).ok(),
-        None => None,
-    }
+    Extra::new(log.took, log.attempt)
 }
 
 /// The result, whose fault has all faults of the node.

@@ -1,3 +1,2 @@
 mod Commands
-mod Longest
 mod Outcomes

@@ -6,7 +6,7 @@ use Rattle.ext_run.specs.OneReports.{ReportsOne}
 use Rattle.ext_run.specs.Reports.{Reports, RunReport, plan_of_input}
 use Rattle.ext_run.specs.declared.fault.RunFault.{RunFault}
 use Rattle.ext_run.specs.declared.options.Summary.{Summary}
-use Rattle.extrun.specs.Tasks.{AppendsFor, IsDone, IsOneDone, IsReportWritten, IsUndone, IsUndoneRequest, is_for_people, told_of}
+use Rattle.extrun.specs.Tasks.{AppendsFor, IsDone, IsOneDone, IsReportWritten, IsUndone, IsUndoneRequest, is_for_people, request_outcome}
 use Rattle.extrun.specs.declared.command.Task.{Task}
 use Rattle.extrun.specs.declared.command.Task.TheVariants as tasks
 
@@ -34,14 +34,14 @@ module _ (task : Task) (input : List ℕ) (old done now : Option (List ℕ)) (ke
   appended : (text : List ℕ) → Appends old done text → AppendsFor task old now text
   appended text is = λ others. subst (λ contents. Appends old contents text) (sym (kept others)) is
 
-  pub plan-done : (outcome : Result Summary RunFault) → IfOk outcome (λ summary. IsDone task input summary (Appends old done)) → IfOk (told_of outcome) (λ summary. IsDone task input summary (AppendsFor task old now))
+  pub plan-done : (outcome : Result Summary RunFault) → IfOk outcome (λ summary. IsDone task input summary (Appends old done)) → IfOk (request_outcome outcome) (λ summary. IsDone task input summary (AppendsFor task old now))
   plan-done (Ok summary) is = done-weaker (Appends old done) (AppendsFor task old now) appended task input summary is
   plan-done (Err fault) is = tt
 
-  pub plan-one_done : (outcome : Result Summary RunFault) → IfOk outcome (λ summary. IsOneDone task input summary (Appends old done)) → IfOk (told_of outcome) (λ summary. IsOneDone task input summary (AppendsFor task old now))
+  pub plan-one_done : (outcome : Result Summary RunFault) → IfOk outcome (λ summary. IsOneDone task input summary (Appends old done)) → IfOk (request_outcome outcome) (λ summary. IsOneDone task input summary (AppendsFor task old now))
   plan-one_done (Ok summary) is = one_done-weaker (Appends old done) (AppendsFor task old now) appended task input summary is
   plan-one_done (Err fault) is = tt
 
-pub plan-undone : (task : Task) (input : List ℕ) (outcome : Result Summary RunFault) → IfErr outcome (λ fault. IsUndone task input fault) → IfErr (told_of outcome) (λ fault. IsUndoneRequest task input fault)
+pub plan-undone : (task : Task) (input : List ℕ) (outcome : Result Summary RunFault) → IfErr outcome (λ fault. IsUndone task input fault) → IfErr (request_outcome outcome) (λ fault. IsUndoneRequest task input fault)
 plan-undone task input (Ok summary) is = tt
 plan-undone task input (Err fault) is = is

@@ -31,6 +31,10 @@ option name value default = record (new_rule name) {
   defaults = default ∷ [];
 }
 
+-- `--name FILE`
+abbrev pub file_option : Text → Rule
+file_option name = record (new_rule name) { long = Some name; action = Some Set; value_names = 1 }
+
 -- `--name VALUE`, with none.
 abbrev pub free_option : Text → ValueParser → Rule
 free_option name value = record (option name value []) { defaults = [] }
@@ -64,7 +68,7 @@ command name rules = record (new_app name).top { rules = rules }
 abbrev pub run_of : ValueParser → ValueParser → ValueParser → Shape
 run_of store form color = command (codes "run")
     (plan_file ∷ lanes ∷ option (codes "store") store (codes "cells") ∷ free_option (codes "report") form
-    ∷ tree ∷ option (codes "color") color (codes "auto")
+    ∷ tree ∷ file_option (codes "junit") ∷ file_option (codes "json") ∷ option (codes "color") color (codes "auto")
     ∷ flag (codes "progress") ∷ flag (codes "durations") ∷ flag (codes "failures") ∷ flag (codes "large")
     ∷ flag (codes "explain") ∷ flag (codes "brief") ∷ [])
 

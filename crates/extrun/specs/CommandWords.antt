@@ -7,6 +7,7 @@ use Rattle.ext_run.specs.declared.list_form.ListForm.{ListForm}
 use Rattle.ext_run.specs.declared.list_form.ListForm.TheVariants as forms
 use Rattle.extrun.specs.Flags.{IsFlag, IsSize}
 use Rattle.extrun.specs.RunWords.{AsksRun, wordless_run}
+use Rattle.extrun.specs.declared.command.FileNames.{FileNames}
 use Rattle.extrun.specs.declared.command.Request.{Request}
 use Rattle.extrun.specs.declared.command.Request.TheVariants as requests
 use Rattle.extrun.specs.declared.command.Task.{Task}
@@ -44,12 +45,27 @@ pub record IsListForm (text : Option Text) (form : Option ListForm) : Type 0 whe
   pub object : text ≡ Some (codes "json") → form ≡ Some forms.Json
   pub lines : (t : Text) → text ≡ Some t → t ≢ codes "json" → form ≡ Some forms.Lines
 
--- To do such a task with the plan of the named file, or of standard input. It is explained why it is not done if
--- `--explain` is set, and only then if `--brief` is.
-abbrev pub AsksOfPlan : List Row → (Task → Type 0) → Request → Type 0
-AsksOfPlan rows asks (requests.Plan task file explain brief) =
-    asks task × (option_map string_bytes file ≡ first_of (codes "FILE") rows)
-    × IsFlag (one_of (codes "explain") rows) explain × IsFlag (one_of (codes "brief") rows) brief
+-- The files of a run: that of its plan, and those behind `--junit` and `--json`.
+pub record AreRunFiles (rows : List Row) (files : FileNames) : Type 0 where
+  pub plan : option_map string_bytes files.plan ≡ first_of (codes "FILE") rows
+  pub junit : option_map string_bytes files.junit ≡ first_of (codes "junit") rows
+  pub json : option_map string_bytes files.json ≡ first_of (codes "json") rows
+
+-- The file of a plan, and no other.
+pub record IsPlanAlone (rows : List Row) (files : FileNames) : Type 0 where
+  pub plan : option_map string_bytes files.plan ≡ first_of (codes "FILE") rows
+  pub junit : files.junit ≡ None
+  pub json : files.json ≡ None
+
+-- A run by the words, and its files.
+abbrev pub AsksRunOf : List Row → Task → FileNames → Type 0
+AsksRunOf rows task files = AsksRun rows task × AreRunFiles rows files
+
+-- To do such a task with such files. It is explained why it is not done if `--explain` is set, and only then if
+-- `--brief` is.
+abbrev pub AsksOfPlan : List Row → (Task → FileNames → Type 0) → Request → Type 0
+AsksOfPlan rows asks (requests.Plan task files explain brief) =
+    asks task files × IsFlag (one_of (codes "explain") rows) explain × IsFlag (one_of (codes "brief") rows) brief
 AsksOfPlan rows asks (requests.Id text explain brief) = ⊥
 AsksOfPlan rows asks (requests.MakeId parts) = ⊥
 AsksOfPlan rows asks requests.Help = ⊥
@@ -57,9 +73,9 @@ AsksOfPlan rows asks requests.Refused = ⊥
 AsksOfPlan rows asks requests.Unwritten = ⊥
 AsksOfPlan rows asks requests.Memory = ⊥
 
--- To do this task. Where there is none, the flags are a mistake, which is reported.
+-- To do this task with the plan alone. Where there is none, the flags are a mistake, which is reported.
 abbrev pub AsksTask : List Row → Option Task → Request → Type 0
-AsksTask rows (Some task) request = AsksOfPlan rows (λ asked. asked ≡ task) request
+AsksTask rows (Some task) request = AsksOfPlan rows (λ asked files. (asked ≡ task) × IsPlanAlone rows files) request
 AsksTask rows None request = request ≡ requests.Refused
 
 -- To list the plan's races if `--races` is set, in the form that `--report` asks for, to draw it if `--tree` is set, to
@@ -130,8 +146,8 @@ pub record AsksId (rows : List Row) (request : Request) : Type 0 where
 pub record AsksCommand (name : List ℕ) (rows : List Row) (request : Request) : Type 0 where
   pub id : name ≡ codes "id" → AsksId rows request
   pub check : name ≡ codes "check" → AsksCheck rows request
-  pub run : name ≢ codes "id" → name ≢ codes "check" → AsksOfPlan rows (AsksRun rows) request
+  pub run : name ≢ codes "id" → name ≢ codes "check" → AsksOfPlan rows (AsksRunOf rows) request
 
 abbrev pub AsksFor : Option (List ℕ × List Row) → Request → Type 0
-AsksFor None request = request ≡ requests.Plan wordless_run None false false
+AsksFor None request = request ≡ requests.Plan wordless_run (record { plan = None; junit = None; json = None }) false false
 AsksFor (Some command) request = AsksCommand command.0 command.1 request

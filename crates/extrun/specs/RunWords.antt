@@ -122,6 +122,6 @@ shown_at is_terminal wanted = of_run (λ options asked color asides.
     tasks.Run (record options { form = form_at is_terminal wanted asked color options.form }) asked color asides)
 
 -- The task whose words on standard error are for a terminal, if that is one.
-abbrev pub told_at : Bool → Task → Task
-told_at is_terminal = of_run (λ options asked color asides.
+abbrev pub escaped_at : Bool → Task → Task
+escaped_at is_terminal = of_run (λ options asked color asides.
     tasks.Run options asked color (record asides { for_terminal = asides.for_terminal || is_terminal }))

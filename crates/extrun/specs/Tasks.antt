@@ -1,7 +1,8 @@
 -- What was done once a plan was run or checked, as a command line asks for. Texts are lists of bytes.
-use Rattle.std.specs.Prelude.{◌≡◌, ◌≤◌, ◌⊎◌, ℕ, Bool, true, false, List, Option, Result, Ok, Err, IfErr, IfOk}
+use Rattle.std.specs.Prelude.{◌≡◌, ◌<◌, ◌≤◌, ◌⊎◌, ℕ, Bool, true, false, List, All, length, Option, Result, Ok, Err, IfErr, IfOk}
 use Rattle.std.specs.Io.KnownBytes.{Appends}
 use Rattle.ext_plan_reading.specs.Plans.{PlanText}
+use Rattle.ext_plan_reading.specs.ReadPlans.{ids_of_nodes}
 use Rattle.ext_report.specs.declared.form.ReportForm.{ReportForm}
 use Rattle.ext_report.specs.declared.form.ReportForm.TheVariants as forms
 use Rattle.ext_run.specs.OneReports.{ReportsOne}
@@ -14,6 +15,7 @@ use Rattle.ext_run.specs.Drawings.{IsTextOf, drawing_of}
 use Rattle.ext_run.specs.Lints.{IsNotesOf}
 use Rattle.ext_run.specs.declared.options.Options.{Options}
 use Rattle.ext_run.specs.declared.options.Summary.{Summary}
+use Rattle.ext_run.specs.declared.runs.PlanRun.{PlanRun}
 use Rattle.extrun.specs.declared.command.Task.{Task}
 use Rattle.extrun.specs.declared.command.Task.TheVariants as tasks
 
@@ -87,18 +89,26 @@ pub record IsRunOutcome (options : Options) (read : Result PlanText RunFault) (o
   pub one_report : IfOk outcome (λ summary. IsReportWritten (ReportsOne options read) summary Written)
   pub refused : IfErr outcome (λ fault. RefusedAs options fault read)
 
+-- The same of a run of this plan, with its results, which are of the plan's nodes.
+pub record IsPlanOutcome (options : Options) (plan : PlanText) (outcome : Result PlanRun RunFault)
+    (Written : List ℕ → Type 0) : Type 0 where
+  pub done : IfOk outcome (λ ran. IsReportWritten (Reports options (Ok plan)) ran.summary Written)
+  pub one_report : IfOk outcome (λ ran. IsReportWritten (ReportsOne options (Ok plan)) ran.summary Written)
+  pub in_tree : IfOk outcome (λ ran. All (λ r. r.node < length (ids_of_nodes plan.nodes)) ran.results.items)
+  pub refused : IfErr outcome (λ fault. RefusedAs options fault (Ok plan))
+
 -- ---- for people
 
-abbrev pub is_terminal : ReportForm → Bool
-is_terminal forms.Text = false
-is_terminal forms.Json = false
-is_terminal forms.Tree = false
-is_terminal forms.Junit = false
-is_terminal (forms.Terminal colored) = true
+abbrev pub form_is_for_people : ReportForm → Bool
+form_is_for_people forms.Text = false
+form_is_for_people forms.Json = false
+form_is_for_people forms.Tree = false
+form_is_for_people forms.Junit = false
+form_is_for_people (forms.Terminal colored) = true
 
 -- The task is a run whose report is for people. Behind it the time of the run is written.
 abbrev pub is_for_people : Task → Bool
-is_for_people (tasks.Run options asked color asides) = is_terminal options.form
+is_for_people (tasks.Run options asked color asides) = form_is_for_people options.form
 is_for_people (tasks.Check size) = false
 is_for_people (tasks.CheckAll size) = false
 is_for_people (tasks.Draw size) = false
@@ -112,9 +122,9 @@ AppendsFor task old new text = is_for_people task ≡ false → Appends old new 
 -- ---- requests
 
 -- The outcome of a task as that of its request.
-abbrev pub told_of : {T : Type 0} → Result T RunFault → Result T RequestFault
-told_of (Ok done) = Ok done
-told_of (Err fault) = Err (requests.Run fault)
+abbrev pub request_outcome : {T : Type 0} → Result T RunFault → Result T RequestFault
+request_outcome (Ok done) = Ok done
+request_outcome (Err fault) = Err (requests.Run fault)
 
 -- The request was not done, since the task was not done with the plan of this input.
 abbrev pub IsUndoneRequest : Task → List ℕ → RequestFault → Type 0

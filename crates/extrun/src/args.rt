@@ -104,6 +104,28 @@ pub(crate) fn report_tree_flag<'a>(alloc: Global) -> Result<Arg<'a>, AllocError>
         .conflicts_with("report")
 }
 
+pub(crate) fn junit_option<'a>(alloc: Global) -> Arg<'a>
+    ensures rule { rule_of result ≡ line.file_option (codes "junit") }
+    ensures local { result.global ≡ false }
+{
+    Arg::new(alloc, "junit")
+        .long("junit")
+        .value_name("FILE")
+        .help("Writes JUnit's XML to this file, too, with how long each node took")
+        .action(ArgAction::Set)
+}
+
+pub(crate) fn json_option<'a>(alloc: Global) -> Arg<'a>
+    ensures rule { rule_of result ≡ line.file_option (codes "json") }
+    ensures local { result.global ≡ false }
+{
+    Arg::new(alloc, "json")
+        .long("json")
+        .value_name("FILE")
+        .help("Writes the report in JSON to this file, too, with how long each node took")
+        .action(ArgAction::Set)
+}
+
 /// The flag `--tree` of the command `check`.
 pub(crate) fn draw_flag<'a>(alloc: Global) -> Arg<'a>
     ensures rule { rule_of result ≡ line.flag (codes "tree") }
@@ -133,7 +155,7 @@ pub(crate) fn durations_flag<'a>(alloc: Global) -> Arg<'a>
 {
     Arg::new(alloc, "durations")
         .long("durations")
-        .help("Says on standard error how long the five slowest nodes and the whole run took")
+        .help("Says on standard error how long the five slowest tests and all nodes together took")
         .action(ArgAction::SetTrue)
 }
 

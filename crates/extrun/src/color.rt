@@ -1,6 +1,6 @@
 //! What a run writes for people at a terminal, and whether it has colours.
 ghost use Rattle.std.specs.Prelude.{◌≡◌, Bool};
-ghost use Rattle.extrun.specs.RunWords.{form_at, is_always, is_colored, shown_at, told_at};
+ghost use Rattle.extrun.specs.RunWords.{form_at, is_always, is_colored, shown_at, escaped_at};
 
 use crate::command::{Asides, Task};
 use ext_run::{Options, ReportForm};
@@ -63,8 +63,8 @@ fn form_at<R: Env + AllocGlobal>(
 
 /// The task whose words on standard error are for a terminal, if that is one. Otherwise it is the
 /// same task.
-pub(crate) fn told_at(task: Task, is_terminal: bool) -> Task
-    ensures { result ≡ told_at is_terminal task }
+pub(crate) fn escaped_at(task: Task, is_terminal: bool) -> Task
+    ensures { result ≡ escaped_at is_terminal task }
 {
     match task {
         Task::Run {

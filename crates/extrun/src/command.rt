@@ -8,14 +8,15 @@ ghost use Rattle.clap.specs.Simple.{subcommand_rows_of};
 ghost use Rattle.clap.specs.Walk.{rows_of};
 ghost use Rattle.extrun.specs.CommandLine as line;
 ghost use Rattle.extrun.specs.CommandLine.{AsksBy, AsksNothing, IsCheck, IsCommandLine, IsRun};
-ghost use Rattle.extrun.specs.CommandWords.{AsksCheck, AsksCommand, AsksFor, AsksId, AsksOfPlan, AsksOfTexts, IsMakingOf, IsListForm, check_as, check_in, check_with, checks_all};
+ghost use Rattle.extrun.specs.CommandWords.{AreRunFiles, AsksCheck, AsksCommand, AsksFor, AsksId, AsksOfPlan, AsksOfTexts, AsksRunOf, IsMakingOf, IsListForm, IsPlanAlone, check_as, check_in, check_with, checks_all};
 ghost use Rattle.extrun.specs.Flags.{IsFlag, IsSize, size_of};
 ghost use Rattle.extrun.specs.RunWords.{AreOptions, AsksAsides, AsksForm, AsksRun, IsColor, IsForm, IsLaneCount, color_choice, form_of, wordless_run};
 
 use crate::args::{
     all_flag, brief_flag, color_option, draw_flag, durations_flag, explain_flag, explain_id_flag,
-    failures_flag, id_texts, lanes_option, large_flag, lint_flag, make_flag, plan_file,
-    progress_flag, race_report_option, races_flag, report_option, report_tree_flag, store_option,
+    failures_flag, id_texts, json_option, junit_option, lanes_option, large_flag, lint_flag,
+    make_flag, plan_file, progress_flag, race_report_option, races_flag, report_option,
+    report_tree_flag, store_option,
 };
 use crate::color::ColorChoice;
 use crate::help::{AFTER_HELP, VERSION};
@@ -32,11 +33,11 @@ const LANES: u8 = 4;
 /// What a command line asks for.
 #[derive(Debug, Drop)]
 pub(crate) enum Request {
-    /// A task for the plan in this file, or from standard input, and whether to explain why it is
-    /// not done: in any case, or never.
+    /// A task for the plan in a file, or from standard input, and whether to explain why it is not
+    /// done: in any case, or never.
     Plan {
         task: Task,
-        file: Option<String>,
+        files: FileNames,
         explain: bool,
         brief: bool,
     },
@@ -58,6 +59,17 @@ pub(crate) enum Request {
     Unwritten,
     /// Nothing: memory was refused.
     Memory,
+}
+
+/// The files that a request names.
+#[derive(Debug, Drop)]
+pub(crate) struct FileNames {
+    /// That of the plan; without it, or for `-`, it is read from standard input.
+    pub(crate) plan: Option<String>,
+    /// To which the report of a run is written in JUnit's XML, too.
+    pub(crate) junit: Option<String>,
+    /// To which it is written in JSON, too.
+    pub(crate) json: Option<String>,
 }
 
 /// A task for a plan.
@@ -112,8 +124,8 @@ impl Task {
 /// Parses the command line. The commands are
 ///
 /// - `run`, with `--lanes` of 1 to 16, `--store plain` or `cells`, `--report text`, `json` or
-///   `junit` or else `--tree`, `--color` of `auto`, `always` or `never`, `--progress`,
-///   `--durations` and `--failures`;
+///   `junit` or else `--tree`, `--junit` and `--json` of a file, `--color` of `auto`, `always` or
+///   `never`, `--progress`, `--durations` and `--failures`;
 /// - `check`, with `--races`, and then `--report text` or `json`, or with `--tree`, `--all` or
 ///   `--lint`;
 /// - `id`, with one text, or with `--make` and parts.
@@ -184,7 +196,11 @@ fn asked_for<R: AllocGlobal + Eprint>(
         Some((name, words)) => asked_by(rt, name, words),
         None => Ok(Request::Plan {
             task: wordless_run(),
-            file: None,
+            files: FileNames {
+                plan: None,
+                junit: None,
+                json: None,
+            },
             explain: false,
             brief: false,
         }),
@@ -227,7 +243,7 @@ fn asked_by<R: AllocGlobal + Eprint>(
     if name == "check" {
         return check_request(rt, words);
     }
-    plan_request(rt.alloc(), run_of(words), words)
+    run_request(rt.alloc(), words)
 }
 
 /// The request to read an id, or with `--make` to make one.
@@ -292,7 +308,7 @@ fn check_request<R: AllocGlobal + Eprint>(
     let lint = is_set(words, "lint");
     let form = list_form_in(words);
     match check_in(form, lint, races, tree, all, size_in(words)) {
-        Some(task) => plan_request(rt.alloc(), task, words),
+        Some(task) => Ok(plan_request(task, plan_alone(rt.alloc(), words)?, words)),
         None => Ok(mistake(rt, clash_in(form, lint, races, tree))),
     }
 }
@@ -430,6 +446,13 @@ fn clash_of(races: bool, tree: bool) -> &'static str {
     } else {
         "the argument '--all' cannot be used with '--races'"
     }
+}
+
+/// The request of `run`.
+fn run_request(alloc: Global, words: &ArgMatches<'_>) -> Result<Request, AllocError>
+    ensures { IfOk result (AsksOfPlan (rows_of (found_of words.now)) (AsksRunOf (rows_of (found_of words.now)))) }
+{
+    Ok(plan_request(run_of(words), run_files(alloc, words)?, words))
 }
 
 fn run_of(words: &ArgMatches<'_>) -> Task
@@ -572,25 +595,47 @@ fn is_set(words: &ArgMatches<'_>, name: &str) -> bool
     words.get_flag(name)
 }
 
-/// The request of a task for the plan in a file or from standard input.
-fn plan_request(alloc: Global, task: Task, words: &ArgMatches<'_>) -> Result<Request, AllocError>
-    ensures { IfOk result (AsksOfPlan (rows_of (found_of words.now)) (λ asked. asked ≡ task)) }
+/// The request of a task with these files.
+fn plan_request(task: Task, files: FileNames, words: &ArgMatches<'_>) -> Request
+    ensures { AsksOfPlan (rows_of (found_of words.now)) (λ asked given. (asked ≡ task) × (given ≡ files)) result }
 {
-    Ok(Request::Plan {
+    Request::Plan {
         task,
-        file: file_of(alloc, words)?,
+        files,
         explain: is_set(words, "explain"),
         brief: is_set(words, "brief"),
+    }
+}
+
+/// The files of a run.
+fn run_files(alloc: Global, words: &ArgMatches<'_>) -> Result<FileNames, AllocError>
+    ensures { IfOk result (AreRunFiles (rows_of (found_of words.now))) }
+{
+    Ok(FileNames {
+        plan: file_of(alloc, words, "FILE")?,
+        junit: file_of(alloc, words, "junit")?,
+        json: file_of(alloc, words, "json")?,
     })
 }
 
-/// The name of the plan's file, if it is given.
-fn file_of(alloc: Global, words: &ArgMatches<'_>) -> Result<Option<String>, AllocError>
-    ensures { IfOk result (λ file. option_map string_bytes file ≡ first_value (found_of words.now) (codes "FILE")) }
+/// The file of a plan that is not run.
+fn plan_alone(alloc: Global, words: &ArgMatches<'_>) -> Result<FileNames, AllocError>
+    ensures { IfOk result (IsPlanAlone (rows_of (found_of words.now))) }
 {
-    match words.get_str("FILE") {
+    Ok(FileNames {
+        plan: file_of(alloc, words, "FILE")?,
+        junit: None,
+        json: None,
+    })
+}
+
+/// The name of a file that is a word or the value of an option, if it is given.
+fn file_of(alloc: Global, words: &ArgMatches<'_>, name: &str) -> Result<Option<String>, AllocError>
+    ensures { IfOk result (λ file. option_map string_bytes file ≡ first_value (found_of words.now) name.now) }
+{
+    match words.get_str(name) {
         None => Ok(None),
-        Some(name) => Ok(Some(String::from_str(alloc, name)?)),
+        Some(file) => Ok(Some(String::from_str(alloc, file)?)),
     }
 }
 
@@ -667,6 +712,8 @@ fn run_command<'a>(alloc: Global) -> Result<Command<'a>, AllocError>
         .arg(store_option(alloc))?
         .arg(report_option(alloc))?
         .arg(report_tree_flag(alloc)?)?
+        .arg(junit_option(alloc))?
+        .arg(json_option(alloc))?
         .arg(color_option(alloc))?
         .arg(progress_flag(alloc))?
         .arg(durations_flag(alloc))?

@@ -1,39 +1,38 @@
-//! How long a run and its slowest nodes took, printed at its end on standard error.
+//! How long the tests of a run took, and what is said of it at its end on standard error.
+ghost use Rattle.std.specs.Prelude.{◌<◌, All, length};
+
+use crate::screen::shown_text;
 use crate::times::{Times, seconds};
-use ext_report::write_visible;
-use ext_run::{NodeResult, Plan, PlanNode, RunListener};
+use ext_report::{Extra, slowest_tests};
+use ext_run::{NodeResult, RunListener, Tree};
 use std::alloc::{AllocError, Global};
 use std::sync::{Mutex, Wait};
 use std::time::{Clock, Duration, Instant};
 
-/// How many nodes are named.
+/// How many tests are named.
 const NAMED: usize = 5;
 
-/// When a run began, and when its nodes start and end. If the clock cannot be read, what it would
-/// tell is left out.
+/// When the nodes of a run start and end. If the clock cannot be read, what it would tell is left
+/// out.
 #[derive(Drop)]
 pub(crate) struct Durations<'a, R> {
     rt: &'a R,
-    begun: Option<Instant>,
     times: Mutex<Times>,
 }
 
-impl<'a, R: Wait + Clock + AllocGlobal + Eprint> Durations<'a, R> {
-    /// The times of a run of so many nodes that begins now. Takes memory.
+impl<'a, R: AllocGlobal> Durations<'a, R> {
+    /// The times of a run of so many nodes that has not begun. Takes memory.
     pub(crate) fn new(rt: &'a R, nodes: usize) -> Result<Durations<'a, R>, AllocError> {
         let times = Times::new(rt.alloc(), nodes)?;
         Ok(Durations {
             rt,
-            begun: Instant::now(rt).ok(),
             times: Mutex::new(times),
         })
     }
 
-    /// Prints how long the slowest nodes of this plan took, the slowest first, and then the whole
-    /// run. A line for which there is no memory is left out.
-    pub(crate) fn tell(self, plan: &Plan) {
-        tell_slowest(self.rt, plan, self.times.into_inner());
-        tell_whole(self.rt, self.begun);
+    /// How long each node took, in the order of the plan.
+    pub(crate) fn into_extras(self) -> Vec<Extra> {
+        self.times.into_inner().into_extras()
     }
 }
 
@@ -51,34 +50,43 @@ impl<R: Wait + Clock> RunListener for Durations<'_, R> {
     }
 }
 
-/// Prints the nodes that took longest, the slowest first.
-fn tell_slowest<R: AllocGlobal + Eprint>(rt: &R, plan: &Plan, mut times: Times) {
-    for _ in 0..NAMED {
-        if let Some((node, took)) = times.take_longest()
-            && let Some(node) = plan.nodes.get(node)
-            && let Ok(line) = line_of(rt.alloc(), took, node)
-        {
-            let _ = eprintln!(rt; "{}", line.as_str());
-        }
+/// Prints how long the slowest tests took, the slowest first, and then all nodes together. If there
+/// is no memory for it, that is left out.
+pub(crate) fn tell_durations<R: AllocGlobal + Eprint>(
+    rt: &R,
+    tree: &Tree,
+    results: &[NodeResult],
+    extras: &[Extra],
+    for_terminal: bool,
+)
+    requires { All (λ r. r.node < length tree.now) results.now }
+{
+    if let Ok(text) = durations_text(rt.alloc(), tree, results, extras, for_terminal) {
+        let _ = eprint!(rt; "{}", text.as_str());
     }
 }
 
-/// A node with its time, as `0.123 s [engine:x]/[test:a]`.
-fn line_of(alloc: Global, took: Duration, node: &PlanNode) -> Result<String, AllocError> {
-    let mut id = String::new(alloc);
-    node.id.write_to(&mut id)?;
-    let mut line = seconds(alloc, took)?;
-    line.push(' ')?;
-    write_visible(&mut line, id.as_str())?;
-    Ok(line)
-}
-
-/// Prints how long the whole run took.
-fn tell_whole<R: Clock + AllocGlobal + Eprint>(rt: &R, begun: Option<Instant>) {
-    if let Some(begun) = begun
-        && let Ok(took) = begun.elapsed(rt)
-        && let Ok(time) = seconds(rt.alloc(), took)
+/// What is said of the times of a run. The root takes as long as all nodes together.
+fn durations_text(
+    alloc: Global,
+    tree: &Tree,
+    results: &[NodeResult],
+    extras: &[Extra],
+    for_terminal: bool,
+) -> Result<String, AllocError>
+    requires { All (λ r. r.node < length tree.now) results.now }
+{
+    let tests = slowest_tests(alloc, tree, results, extras, NAMED)?;
+    let mut text = shown_text(alloc, tests, for_terminal)?;
+    if let Some(root) = extras.first()
+        && let Some(millis) = root.millis
     {
-        let _ = eprintln!(rt; "{} the whole run", time.as_str());
+        let whole = seconds(alloc, Duration::from_millis(millis))?;
+        let whole = whole.as_str();
+        writeln!(
+            &mut text,
+            "took {whole} from the start of the first node to the end of the last"
+        )?;
     }
+    Ok(text)
 }

@@ -1,49 +1,55 @@
 //! What a run says beside its report, by one listener of three parts.
-ghost use Rattle.std.specs.Prelude.{◌≡◌, ◌≤◌, false, Ok};
+ghost use Rattle.std.specs.Prelude.{◌≡◌, ◌<◌, ◌≤◌, false, All, Ok, length};
 ghost use Rattle.std.specs.Io.KnownBytes.{Appends};
 ghost use Rattle.ext_plan_reading.specs.Plans.{plan_view};
-ghost use Rattle.ext_plan_reading.specs.ReadPlans.{IsReadPlan};
-ghost use Rattle.extrun.specs.Tasks.{IsRunOutcome};
+ghost use Rattle.ext_plan_reading.specs.ReadPlans.{IsReadPlan, ids_of_nodes};
+ghost use Rattle.extrun.specs.Tasks.{IsPlanOutcome, IsRunOutcome};
 
 use crate::command::Asides;
-use crate::durations::Durations;
+use crate::durations::{Durations, tell_durations};
 use crate::failing::tell_failures;
 use crate::progress::{Progress, run_beside};
+use crate::report_files::ReportFiles;
 use ext_model::Fault;
 use ext_run::{
-    Failures, FaultOrigin, NodeResult, Options, Plan, ReportForm, RunFault, RunListener, Summary,
+    Failures, FaultOrigin, NodeResult, Options, Plan, PlanRun, RunFault, RunListener, Summary,
     run_plan,
 };
 use std::alloc::AllocError;
 use std::io::Write;
+use std::rt::Files;
 use std::sync::Wait;
 use std::thread::Threads;
 use std::time::Clock;
 
-/// Runs a plan by the contract of `ext_run::run_plan`, and says beside it on standard error what is
-/// asked for: while it lasts how far it is, and behind its report how long its slowest nodes took,
-/// and then the faults of its nodes.
+/// Runs a plan by the contract of `ext_run::run_plan`, and writes its report to files, too. It says
+/// beside it on standard error what is asked for: while it lasts how far it is, and at the end how
+/// long its slowest tests took, and then the faults of its nodes.
 ///
 /// Refused like `run_plan`, and as `Memory` if memory for what is kept of the run is refused.
-pub(crate) fn run_told<'a, R, W: Write>(
+/// `reports` keeps whether a file was not written.
+pub(crate) fn run_with_asides<'a, R, W: Write>(
     rt: &'a R,
     plan: &Plan,
     writer: &mut W,
     options: Options,
     asides: Asides,
+    reports: &mut ReportFiles<'_>,
 ) -> Result<Summary, RunFault>
 where
-    R: Threads + Wait + Sync + Clock + AllocGlobal + Eprint,
+    R: Threads + Wait + Sync + Clock + Files + AllocGlobal + Eprint,
     requires lanes { options.plain ≡ false → (1 ≤ options.lanes) × (options.lanes ≤ 16) }
     requires plan { IsReadPlan (plan_view plan.now) }
     ensures { IsRunOutcome options (Ok (plan_view plan.now)) result (Appends (W.contents writer.old) (W.contents writer.new)) }
 {
-    let listener = Listener::new(rt, plan, asides)?;
-    let outcome = run_heard(rt, plan, writer, options, &listener);
-    if outcome.is_ok() {
-        listener.tell_end(plan, options.form, asides.for_terminal);
+    let listener = Listener::new(rt, plan, asides, reports.is_asked_for())?;
+    match run_heard(rt, plan, writer, options, &listener) {
+        Ok(ran) => {
+            listener.end(plan, ran.results.as_slice(), options, asides, reports);
+            Ok(ran.summary)
+        }
+        Err(fault) => Err(fault),
     }
-    outcome
 }
 
 /// Runs a plan with this listener, and beside a thread that prints its progress if it has one.
@@ -53,12 +59,12 @@ fn run_heard<R, W: Write>(
     writer: &mut W,
     options: Options,
     listener: &Listener<'_, R>,
-) -> Result<Summary, RunFault>
+) -> Result<PlanRun, RunFault>
 where
     R: Threads + Wait + Sync + Clock + AllocGlobal + Eprint,
     requires lanes { options.plain ≡ false → (1 ≤ options.lanes) × (options.lanes ≤ 16) }
     requires plan { IsReadPlan (plan_view plan.now) }
-    ensures { IsRunOutcome options (Ok (plan_view plan.now)) result (Appends (W.contents writer.old) (W.contents writer.new)) }
+    ensures { IsPlanOutcome options (plan_view plan.now) result (Appends (W.contents writer.old) (W.contents writer.new)) }
 {
     match &listener.progress {
         Some(progress) => run_beside(rt, plan, writer, options, listener, progress),
@@ -66,7 +72,8 @@ where
     }
 }
 
-/// What is kept of a run for what is said beside it. Each part is there if it is asked for.
+/// What is kept of a run for what is said beside it. Each part is there if it is asked for; times are
+/// also kept for files.
 #[derive(Drop)]
 struct Listener<'a, R> {
     rt: &'a R,
@@ -77,7 +84,12 @@ struct Listener<'a, R> {
 
 impl<'a, R: Wait + Clock + AllocGlobal + Eprint> Listener<'a, R> {
     /// The listener to a run of this plan that has not begun. Takes memory.
-    fn new(rt: &'a R, plan: &Plan, asides: Asides) -> Result<Listener<'a, R>, AllocError> {
+    fn new(
+        rt: &'a R,
+        plan: &Plan,
+        asides: Asides,
+        for_files: bool,
+    ) -> Result<Listener<'a, R>, AllocError> {
         let mut listener = Listener {
             rt,
             progress: None,
@@ -87,7 +99,7 @@ impl<'a, R: Wait + Clock + AllocGlobal + Eprint> Listener<'a, R> {
         if asides.progress {
             listener.progress = Some(Progress::new(rt, plan, asides.for_terminal)?);
         }
-        if asides.durations {
+        if asides.durations || for_files {
             listener.durations = Some(Durations::new(rt, plan.nodes.len())?);
         }
         if asides.failures {
@@ -96,19 +108,37 @@ impl<'a, R: Wait + Clock + AllocGlobal + Eprint> Listener<'a, R> {
         Ok(listener)
     }
 
-    /// Says what is said at the end of a run of this plan whose report has this form.
-    fn tell_end(self, plan: &Plan, form: ReportForm, for_terminal: bool) {
+    /// Does what is done at the end of a run of this plan that had these results.
+    fn end(
+        self,
+        plan: &Plan,
+        results: &[NodeResult],
+        options: Options,
+        asides: Asides,
+        reports: &mut ReportFiles<'_>,
+    )
+    where
+        R: Files,
+        requires { All (λ r. r.node < length (ids_of_nodes (plan_view plan.now).nodes)) results.now }
+    {
         let Listener {
             rt,
             durations,
             failures,
             ..
         } = self;
+        let (tree, for_terminal) = (plan.tree(), asides.for_terminal);
         if let Some(durations) = durations {
-            durations.tell(plan);
+            let extras = durations.into_extras();
+            let extras = extras.as_slice();
+            reports.write(rt, tree, results, extras);
+            if asides.durations {
+                tell_durations(rt, tree, results, extras, for_terminal);
+            }
         }
         if let Some(failures) = failures {
-            tell_failures(rt, plan, form, &failures.into_reported(), for_terminal);
+            let faults = failures.into_reported();
+            tell_failures(rt, plan, options.form, &faults, for_terminal);
         }
     }
 }

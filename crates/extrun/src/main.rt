@@ -21,17 +21,19 @@ mod listener;
 mod plans;
 mod progress;
 mod refusing;
+mod report_files;
 mod running;
 mod screen;
 mod telling;
 mod times;
 mod unread;
 
-use color::{shown_at, told_at};
+use color::{escaped_at, shown_at};
 use command::{Request, request_of};
 use ext_run::{RequestFault, RunFault, Summary, status_of};
 use ids::{outcome_of_id, outcome_of_parts};
 use plans::{is_for_people, outcome_of_source};
+use report_files::ReportFiles;
 use screen::Screen;
 use std::io::{self, Input, IsTerminal, Printer};
 use std::process::ExitCode;
@@ -76,15 +78,24 @@ where
     let outcome = match request_of(rt, terminals.input) {
         Request::Plan {
             task,
-            file,
+            files,
             explain,
             brief,
         } => {
-            let task = told_at(shown_at(rt, task, terminals.output), terminals.errors);
+            let task = escaped_at(shown_at(rt, task, terminals.output), terminals.errors);
             // A report for people has been made for a terminal, and its colours are orders to one.
             let mut writer = standard_output(rt, terminals.output && !is_for_people(task));
             let explained = is_explained(explain, brief, terminals.errors);
-            return outcome_of_source(rt, &mut writer, task, &file, explained);
+            let mut reports = ReportFiles::new(&files);
+            let outcome = outcome_of_source(
+                rt,
+                &mut writer,
+                task,
+                &files.plan,
+                &mut reports,
+                explained,
+            );
+            return reports.outcome(outcome);
         }
         Request::Id {
             text,

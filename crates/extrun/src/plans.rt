@@ -5,11 +5,12 @@ ghost use Rattle.ext_plan_reading.specs.Plans.{plan_view};
 ghost use Rattle.ext_plan_reading.specs.ReadPlans.{IsReadPlan};
 ghost use Rattle.ext_run.specs.Checks.{RefusedUnrun};
 ghost use Rattle.ext_run.specs.Reports.{plan_of_input};
-ghost use Rattle.extrun.specs.Tasks.{AppendsFor, IsDone, IsOneDone, IsRequestDone, IsRunOutcome, IsUndone, IsUndoneRequest, IsUnreadRequest, is_for_people, told_of};
+ghost use Rattle.extrun.specs.Tasks.{AppendsFor, IsDone, IsOneDone, IsRequestDone, IsRunOutcome, IsUndone, IsUndoneRequest, IsUnreadRequest, is_for_people, request_outcome};
 
 use crate::command::{Asides, Task};
-use crate::listener::run_told;
+use crate::listener::run_with_asides;
 use crate::refusing::{explain_fault, tell_faults};
+use crate::report_files::ReportFiles;
 use crate::telling::tell;
 use crate::times::seconds;
 use crate::unread::{Source, explain_cause, explain_undone, explain_unread};
@@ -26,12 +27,14 @@ use std::thread::Threads;
 use std::time::{Clock, Instant};
 
 /// Reads the whole plan from this file, or from standard input if there is none or it is `-`, and
-/// then does the task. Prints why if it was not done.
+/// then does the task. Prints why if it was not done. `reports` keeps whether the report of a run was
+/// not written to a file.
 pub(crate) fn outcome_of_source<R, W>(
     rt: &R,
     writer: &mut W,
     task: Task,
     file: &Option<String>,
+    reports: &mut ReportFiles<'_>,
     explained: bool,
 ) -> Result<Summary, RequestFault>
 where
@@ -50,7 +53,7 @@ where
     };
     match input {
         Err(fault) => Err(fault),
-        Ok(input) => outcome_of_plan(rt, input.as_slice(), writer, task, explained),
+        Ok(input) => outcome_of_plan(rt, input.as_slice(), writer, task, reports, explained),
     }
 }
 
@@ -89,7 +92,7 @@ fn input_of<R: AllocGlobal + Eprint, I: Read>(
 {
     let input = read_input(rt.alloc(), reader, size);
     let fault = input.as_ref().err().copied();
-    let input = told(rt, input);
+    let input = printed(rt, input);
     if explained && let Some(fault) = fault {
         explain_unread(rt, reader, source, size, fault);
     }
@@ -102,30 +105,31 @@ fn outcome_of_plan<R, W>(
     input: &[u8],
     writer: &mut W,
     task: Task,
+    reports: &mut ReportFiles<'_>,
     explained: bool,
 ) -> Result<Summary, RequestFault>
 where
-    R: Threads + Wait + Sync + Clock + AllocGlobal + Eprint,
+    R: Threads + Wait + Sync + Clock + Files + AllocGlobal + Eprint,
     W: Write,
     ensures done { IfOk result (λ summary. IsDone task input.now summary (AppendsFor task (W.contents writer.old) (W.contents writer.new))) }
     ensures one_report { IfOk result (λ summary. IsOneDone task input.now summary (AppendsFor task (W.contents writer.old) (W.contents writer.new))) }
     ensures refused { IfErr result (λ fault. IsUndoneRequest task input.now fault) }
 {
     let begun = Instant::now(rt).ok();
-    let done = outcome_of_task(rt, input, writer, task, explained);
+    let done = outcome_of_task(rt, input, writer, task, reports, explained);
     write_time(rt, writer, task, &done, begun);
-    told_done(rt, input, task, done, explained)
+    printed_done(rt, input, task, done, explained)
 }
 
 /// The outcome of a task with the plan in these bytes. Prints why if it was not done.
-fn told_done<R: AllocGlobal + Eprint>(
+fn printed_done<R: AllocGlobal + Eprint>(
     rt: &R,
     input: &[u8],
     task: Task,
     done: Result<Summary, RunFault>,
     explained: bool,
 ) -> Result<Summary, RequestFault>
-    ensures { result ≡ told_of done }
+    ensures { result ≡ request_outcome done }
 {
     if let Task::CheckAll(size) = task
         && let Err(RunFault::Plan(fault)) = done
@@ -133,7 +137,7 @@ fn told_done<R: AllocGlobal + Eprint>(
         tell_faults(rt, input, size, fault, explained);
         return Err(RequestFault::Run(RunFault::Plan(fault)));
     }
-    let outcome = told(rt, done);
+    let outcome = printed(rt, done);
     if explained {
         explain_outcome(rt, input, task.size(), outcome);
     }
@@ -185,8 +189,8 @@ fn explain_outcome<R: AllocGlobal + Eprint>(
 }
 
 /// The outcome, whose fault is printed on standard error.
-fn told<T: Drop>(rt: &impl Eprint, outcome: Result<T, RunFault>) -> Result<T, RequestFault>
-    ensures { result ≡ told_of outcome }
+fn printed<T: Drop>(rt: &impl Eprint, outcome: Result<T, RunFault>) -> Result<T, RequestFault>
+    ensures { result ≡ request_outcome outcome }
 {
     match outcome {
         Ok(done) => Ok(done),
@@ -199,13 +203,16 @@ fn told<T: Drop>(rt: &impl Eprint, outcome: Result<T, RunFault>) -> Result<T, Re
 
 /// Does the task with the plan in these bytes. Prints why keys of a run that failed have no place,
 /// if that is to be explained.
-fn outcome_of_task<R: Threads + Wait + Sync + Clock + AllocGlobal + Eprint, W: Write>(
+fn outcome_of_task<R, W: Write>(
     rt: &R,
     input: &[u8],
     writer: &mut W,
     task: Task,
+    reports: &mut ReportFiles<'_>,
     explained: bool,
 ) -> Result<Summary, RunFault>
+where
+    R: Threads + Wait + Sync + Clock + Files + AllocGlobal + Eprint,
     ensures done { IfOk result (λ summary. IsDone task input.now summary (Appends (W.contents writer.old) (W.contents writer.new))) }
     ensures one_report { IfOk result (λ summary. IsOneDone task input.now summary (Appends (W.contents writer.old) (W.contents writer.new))) }
     ensures refused { IfErr result (λ fault. IsUndone task input.now fault) }
@@ -216,7 +223,15 @@ fn outcome_of_task<R: Threads + Wait + Sync + Clock + AllocGlobal + Eprint, W: W
             options,
             asides,
             ..
-        } => run_input(rt, input, writer, in_range(options), asides, explained),
+        } => run_input(
+            rt,
+            input,
+            writer,
+            in_range(options),
+            asides,
+            reports,
+            explained,
+        ),
         Task::Check(size) | Task::CheckAll(size) => {
             check(rt.alloc(), &mut reader, writer, size)?;
             Ok(Summary::done())
@@ -249,14 +264,17 @@ fn in_range(options: Options) -> Options
 
 /// Runs the plan in these bytes, and says beside it what is asked for. If the run failed and that is
 /// to be explained, prints why keys have no place.
-fn run_input<R: Threads + Wait + Sync + Clock + AllocGlobal + Eprint, W: Write>(
+fn run_input<R, W: Write>(
     rt: &R,
     input: &[u8],
     writer: &mut W,
     options: Options,
     asides: Asides,
+    reports: &mut ReportFiles<'_>,
     explained: bool,
 ) -> Result<Summary, RunFault>
+where
+    R: Threads + Wait + Sync + Clock + Files + AllocGlobal + Eprint,
     requires lanes { options.plain ≡ false → (1 ≤ options.lanes) × (options.lanes ≤ 16) }
     ensures { IsRunOutcome options (plan_of_input options.size input.now) result (Appends (W.contents writer.old) (W.contents writer.new)) }
 {
@@ -264,7 +282,7 @@ fn run_input<R: Threads + Wait + Sync + Clock + AllocGlobal + Eprint, W: Write>(
         Ok(plan) => plan,
         Err(fault) => return Err(fault),
     };
-    let outcome = run_told(rt, &plan, writer, options, asides);
+    let outcome = run_with_asides(rt, &plan, writer, options, asides, reports);
     if explained
         && let Ok(summary) = outcome
         && summary.failed

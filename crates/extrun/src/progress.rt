@@ -1,14 +1,14 @@
 //! The progress of a run, printed on standard error by a thread of its own.
-ghost use Rattle.std.specs.Prelude.{◌≡◌, ◌≤◌, false, Ok};
+ghost use Rattle.std.specs.Prelude.{◌≡◌, ◌≤◌, false};
 ghost use Rattle.std.specs.Io.KnownBytes.{Appends};
 ghost use Rattle.ext_plan_reading.specs.Plans.{plan_view};
 ghost use Rattle.ext_plan_reading.specs.ReadPlans.{IsReadPlan};
-ghost use Rattle.extrun.specs.Tasks.{IsRunOutcome};
+ghost use Rattle.extrun.specs.Tasks.{IsPlanOutcome};
 ghost use denote.Param.Send.{IsSync};
 
 use crate::running::Running;
 use crate::screen::shown_text;
-use ext_run::{NodeResult, Options, Plan, PlanNode, RunFault, RunListener, Summary, run_plan};
+use ext_run::{NodeResult, Options, Plan, PlanNode, PlanRun, RunFault, RunListener, run_plan};
 use std::alloc::{AllocError, Global};
 use std::io::Write;
 use std::sync::{Condvar, CondvarTimeouts, Mutex, Wait};
@@ -35,17 +35,17 @@ pub(crate) fn run_beside<R, W: Write, L: RunListener + Sync>(
     options: Options,
     listener: &L,
     progress: &Progress<'_, R>,
-) -> Result<Summary, RunFault>
+) -> Result<PlanRun, RunFault>
 where
     R: Threads + Wait + Sync + Clock + AllocGlobal + Eprint,
     requires lanes { options.plain ≡ false → (1 ≤ options.lanes) × (options.lanes ≤ 16) }
     requires plan { IsReadPlan (plan_view plan.now) }
-    ensures { IsRunOutcome options (Ok (plan_view plan.now)) result (Appends (W.contents writer.old) (W.contents writer.new)) }
+    ensures { IsPlanOutcome options (plan_view plan.now) result (Appends (W.contents writer.old) (W.contents writer.new)) }
 {
     let mut tell = || progress.tell_to_the_end();
-    let mut run = || -> Result<Summary, RunFault>
+    let mut run = || -> Result<PlanRun, RunFault>
         requires { IsSync R.row × IsSync L.row × (options.plain ≡ false → (1 ≤ options.lanes) × (options.lanes ≤ 16)) × IsReadPlan (plan_view plan.now) }
-        ensures { IsRunOutcome options (Ok (plan_view plan.entry.now)) result (Appends (W.contents writer.entry.now) (W.contents writer.exit.now)) }
+        ensures { IsPlanOutcome options (plan_view plan.entry.now) result (Appends (W.contents writer.entry.now) (W.contents writer.exit.now)) }
     {
         let outcome = run_plan(rt, rt.alloc(), writer, plan, options, listener);
         progress.end();

@@ -1,101 +1,55 @@
 //! When the nodes of a run started, and how long they took.
-ghost use Rattle.std.specs.Prelude.{◌≡◌, option_map, string_bytes, vec_len, IfOk};
+ghost use Rattle.std.specs.Prelude.{◌≡◌, string_bytes, vec_len, IfOk};
 ghost use Rattle.std.specs.Duration.{as_nanos};
-ghost use Rattle.extrun.specs.Times.{is_longer, longer_of, longest_of, node_time, seconds_text, time_text, took_by};
+ghost use Rattle.extrun.specs.Times.{seconds_text, time_text};
 
+use ext_report::Extra;
 use std::alloc::{AllocError, Global};
 use std::time::{Duration, Instant};
-
-/// When a node started, and how long it took once it has ended.
-#[derive(Clone, Copy)]
-struct Time {
-    started: Option<Instant>,
-    took: Option<Duration>,
-}
 
 /// The times of the nodes of a run, in the order of the plan.
 #[derive(Drop)]
 pub(crate) struct Times {
-    nodes: Vec<Time>,
+    started: Vec<Option<Instant>>,
+    /// How long each node took that has ended.
+    extras: Vec<Extra>,
 }
 
 impl Times {
     /// The times of so many nodes, none of which has started. Takes memory.
     pub(crate) fn new(alloc: Global, nodes: usize) -> Result<Times, AllocError>
-        ensures count { IfOk result (λ times. vec_len times.nodes ≡ nodes) }
+        ensures started { IfOk result (λ times. vec_len times.started ≡ nodes) }
+        ensures extras { IfOk result (λ times. vec_len times.extras ≡ nodes) }
     {
-        let mut times = Vec::new(alloc);
+        let mut started = Vec::new(alloc);
+        let mut extras = Vec::new(alloc);
         for _ in 0..nodes {
-            times.push(Time {
-                started: None,
-                took: None,
-            })?;
+            started.push(None)?;
+            extras.push(Extra::default())?;
         }
-        Ok(Times { nodes: times })
+        Ok(Times { started, extras })
     }
 
     /// Notes that a node starts now.
     pub(crate) fn start(&mut self, node: usize, now: Instant) {
-        if let Some(time) = self.nodes.get_mut(node) {
-            time.started = Some(now);
+        if let Some(started) = self.started.get_mut(node) {
+            *started = Some(now);
         }
     }
 
     /// Notes that a node has ended now.
     pub(crate) fn end(&mut self, node: usize, now: Instant) {
-        if let Some(time) = self.nodes.get_mut(node)
-            && let Some(started) = time.started
+        if let Some(Some(started)) = self.started.get(node)
+            && let Some(extra) = self.extras.get_mut(node)
         {
-            time.took = Some(now.saturating_duration_since(started));
+            let took = now.saturating_duration_since(*started);
+            *extra = Extra::new(Some(took), 0);
         }
     }
 
-    /// Takes out the node that took longest, the first of them in the plan, with its time.
-    pub(crate) fn take_longest(&mut self) -> Option<(usize, Duration)>
-        ensures { option_map node_time result ≡ longest_of (took_by self.old.nodes.items) }
-    {
-        let longest = self.longest();
-        if let Some((node, _)) = longest
-            && let Some(time) = self.nodes.get_mut(node)
-        {
-            time.took = None;
-        }
-        longest
-    }
-
-    /// The node that took longest, the first of them in the plan, with its time.
-    fn longest(&self) -> Option<(usize, Duration)>
-        ensures { option_map node_time result ≡ longest_of (took_by self.now.nodes.items) }
-    {
-        let mut longest = None;
-        for (node, time) in self.nodes.iter().enumerate() {
-            longest = longer_of(node, longest, time.took);
-        }
-        longest
-    }
-}
-
-/// The node that took longest so far, or this one if it took longer.
-fn longer_of(
-    node: usize,
-    longest: Option<(usize, Duration)>,
-    took: Option<Duration>,
-) -> Option<(usize, Duration)>
-    ensures { option_map node_time result ≡ longer_of node (option_map node_time longest) (option_map as_nanos took) }
-{
-    match took {
-        Some(took) if is_longer(took, longest) => Some((node, took)),
-        _ => longest,
-    }
-}
-
-/// Tests whether a time is longer than that of the longest node so far, if there is one.
-fn is_longer(took: Duration, longest: Option<(usize, Duration)>) -> bool
-    ensures { result ≡ is_longer (as_nanos took) (option_map node_time longest) }
-{
-    match longest {
-        None => true,
-        Some((_, before)) => before.as_nanos() < took.as_nanos(),
+    /// How long each node took, in the order of the plan.
+    pub(crate) fn into_extras(self) -> Vec<Extra> {
+        self.extras
     }
 }
 

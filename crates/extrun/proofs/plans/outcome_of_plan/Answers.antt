@@ -11,7 +11,7 @@ returns-clause-done g c =
     let input = c.args.input.now in
     let old = contents c.args.writer.now in
     let new = contents c.write_time.new.writer in
-    subst (λ told. IfOk told (λ summary. IsDone task input summary (AppendsFor task old new))) (sym c.told_done.ensures)
+    subst (λ told. IfOk told (λ summary. IsDone task input summary (AppendsFor task old new))) (sym c.printed_done.ensures)
     (plan-done task input old (contents c.outcome_of_task-done.new.writer) new (λ others. ap contents (c.write_time.ensures others)) c.outcome_of_task-done.result c.outcome_of_task-done.ensures.done)
 
 pub returns-clause-one_report : goal.returns-clause-one_report
@@ -21,10 +21,10 @@ returns-clause-one_report g c =
     let input = c.args.input.now in
     let old = contents c.args.writer.now in
     let new = contents c.write_time.new.writer in
-    subst (λ told. IfOk told (λ summary. IsOneDone task input summary (AppendsFor task old new))) (sym c.told_done.ensures)
+    subst (λ told. IfOk told (λ summary. IsOneDone task input summary (AppendsFor task old new))) (sym c.printed_done.ensures)
     (plan-one_done task input old (contents c.outcome_of_task-done.new.writer) new (λ others. ap contents (c.write_time.ensures others)) c.outcome_of_task-done.result c.outcome_of_task-done.ensures.one_report)
 
 pub returns-clause-refused : goal.returns-clause-refused
 returns-clause-refused g c =
-    subst (λ told. IfErr told (λ fault. IsUndoneRequest c.args.task c.args.input.now fault)) (sym c.told_done.ensures)
+    subst (λ told. IfErr told (λ fault. IsUndoneRequest c.args.task c.args.input.now fault)) (sym c.printed_done.ensures)
     (plan-undone c.args.task c.args.input.now c.outcome_of_task-done.result c.outcome_of_task-done.ensures.refused)
