@@ -1,16 +1,14 @@
 -- A close leaves as it was for how many values there is room; and a refused one has written nothing.
-use Rattle.std.proofs.Common.{ℕ, ◌≡◌, ◌∙◌, List, [], ◌∷◌, Ok, Err, ap, sym, subst}
+use Rattle.std.proofs.Common.{ℕ, ◌≡◌, ◌∙◌, List, [], ◌∷◌, Ok, ap, sym}
 use Rattle.std.specs.Prelude.{Bool, true, false}
 use Rattle.std.specs.List.{FoldsTo}
 use Rattle.ext_model.specs.declared.closed.Closed.{Closed}
 use Rattle.ext_store.specs.Stores.{CloserView, StoreLane, StoreView}
-use Rattle.ext_closing.specs.declared.fault.CloseFault.{CloseFault}
 use Rattle.ext_closing.specs.Closes as closing
 use Rattle.ext_closing.specs.Closing.{CallIf, Closing, ClosesOne}
 use Rattle.ext_closing.specs.Lanes.{first_lane}
 use Rattle.ext_closing.specs.Sealing.{numbers_left}
 use Rattle.ext_c.specs.declared.handle.Handle.{Handle}
-use Rattle.ext_c.specs.Closing.{IsRefusedFor}
 use Rattle.ext_c.specs.Writing.{WritesNext, Writings}
 
 call_room : (b : Bool) (number : ℕ) (value : Handle) (before after : Closing Writings) → CallIf (λ (h : Handle). h.closeable) WritesNext b number value before after → after.action.room ≡ before.action.room
@@ -29,14 +27,3 @@ pub same_room : (store : StoreView) (closer : CloserView) (before : List (StoreL
 same_room store closer before first closed after last happened =
     calls_room after (numbers_left store closer.context (first_lane store after)) (record { action = first; answers = [] }) (record { action = last; answers = happened.closes.answers })
     happened.closes.calls
-
--- a refused close hands the closer back and has written nothing
-pub refused_for : (store : StoreView) (closer back : CloserView) (before after : StoreLane Handle) (first last : Writings) (why : CloseFault)
-    → closing.Closes (λ (h : Handle). h.closeable) WritesNext store closer (before ∷ []) first (Err (back, why)) (after ∷ []) last → IsRefusedFor store closer before after why
-refused_for store closer back before after first last why happened =
-    record {
-      first = first;
-      closes =
-          subst (λ (w : Writings). closing.Closes (λ (h : Handle). h.closeable) WritesNext store closer (before ∷ []) first (Err (closer, why)) (after ∷ []) w) happened.not_called
-          (subst (λ (b : CloserView). closing.Closes (λ (h : Handle). h.closeable) WritesNext store closer (before ∷ []) first (Err (b, why)) (after ∷ []) last) happened.handed_back happened);
-    }

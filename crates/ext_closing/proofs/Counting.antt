@@ -13,9 +13,6 @@ steps_within a c n few = let long = length-drop (length a.view.fronts) c.view.fr
 pub one_more_within : (a b c key tries : ℕ) → b ≤ a + key * tries → c ≤ b + tries → c ≤ a + (key + 1) * tries
 one_more_within a b c key tries first second = let e = add-mul key 1 tries in omega (arith, first, second)
 
-pub some_within : (a c keys all tries : ℕ) → keys ≤ all → c ≤ a + keys * tries → c ≤ a + all * tries
-some_within a c keys all tries within few = let m = mul-le-mul_right tries within in omega (arith, m, few)
-
 -- the blocks of 32 keys from one on, of which the first was ended before
 pub blocks_within : (a c keys first block tries : ℕ) → keys % 32 ≡ 0 → block ≤ keys / 32 → c ≤ a + (block * (32 * tries) + (block - (first + 1))) → c ≤ a + (keys * tries + (keys / 32 - (first + 1)))
 blocks_within a c keys first block tries whole within few =

@@ -1,5 +1,5 @@
 -- What holds of the shares that are cut off one after another.
-use Rattle.std.proofs.Common.{◌≡◌, ℕ, ◌+◌, ◌-◌, ◌*◌, ◌/◌, ◌%◌, ◌<◌, ◌≤◌, min, suc, List, [], ◌∷◌, length, map, ap, ap₂, ◌∙◌, sym, subst, arith, length-drop, length-take}
+use Rattle.std.proofs.Common.{◌≡◌, ℕ, ◌+◌, ◌-◌, ◌*◌, ◌/◌, ◌%◌, ◌<◌, ◌≤◌, min, suc, List, [], ◌∷◌, length, map, ap, ap₂, ◌∙◌, sym, subst, arith, length-drop}
 use native.Mathlib.Nat.{suc-mul, zero-mul}
 use mathlib.Core.Logic.{⊎_elim}
 use Rattle.std.proofs.lemmas.Bool.{cases_lt}
@@ -28,16 +28,6 @@ cut-rest size longer count s cut =
 
 pub share_fits : {A B : Type 0} (size longer count : ℕ) (s : Share A B) → IsCut size longer (suc count) s → size + min 1 longer ≤ length s.first
 share_fits size longer count s cut = let k = suc-mul count size in omega arith
-
--- a worker's share has so many elements of both slices
-pub share-length : {A B : Type 0} (size longer count : ℕ) (s : Share A B) → IsCut size longer (suc count) s
-    → (length (front (size + min 1 longer) s).first ≡ size + min 1 longer) × (length (front (size + min 1 longer) s).second ≡ size + min 1 longer)
-share-length size longer count s cut =
-    let fits = share_fits size longer count s cut in
-    let same = cut.1 in
-    let a = length-take (size + min 1 longer) s.first in
-    let b = length-take (size + min 1 longer) s.second in
-    (omega (arith, fits, a), omega (arith, fits, same, b))
 
 module _ {H A B : Type 0} (P : H → Share A B → Type 0) (Q : H → Type 0) (C : Share A B → Type 0) (size : ℕ) (some : 0 < size) (at : (h : H) (u : Share A B) → Q h → C u → P h u) where
   -- what holds of each hand at each part holds of each hand and its share

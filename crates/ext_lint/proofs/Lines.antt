@@ -4,23 +4,13 @@ use Rattle.std.specs.Prelude.{codes, if◌then◌else◌}
 use Rattle.std.specs.List.{flat_map}
 use Rattle.std.proofs.lemmas.Grind.{common_steps}
 use Rattle.std.proofs.lemmas.List.{length-map, take-map, take_all}
-use Rattle.ext_plan.specs.Plans.{PlanText}
 use Rattle.ext_plan_reading.specs.Nearest.{nearest}
 use Rattle.ext_races.specs.RaceLines.{line_limit}
 use Rattle.ext_lint.specs.InnerLists.{note_view}
-use Rattle.ext_lint.specs.NoteLines.{hint, missing_words, note_line, note_lines}
+use Rattle.ext_lint.specs.NoteLines.{hint, missing_words}
 use Rattle.ext_lint.specs.Notes.{NoteText}
 use Rattle.ext_lint.specs.Said.{SaidText}
 use Rattle.ext_lint.specs.declared.note.Note.{Note}
-
-pub lines_of_some : (plan : PlanText) (stored : List SaidText) (notes : List NoteText) → (length notes ≡ 0 → ⊥)
-    → note_lines plan stored notes ≡ flat_map (note_line plan stored) (take line_limit notes) ++ (if nat_lt line_limit (length notes) then codes "and more\n" else [])
-lines_of_some plan stored [] some = absurd (some refl)
-lines_of_some plan stored (note ∷ more) some = refl
-
-pub lines_of_none : (plan : PlanText) (stored : List SaidText) (notes : List NoteText) → length notes ≡ 0 → codes "nothing to note\n" ≡ note_lines plan stored notes
-lines_of_none plan stored [] none = refl
-lines_of_none plan stored (note ∷ more) none = absurd (omega (arith, none))
 
 -- ---- the first of them, and whether there are more
 

@@ -6,12 +6,10 @@ use Rattle.ext_history.proofs.Fronts.{follow_append}
 use Rattle.ext_locks.specs.declared.event.LockMode.{LockMode}
 use Rattle.ext_locks.specs.declared.event.LockEvent.{LockEvent}
 use Rattle.ext_locks.specs.declared.seat.SeatView.{SeatView}
-use Rattle.ext_locks.specs.declared.refusal.LockRefusal.{LockRefusal}
 use Rattle.ext_locks.specs.History.{holds, IsLegal}
 use Rattle.ext_locks.specs.Views.{LaneView, Lane, own_of, LaneCalls}
 use Rattle.ext_locks.specs.InnerRule.{lane_view}
 use Rattle.ext_locks.specs.Sets.{locks_of, wants, takes_of, gives_of, AllBelow, HoldsExactly, HeldView, IsHeldBy}
-use Rattle.ext_locks.specs.Refusals.{undone}
 use Rattle.ext_locks.specs.InnerSteps.{lane_at, Makes, HoldsBetween, IsWithin}
 use Rattle.ext_locks.proofs.Histories.{by_own}
 use Rattle.ext_locks.proofs.Whole.{within_of, held_all}
@@ -40,9 +38,6 @@ module _ (now : Lane) (s : Seat (Unit {0}) SeatView) (l : ℕ) (view : lane_at s
 
   pub gives_same : gives_of l set ≡ gives_of now.view.number now_set
   gives_same = λ i. gives_of (view i).view.number (same i)
-
-  pub undone_same : (refusal : LockRefusal) → undone l set refusal ≡ undone now.view.number now_set refusal
-  undone_same refusal = λ i. undone (view i).view.number (same i) refusal
 
 -- the modes of a set that is within the locks
 pub within : (modes : List (Option LockMode)) (set : List (ℕ × LockMode)) (count locks : ℕ) → locks_of modes ≡ set → AllBelow count set → count ≡ locks → IsWithin modes locks

@@ -59,9 +59,6 @@ module _ (fs gs : List LockHistory) (l : ℕ) (modes : List (Option LockMode)) (
   pub held_here : (n : ℕ) (m : LockMode) → HoldsBetween fs l modes k n → k < n → slice_index_or modes k None ≡ Some m → holds (seen fs) k m l ≡ true
   held_here n m h below is = h.each k m ∙ and_from _ _ (between_at k n below) (wanted modes k m m is ∙ same_mode_self m)
 
-  pub unheld_here : HoldsBetween fs l modes 0 k → (m : LockMode) → holds (seen fs) k m l ≡ false
-  unheld_here h m = h.each k m ∙ and_left _ _ (between_not 0 k)
-
   pub passed : HoldsBetween fs l modes 0 k → slice_index_or modes k None ≡ None → HoldsBetween fs l modes 0 (k + 1)
   passed h none = record {
     each = λ lock mode.

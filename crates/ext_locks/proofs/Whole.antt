@@ -22,7 +22,7 @@ use Rattle.ext_locks.specs.Refusals.{lock_of, undone, steps_to_take, steps_to_re
 use Rattle.ext_locks.specs.InnerSteps.{lane_at, Makes, AddsAtMost, HoldsBetween, HeldBut, IsWithin, Missed}
 use Rattle.ext_locks.proofs.Holding.{passed, took, passed_back, gave, none_between, all_between, has_own}
 use Rattle.ext_locks.proofs.Lists.{wants_modes, locks_more, locks_same, below_take}
-use Rattle.ext_locks.proofs.Fronts.{makes_self, makes_then, makes_quiet}
+use Rattle.ext_locks.proofs.Fronts.{makes_self, makes_quiet}
 
 -- each lock more takes a load and the exchanges of its tries
 more_locks : (n t : ℕ) → (n + 1) * (t + 1) ≡ n * (t + 1) + (t + 1)
@@ -60,9 +60,6 @@ module _ (start now : Seat (Unit {0}) SeatView) (l : ℕ) (modes : List (Option 
 
   pub tried_none : (tries : ℕ) → IsLegal start.me.0.lanes (seen start.me.0.fronts) → HoldsNothing (lane_at start l) → TriedBelow start start l modes tries 0
   tried_none tries legal none = record { taken = took_none legal none; steps = omega arith }
-
-  pub gave_none : (end : ℕ) → IsLegal start.me.0.lanes (seen start.me.0.fronts) → HoldsBetween start.me.0.fronts l modes 0 end → GaveBelow start start l modes 0 end
-  gave_none end legal held = record { makes = makes_self start l legal; steps = omega arith; held = held }
 
   module _ (k : ℕ) (below : k < length modes) where
     pub took_same : TookBelow start now l modes k → slice_index_or modes k None ≡ None → TookBelow start now l modes (k + 1)
@@ -119,9 +116,6 @@ module _ (start now : Seat (Unit {0}) SeatView) (l : ℕ) (modes : List (Option 
 
   pub tried_all : (tries : ℕ) → TriedBelow start now l modes tries (length modes) → AddsAtMost (steps_to_take tries (locks_of modes)) start.me.0.fronts now.me.0.fronts
   tried_all tries t = subst (λ x. AddsAtMost (steps_to_take tries (locks_of x)) start.me.0.fronts now.me.0.fronts) (take-length modes) t.steps
-
-  pub gave_all : (end : ℕ) → GaveBelow start now l modes end end → HoldsNothing (lane_at now l)
-  gave_all end t = record { each = λ lock mode. t.held.each lock mode ∙ and_left _ _ (none_between end lock) }
 
 -- a whole set that is held
 pub held_all : (fs : List LockHistory) (l : ℕ) (modes : List (Option LockMode)) → ((lock : ℕ) (mode : LockMode) → holds (seen fs) lock mode l ≡ wants (locks_of modes) lock mode) → HoldsBetween fs l modes 0 (length modes)

@@ -11,7 +11,7 @@ use Rattle.ext_locks.specs.declared.event.LockMode.TheVariants.{Read, ReadWrite}
 use Rattle.ext_locks.specs.declared.event.LockEvent.{LockEvent}
 use Rattle.ext_locks.specs.History.{event, is_about, same_mode, holds, own, IsFree}
 use Rattle.ext_locks.specs.InnerWords.{bit_of, as_bit, IsWord, IsFreeWord}
-use Rattle.ext_locks.proofs.Histories.{About, about, holds-push, other_lock, same_mode_self, none_held}
+use Rattle.ext_locks.proofs.Histories.{About, about, holds-push, other_lock, none_held}
 
 bit_small : (m : LockMode) (l : ℕ) → l < 32 → bit_of m l < 64
 bit_small Read l h = omega arith
@@ -23,10 +23,6 @@ same_bit Read Read k l a b e = (refl, e)
 same_bit Read ReadWrite k l a b e = absurd (omega arith)
 same_bit ReadWrite Read k l a b e = absurd (omega arith)
 same_bit ReadWrite ReadWrite k l a b e = (refl, omega arith)
-
--- the event itself is about its holder
-pub about_self : (l k : ℕ) (m : LockMode) (t : Bool) → is_about (event l k m t) k m l ≡ true
-about_self l k m t = and_from _ _ (and_from _ _ (eq-eqb k k refl) (eq-eqb l l refl)) (same_mode_self m)
 
 apart_bit : (l k : ℕ) (m : LockMode) (t : Bool) (n : LockMode) (o : ℕ) → l < 32 → o < 32 → is_about (event l k m t) k n o ≡ false → bit_of n o ≢ bit_of m l
 apart_bit l k m t n o a b isnt same =
@@ -89,10 +85,6 @@ given_word h l k m n few w = record {
 as_bit-zero : (b : Bool) → as_bit b ≡ 0 → b ≡ false
 as_bit-zero true e = absurd (omega arith)
 as_bit-zero false e = refl
-
-as_bit-one : (b : Bool) → as_bit b ≡ 1 → b ≡ true
-as_bit-one true e = refl
-as_bit-one false e = absurd (omega arith)
 
 -- a word below 2 ^ 32 has no writer
 no_writer : (h : List LockEvent) (k n : ℕ) → n < 2 ^ 32 → IsWord h k n → ((l : ℕ) → 32 ≤ l → own l h ≡ []) → (l : ℕ) → holds h k ReadWrite l ≡ false

@@ -49,10 +49,6 @@ pub declared_keys : (old changed : List KeyValue) (key : KeyValue) (most : ℕ) 
 declared_keys old changed key most (Ok number) answer = (by_there old changed key most number _ refl answer).keys
 declared_keys old changed key most (Err e) answer = tt
 
-pub declared_number : (old changed : List KeyValue) (key : KeyValue) (most : ℕ) (r : Result ℕ TreeFault) → Answer old changed key most r → IfOk r (λ number. number ≡ number_of_key changed key)
-declared_number old changed key most (Ok number) answer = (by_there old changed key most number _ refl answer).numbered
-declared_number old changed key most (Err e) answer = tt
-
 pub declared_few : (old changed : List KeyValue) (key : KeyValue) (most : ℕ) (r : Result ℕ TreeFault) → length old ≤ most → Answer old changed key most r → OnOk r (length changed ≤ most)
 declared_few old changed key most (Ok number) small answer = (by_there old changed key most number _ refl answer).few small
 declared_few old changed key most (Err e) small answer = tt

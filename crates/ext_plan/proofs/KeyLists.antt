@@ -78,14 +78,6 @@ pub key_number_last : (keys : List KeyValue) (key : KeyValue) → is_there keys 
 key_number_last [] key h = rw ((keys_Decides key key).1 refl) refl
 key_number_last (first ∷ keys) key h = key_number_last_at keys key first _ refl h (key_number_last keys key)
 
-key_number_before_at : (keys more : List KeyValue) (key first : KeyValue) (r : Bool) → key_eq first key ≡ r → is_there (first ∷ keys) key ≡ true → (is_there keys key ≡ true → number_of_key (keys ++ more) key ≡ number_of_key keys key) → number_of_key (first ∷ keys ++ more) key ≡ number_of_key (first ∷ keys) key
-key_number_before_at keys more key first true e h next = rw e refl
-key_number_before_at keys more key first false e h next = rw e (ap suc (next (there_behind keys key first true e h)))
-
-key_number_before : (keys more : List KeyValue) (key : KeyValue) → is_there keys key ≡ true → number_of_key (keys ++ more) key ≡ number_of_key keys key
-key_number_before [] more key h = absurd (true≢false (sym h))
-key_number_before (first ∷ keys) more key h = key_number_before_at keys more key first _ refl h (key_number_before keys more key)
-
 -- ---- one key more, and many
 
 -- the keys stand where they did, with others behind them
@@ -121,10 +113,6 @@ there_with keys key = by _ refl
     by : (r : Bool) → is_there keys key ≡ r → is_there (with_key keys key) key ≡ true
     by true e = ap (λ ks. is_there ks key) (with_old keys key e) ∙ e
     by false e = ap (λ ks. is_there ks key) (with_new keys key e) ∙ there_last keys key
-
--- a key that is there keeps its number
-pub key_number_kept : (before : List KeyValue) (keys : List KeyText) (key : KeyValue) → is_there before key ≡ true → number_of_key (keys_with before keys) key ≡ number_of_key before key
-key_number_kept before keys key h = let g = grows_all before keys in ap (λ ks. number_of_key ks key) g.1 ∙ key_number_before before g.0 key h
 
 pub there_kept : (before : List KeyValue) (keys : List KeyText) (key : KeyValue) → is_there before key ≡ true → is_there (keys_with before keys) key ≡ true
 there_kept before keys key h = let g = grows_all before keys in ap (λ ks. is_there ks key) g.1 ∙ there_before before g.0 key h

@@ -7,10 +7,6 @@ pub map-push : {A B : Type 0} (f : A → B) (xs : List A) (x : A) → map f (xs 
 map-push f [] x = refl
 map-push f (y ∷ xs) x = ap (λ ys. f y ∷ ys) (map-push f xs x)
 
--- the same where the list under `map`, and the one that it gives, are known by equations
-pub map-pushed : {A B : Type 0} (f : A → B) (ys news : List B) (xs nexts : List A) (y : B) (x : A) → ys ≡ map f xs → y ≡ f x → news ≡ ys ++ y ∷ [] → nexts ≡ xs ++ x ∷ [] → news ≡ map f nexts
-map-pushed f ys news xs nexts y x done one new next = new ∙ rw (done, one) (sym (ap (map f) next ∙ map-push f xs x))
-
 -- the element at an index, and those after it
 pub map-drop : {A B : Type 0} (f : A → B) (xs : List A) (i : ℕ) (x : A) → i < length xs → x ≡ get_or xs i x → map f (drop i xs) ≡ f x ∷ map f (drop (i + 1) xs)
 map-drop f xs i x h e = ap (map f) (drop_more xs i x h) ∙ rw (← e) refl

@@ -1,17 +1,17 @@
 -- The key that a label names is among the different keys, and the locks that a node names are among the names of locks.
 use Rattle.std.proofs.Common.{◌≡◌, ℕ, zero, suc, Bool, true, false, List, [], ◌∷◌, ◌++◌, map, All, Contains, subst, sym, ap, refl}
 use Rattle.std.specs.Prelude.{fold, if◌then◌else◌, slice_get}
-use Rattle.std.proofs.lemmas.List.Elements.{All-cons, All-nil, All-weaker, Contains-append_left, Contains-push}
+use Rattle.std.proofs.lemmas.List.Elements.{All-cons, All-nil, Contains-append_left, Contains-push}
 use Rattle.std.proofs.lemmas.Slice.Eq.{bytes_eq-Decides}
 use Rattle.std.specs.Str.{bytes_eq}
 use Rattle.indexmap.proofs.CallerLemmas.{Contains-list_any}
 use Rattle.ext_tree.specs.Keys.{KeyValue}
-use Rattle.ext_plan.specs.StoreKeys.{different_keys, is_there, keys_with, named_key, with_key}
+use Rattle.ext_plan.specs.StoreKeys.{is_there, keys_with, named_key, with_key}
 use Rattle.ext_plan.specs.Labels.{is_label}
 use Rattle.ext_plan.specs.LockNames.{lock_name, lock_names, named_locks, with_name}
 use Rattle.ext_plan.specs.PlanCalls.{locks_in}
 use Rattle.ext_plan.specs.Plans.{KeyText, NodeText}
-use Rattle.ext_plan.proofs.KeyLists.{is_contained, there_kept, there_with}
+use Rattle.ext_plan.proofs.KeyLists.{there_kept, there_with}
 use Rattle.ext_plan.proofs.Lists.{All-map-back, All-parts}
 
 -- ---- keys
@@ -21,9 +21,6 @@ there before [] = All-nil _
 there before (key ∷ more) =
     let now = with_key before (named_key key) in
     All-cons (λ k. is_there (keys_with before (key ∷ more)) (named_key k) ≡ true) key more (there_kept now more (named_key key) (there_with before (named_key key))) (there now more)
-
-pub keys_are_there : (keys : List KeyText) → All (λ key. Contains (different_keys keys) (named_key key)) keys
-keys_are_there keys = All-weaker _ _ (λ key t. is_contained (different_keys keys) (named_key key) t) keys (there [] keys)
 
 -- ---- locks
 

@@ -3,7 +3,6 @@ use Rattle.std.proofs.Common.{Bool, true, false, ◌≡◌, ℕ, ◌+◌, ◌-�
 use Rattle.std.specs.Prelude.{if◌then◌else◌}
 use Rattle.std.proofs.lemmas.List.{take-append-le, take_all}
 use Rattle.ext_model.specs.declared.plain_fault.PlainFault.{PlainFault}
-use Rattle.ext_model.specs.declared.plain_fault.PlainFault.TheVariants as plain
 use Rattle.ext_plan.specs.declared.reason.Reason.TheVariants as reasons
 use Rattle.ext_model.specs.Events.{Reply, Happens, Answers, Refuses, NumbersFull, Busy, Closed, Standing, FaultStanding, Exhausted, Barred}
 use Rattle.ext_model.specs.State.{State}
@@ -34,18 +33,6 @@ reply_ok value (Refuses Barred) x h = absurd cc
 pub keep_refused : (b : Bool) (answer : Option ℕ) (fault : PlainFault) → result_of number_drawn (if b then Happens answer else Refuses NumbersFull) ≡ Some (Err fault) → refusal (if b then Happens answer else Refuses NumbersFull) ≡ Some reasons.NumbersFull
 keep_refused true answer fault is = absurd cc
 keep_refused false answer fault is = refl
-
--- a removal is never refused for want of memory
-pub never_memory : {A : Type 0} (value : Option ℕ → A) (r : Reply) → result_of value r ≡ Some (Err plain.Memory) → ⊥
-never_memory value (Happens answer) is = cc
-never_memory value (Answers answer) is = cc
-never_memory value (Refuses NumbersFull) is = cc
-never_memory value (Refuses Busy) is = cc
-never_memory value (Refuses Closed) is = cc
-never_memory value (Refuses (Standing number)) is = cc
-never_memory value (Refuses (FaultStanding number)) is = cc
-never_memory value (Refuses Exhausted) is = cc
-never_memory value (Refuses Barred) is = cc
 
 -- the last of a list is taken off again
 pub popped : {A : Type 0} (xs : List A) (x : A) (n : ℕ) → n ≡ length xs + 1 → take (n - 1) (xs ++ x ∷ []) ≡ xs

@@ -7,8 +7,8 @@ use Rattle.std.specs.declared.ops.Bound.TheVariants.{Included, Excluded}
 use Rattle.std.specs.BTreeMap.{is_at}
 use Rattle.std.specs.List.{list_any}
 use Rattle.std.specs.Cmp.{nat_cmp_is}
-use Rattle.std.specs.Ordering.{nat_cmp, is_eq, is_gt, ordering_then}
-use Rattle.std.specs.declared.cmp.Ordering.TheVariants.{Less, Equal, Greater}
+use Rattle.std.specs.Ordering.{nat_cmp, is_eq, is_gt}
+use Rattle.std.specs.declared.cmp.Ordering.TheVariants.{Less, Equal}
 use Rattle.std.proofs.lemmas.Bool.Decides.{nat_tests}
 use Rattle.std.proofs.lemmas.Cmp.{by_ranked, ranked}
 use Rattle.ext_model.specs.declared.event.Act.{Act}
@@ -23,7 +23,7 @@ use Rattle.ext_model.specs.declared.slot.Slot.TheVariants as slot
 use Rattle.ext_model.specs.State.{State, look_in, lookup}
 use Rattle.ext_model.specs.Events.{Reply, Happens, Answers, Refuses, put_reply, remove_reply, claim_reply, end_reply, seal_reply, slot_after, is_on}
 use Rattle.ext_model.specs.Closing.{kept_by}
-use Rattle.ext_model.specs.Plain.{Place, Plain, place_cmp, same_place, state_of, under, state_by, any_lane, plain_reply, next_state, result_of, what_stood, IsReply, IsStep, UnlessMemory}
+use Rattle.ext_model.specs.Plain.{Place, Plain, place_cmp, same_place, state_of, state_by, any_lane, plain_reply, next_state, result_of, what_stood, IsReply, IsStep, UnlessMemory}
 use Rattle.ext_model.proofs.Changes.{same_state, same_place_is, here}
 use Rattle.ext_model.proofs.Lookups.{lookup_here, lookup_past}
 use Rattle.ext_model.proofs.Steps.{others_stay}
@@ -77,22 +77,6 @@ both-false false false = refl
 -- a used place isn't spared
 pub used_open : (s : PlaceStore) (place : Place) → is_used s.used place ≡ true → is_spared s place ≡ false
 used_open s place used = ap (λ u. ends_in s.ended place.0 && (nat_lt place.1 s.places && not u)) used ∙ both-false (ends_in s.ended place.0) (nat_lt place.1 s.places)
-
-all-true : (e k u : Bool) → (e && (k && not u)) ≡ true → u ≡ false
-all-true true true true is = absurd (cc is)
-all-true true true false is = refl
-all-true true false u is = absurd (cc is)
-all-true false k u is = absurd (cc is)
-
--- a spared place shows a seal without a number
-pub spared_sealed : (s : PlaceStore) (place : Place) → IsNoted s.store s.used → is_spared s place ≡ true → (shown s).slots place ≡ Some (slot.Sealed None)
-spared_sealed s place noted is =
-    ap (λ b. or_sealed b ((state_of s.store).slots place)) is
-    ∙ ap (or_sealed true) (noted.empty place (all-true (ends_in s.ended place.0) (nat_lt place.1 s.places) (is_used s.used place) is))
-
--- an unused place that isn't spared is empty
-pub unused_empty : (s : PlaceStore) (place : Place) → IsNoted s.store s.used → is_used s.used place ≡ false → is_spared s place ≡ false → (shown s).slots place ≡ None
-unused_empty s place noted unused free = open_slot (is_spared s place) ((state_of s.store).slots place) free ∙ noted.empty place unused
 
 -- nothing stands at an unused place after an act on a used one
 pub noted_after : (n : ℕ) (old new : Plain) (used : BTreeSet Place) (lane : ℕ) (act : Act Place) → ((q : Place) → is_on same_place q act ≡ true → is_used used q ≡ true) → state_of new ≡ next_state n (state_of old) lane act → IsNoted old used → IsNoted new used
@@ -384,12 +368,6 @@ unless (Err (fault.Taken number)) f p = f p
 unless (Err (fault.FaultStands number)) f p = f p
 unless (Err fault.NumbersFull) f p = f p
 unless (Err fault.Memory) f p = p
-
--- what holds of a store that shows the same
-pub answers_as : {A : Type 0} (value : Option ℕ → A) (lane : ℕ) (act : Act Place) (old mid : PlaceStore) (r : Result A PlainFault) → mid.store ≡ old.store → shown mid ≡ shown old → IsAnswer value lane act mid r → IsAnswer value lane act old r
-answers_as value lane act old mid r store same reply =
-    ap (λ t. result_of value (plain_reply (numbers_in old) t lane act)) (sym same)
-    ∙ ap (λ (st : Plain). result_of value (plain_reply st.numbers (shown mid) lane act)) (sym store) ∙ reply
 
 pub moved_as : (lane : ℕ) (act : Act Place) (old mid : PlaceStore) (t : State Place) → mid.store ≡ old.store → shown mid ≡ shown old → t ≡ next_state (numbers_in mid) (shown mid) lane act → t ≡ next_state (numbers_in old) (shown old) lane act
 moved_as lane act old mid t store same step =

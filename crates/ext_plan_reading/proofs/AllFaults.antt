@@ -1,8 +1,8 @@
 -- All faults of a text: what a reading tells, how the lists go on, and that they begin as reading up to the first fault.
-use Rattle.std.proofs.Common.{◌≡◌, ◌≢◌, ℕ, ◌+◌, ◌<◌, Bool, true, false, ◌&&◌, not, if◌then◌else◌, List, [], ◌∷◌, ◌++◌, length, Option, Some, None, Result, Ok, Err, codes, refl, ap, sym, subst, ◌∙◌, append_assoc, append-nil}
+use Rattle.std.proofs.Common.{◌≡◌, ◌≢◌, ℕ, ◌+◌, ◌<◌, Bool, false, ◌&&◌, not, if◌then◌else◌, List, [], ◌∷◌, ◌++◌, length, Option, Some, None, Result, Ok, Err, codes, refl, ap, sym, subst, ◌∙◌, append_assoc, append-nil}
 use Rattle.std.specs.Prelude.{◌==◌, unwrap_or}
 use Rattle.std.specs.Result.{result_err}
-use Rattle.std.proofs.lemmas.Bool.{and_parts, not-true, eqb-true, eqb-false}
+use Rattle.std.proofs.lemmas.Bool.{and_parts, not-true}
 use Rattle.std.proofs.lemmas.List.{length_push}
 use Rattle.toml.specs.Data.{Members, get_member, as_bool, as_str, as_table}
 use Rattle.toml.specs.Parse.{parse_document}
@@ -25,7 +25,6 @@ use Rattle.ext_plan_reading.specs.NodeReading.{Sketch, sketch_at, sketches_after
 use Rattle.ext_plan_reading.specs.Reading.{top_fields, plan_of, plan_of_tables, plan_of_text}
 use Rattle.ext_plan_reading.specs.TopReading.{TopFields, top_at}
 use Rattle.ext_plan_reading.proofs.Gave.{ok_value, both_gave, passed, was_some}
-use Rattle.ext_plan_reading.proofs.Lists.{nil_from_length}
 use Rattle.ext_plan_reading.proofs.Repetitions.{too_many_nodes}
 
 -- ---- what was read
@@ -68,13 +67,6 @@ too_many size labels all fault refused other =
     ap (λ r. faults_behind r (λ _. node_faults labels all None 0 all)) (too_many_nodes size all why.1) ∙ ap (λ e. e ∷ []) (sym why.0)
 
 -- ---- stages
-
-pub first_stage : (found next : List PlanFault) → (length found == 0) ≡ false → or_else found next ≡ found
-first_stage [] next h = absurd (eqb-false 0 0 h refl)
-first_stage (fault ∷ more) next h = refl
-
-pub next_stage : (found next : List PlanFault) → (length found == 0) ≡ true → or_else found next ≡ next
-next_stage found next h = ap (λ l. or_else l next) (nil_from_length found (eqb-true (length found) 0 h))
 
 -- ---- labels
 

@@ -21,12 +21,6 @@ behind segment = codes "." ++ segment.1
 value-at : (id : List Pair) (i k : ℕ) (segment : Pair) → slice_get id i ≡ Some segment → i ≡ k → segment.1 ≡ (get_or id k ([], [])).1
 value-at id i k segment found is = ap (λ s. s.1) (sym (get_or_from_slice_get id i segment ([], []) found) ∙ ap (λ j. get_or id j ([], [])) is)
 
--- an engine alone
-pub one-value : (id : List Pair) (segment : Pair) (name : List ℕ) → length id ≡ 1 → slice_get id 0 ≡ Some segment → name ≡ segment.1 → name ≡ class_name id
-one-value [] segment name one found is = absurd (omega (arith, one))
-one-value (engine ∷ []) segment name one found is = is ∙ value-at (engine ∷ []) 0 0 segment found refl
-one-value (engine ∷ below ∷ more) segment name one found is = absurd (omega (arith, one))
-
 -- the first value below it stands, and the others are to come
 pub first-value : (id : List Pair) (segment : Pair) (name : List ℕ) → 1 < length id → slice_get id 1 ≡ Some segment → name ≡ segment.1 → name ++ flat_map behind (drop 2 id) ≡ class_name id
 first-value [] segment name more found is = absurd (omega (arith, more))

@@ -1,14 +1,13 @@
 -- What a lane does before a waiting form answers, and the answer, said of the whole call.
 use Rattle.std.proofs.Common.{◌≡◌, ◌≢◌, ℕ, zero, suc, ◌⊎◌, inl, inr, List, [], ◌++◌, sym, ap, ◌∙◌, subst, append-nil}
-use Rattle.std.specs.Prelude.{Option, Some, Result, Ok, Err}
-use Rattle.std.proofs.lemmas.List.Elements.{All-nil}
+use Rattle.std.specs.Prelude.{Option, Result, Ok, Err}
 use Rattle.ext_model.specs.declared.event.Act.{Act}
 use Rattle.ext_model.specs.declared.event.Act.TheVariants.{Keep, Put, Remove}
 use Rattle.ext_model.specs.declared.look.Look.{Look}
 use Rattle.ext_model.specs.declared.look.Look.TheVariants as look
-use Rattle.ext_model.specs.History.{History, lane_of, stored_number, reply_after}
+use Rattle.ext_model.specs.History.{History, lane_of, reply_after}
 use Rattle.ext_model.specs.Plain.{number_drawn}
-use Rattle.ext_model.specs.CallActs.{LaneView, Calls, HoldsAtPoint, MayStoreNow}
+use Rattle.ext_model.specs.CallActs.{LaneView, Calls, HoldsAtPoint}
 use Rattle.ext_model.specs.CallActs as model
 use Rattle.ext_history.proofs.Composed.{calls_none, same_number, steps_stay}
 use Rattle.ext_model.proofs.Composed.{calls_compose, later_point, later_answers}
@@ -16,17 +15,14 @@ use Rattle.ext_cells.specs.declared.refusal.CellRefusal.{CellRefusal}
 use Rattle.ext_cells.specs.declared.refusal.CellRefusal.TheVariants as cell
 use Rattle.ext_cells.specs.Lanes.{CellsId, Lane}
 use Rattle.ext_cells.specs.CellCalls as cells
-use Rattle.ext_cells.proofs.Storable.{stays_storable}
 use Rattle.ext_store_core.specs.declared.fault.Refusal.{Refusal}
 use Rattle.ext_store_core.specs.declared.fault.Refusal.TheVariants as refusal
 use Rattle.ext_store_core.specs.declared.claim.Unused.{Unused}
 use Rattle.ext_store_core.specs.declared.claim.Unused.TheVariants.{Found, FaultStands, Refused}
 use Rattle.ext_store_core.specs.ContextCalls.{ContextCells, cell_in, Puts, Removes, with_kept, result_at, put_acts, remove_acts}
 use Rattle.ext_store_core.specs.InnerLooking.{Looks, LooksAt}
-use Rattle.ext_tree.specs.Trees.{IsPathOf}
-use Rattle.ext_store_core.specs.Claiming.{given_up_events, Meets, IsRefused, ClaimsFrom, ClaimsAlong, ClaimsMissing}
+use Rattle.ext_store_core.specs.Claiming.{given_up_events, Meets, IsRefused, ClaimsFrom}
 use Rattle.ext_store_core.specs.Waiting.{Attempt, IsDecided, IsDecidedLook, busy_refused, VainAttempts}
-use Rattle.ext_store_core.proofs.Missing.{missing_along}
 
 -- ---- a lane that made no event yet
 
@@ -46,10 +42,6 @@ waited_more a b c waited same two = elim waited [
   | inr o ↦ inr (same ∙ o.0, calls_compose a.cells.limits a.view b.view c.view [] [] o.1 (subst (λ (z : CellsId). Calls z.limits b.view c.view []) o.0 two))
 ]
 
-pub waited_storable : (a b : Lane) (number : ℕ) → Waited a b → MayStoreNow a.view number → MayStoreNow b.view number
-waited_storable a b number waited now = elim waited [
-  | inl e ↦ subst (λ (l : Lane). MayStoreNow l.view number) (sym e) now
-  | inr o ↦ stays_storable a.cells.limits a.view b.view [] number o.1 (All-nil (λ (act : Act ℕ). stored_number act ≡ Some number → ⊥)) now
 ]
 
 -- a look-up that was answered after that

@@ -1,7 +1,7 @@
 -- The element at an index, and what is said of the last row.
 use Rattle.std.proofs.Common.{◌≡◌, ℕ, ◌-◌, ◌<◌, List, length, get_or, ap, subst, sym, ◌∙◌, arith}
 use Rattle.std.specs.Prelude.{Some, slice_get, slice_set}
-use Rattle.std.proofs.lemmas.Option.{get_or_from_slice_get, slice_get-get_or, slice_get_within}
+use Rattle.std.proofs.lemmas.Option.{get_or_from_slice_get, slice_get-get_or}
 use Rattle.ext_table.specs.Building.{ChangesLast}
 use Rattle.ext_table.specs.declared.row.Row.{Row}
 
@@ -17,8 +17,4 @@ changed_last Changes rows count row changed long some at one = record {
       (changed, subst (λ r. Changes r changed) same one, ap (λ n. slice_set rows (n - 1) changed) long);
 }
 
-pub unchanged_last : {T : Type 0} (Changes : Row T → Row T → Type 0) (rows : List (Row T)) (count : ℕ) → count ≡ length rows → ¬ (0 < count) → ChangesLast Changes rows rows
-unchanged_last Changes rows count long none = record {
-  none = λ e. e;
-  last = λ row there. absurd (let within = slice_get_within rows (length rows - 1) row there in none (omega (arith, long, within)));
 }

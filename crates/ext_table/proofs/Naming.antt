@@ -3,7 +3,7 @@ use Rattle.std.proofs.Common.{◌≡◌, ◌≢◌, ℕ, zero, suc, ◌+◌, ◌
 use Rattle.std.specs.Prelude.{All, Contains, Some, String, slice_get, string_bytes}
 use Rattle.std.specs.declared.alloc.Global.{Global}
 use Rattle.std.proofs.lemmas.Bool.{cases_lt}
-use Rattle.std.proofs.lemmas.List.{length-map, get_or_default, map-append}
+use Rattle.std.proofs.lemmas.List.{length-map, get_or_default}
 use Rattle.std.proofs.lemmas.Option.{slice_get-get_or}
 use Rattle.ext_table.specs.Tables.{texts_in}
 use Rattle.ext_table.specs.declared.row.NamedLock.{NamedLock}
@@ -24,9 +24,6 @@ pub not_among : (names : List (String Global)) (i : ℕ) (name : List ℕ) → l
 not_among names i name all before among =
     let long = length-map names (λ (s : String Global). string_bytes s) in
     before among.0 (omega (arith, all, long, among.1)) (get_or_default (texts_in names) among.0 [] name among.1 ∙ among.2)
-
-pub pushed_text : (names : List (String Global)) (new : String Global) (name : List ℕ) → string_bytes new ≡ name → texts_in (names ++ new ∷ []) ≡ texts_in names ++ name ∷ []
-pushed_text names new name is = map-append (λ (s : String Global). string_bytes s) names (new ∷ []) ∙ ap (λ n. texts_in names ++ n ∷ []) is
 
 pub pushed_at : (texts : List (List ℕ)) (name : List ℕ) (count : ℕ) → count ≡ length texts → slice_get (texts ++ name ∷ []) count ≡ Some name
 pushed_at [] name count is = ap (λ n. slice_get (name ∷ []) n) is
