@@ -57,7 +57,6 @@ module _ {T O : Type 0} (items : List T) where
     loads s kept same at small = (me.0, keeps, tt, stays s kept at, loaded s kept at)
 
     module _ (drew : me.0.draws ≡ jobs_of (done_by me)) (no_end : ends (length items) me.0.draws ≡ 0) (holds : HoldsOutcome me.1) where
-
       abbrev next : ℕ → Drawn T O
       next j = drawn me.0.parts (me.0.draws ++ j ∷ []) (done_by me) me.0.items
 

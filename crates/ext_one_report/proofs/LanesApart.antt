@@ -41,6 +41,11 @@ module _ {V : Type 0} where
     | inr later ↦ contains_later (number_of x) (map number_of xs) m (among_taken n m xs later)
   ]
 
+  among_left : (n m : ℕ) (xs : List (StoreLane V)) → Contains (map number_of (drop n xs)) m → Contains (map number_of xs) m
+  among_left zero m xs there = there
+  among_left (suc n) m [] there = there
+  among_left (suc n) m (x ∷ xs) there = contains_later (number_of x) (map number_of xs) m (among_left n m xs there)
+
   pub apart_taken : (n : ℕ) (xs : List (StoreLane V)) → AreApart xs → AreApart (take n xs)
   apart_taken zero xs apart = tt
   apart_taken (suc n) [] apart = tt
@@ -77,6 +82,12 @@ module _ {V : Type 0} (h : History) where
       let some = made_there (take n xs) ys place first in
       apart_both n xs some.0.lane apart (maker_among (take n xs) ys place some.0 some.1 first) (maker_among (drop n xs) zs place some.0 some.1 second)
     where
+      apart_both : (n : ℕ) (xs : List (StoreLane V)) (m : ℕ) → AreApart xs → Contains (map (λ lane. lane.cells.view.number) (take n xs)) m → Contains (map (λ lane. lane.cells.view.number) (drop n xs)) m → ⊥
+      apart_both zero xs m apart first second = contains_none m first
+      apart_both (suc n) [] m apart first second = contains_none m first
+      apart_both (suc n) (x ∷ xs) m apart first second = elim (contains_cons x.cells.view.number (map (λ lane. lane.cells.view.number) (take n xs)) m first) [
+        | inl here ↦ apart.0 (subst (λ k. Contains (map (λ lane. lane.cells.view.number) xs) k) (sym here) (among_left n m xs second))
+        | inr later ↦ apart_both n xs m apart.1 later second
       ]
 
   -- ---- what is made in a part is made in the whole

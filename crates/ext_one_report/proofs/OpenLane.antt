@@ -58,9 +58,9 @@ use Rattle.ext_one_report.proofs.OwnCell.{OnlyAt}
 use Rattle.ext_one_report.proofs.Standings.{matched_empty}
 use Rattle.ext_one_report.proofs.StepLooks.{has_room, lane_shows, said}
 use Rattle.ext_one_report.proofs.Open.{AreOpenBeside, Given, IsEntry, IsFault, MayStand, Means, OnlyComputed, Open, Stands, left_slot, of_fault, of_nothing, of_value}
-use Rattle.ext_one_report.proofs.OpenFills.{ComputesOrNot, FillsNothing, nothing_quiet, vain_nothing}
+use Rattle.ext_one_report.proofs.OpenFills.{ComputesOrNot, FillsNothing, nothing_quiet, nothing_then, vain_nothing}
 use Rattle.ext_one_report.proofs.OpenPlain.{counted, look_first, own_fault}
-use Rattle.ext_one_report.proofs.OwnEvents.{ActsOn, acts_called, acts_given_up, acts_quiet, matches_at, near_at, stands_on, vain_acts}
+use Rattle.ext_one_report.proofs.OwnEvents.{ActsOn, acts_called, acts_given_up, acts_quiet, acts_then, matches_at, near_at, stands_on, vain_acts}
 
 -- ---- what a look-up shows where what is computed may stand
 
@@ -363,6 +363,18 @@ module _ (run : RunView) (places : Places) (open_at : Open) (view : IsRunView ru
         found = ends.found_are;
         acts = acts_then (cell_of run number context) a.cells.view mid b.cells.view vain (acts_given_up run.store context number limits mid b.cells.view calls);
       }
+
+      nothing_result : limits.keep_faults ≡ false → (result : Compute StoredValue (Unit {0})) → ComputesFrom limits run.store context ancestors number mid b.cells.view result → (between : PlanLane)
+          → EndsComputeFail name label text result between o b → LaneFails run context number a o b
+      unfolding ComputesFrom
+      nothing_result keeps (computes.Computed n) from between ends = absurd ends
+      nothing_result keeps (computes.Found at n unused) from between ends = absurd (subst (λ g. IsEntry run.meaning g n) v_is (entry_met at n (meeting (look.Found at n) (λ same. cc same) from)).1)
+      nothing_result keeps (computes.Failed why) from between ends = given_back from.2 ends.1
+      nothing_result keeps (computes.FaultKept n) from between ends = absurd (cc (sym keeps ∙ from.0))
+      nothing_result keeps (computes.FaultUnkept why cause) from between ends = absurd (unkept_there cause ends.1)
+      nothing_result keeps (computes.FaultStands at n unused) from between ends = absurd (subst (λ g. IsFault run.meaning g n) v_is (fault_met at n (meeting (look.Fault at n) (λ same. cc same) from)).1)
+      nothing_result keeps (computes.Unkept other cause) from between ends = absurd ends
+      nothing_result keeps (computes.Refused why unused) from between ends = absurd (refused_there why from ends.1)
 
   -- ---- along its path
 

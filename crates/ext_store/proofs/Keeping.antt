@@ -93,7 +93,6 @@ decided_back number said r is decided = subst (λ x. IfErr x (λ e. IsDecided e.
     decides (Err why) d = d
 
 module _ {V : Type 0} (store : ContextCells) (context key : ℕ) (before after : StoreLane V) (same : after.known ≡ before.known) where
-
   pub remove_keeps : (r : Result (Option ℕ) Refusal) → Calls before.cells.cells.limits before.cells.view after.cells.view (remove_acts (cell_in store key context) r) → StillKeeps before after
   remove_keeps (Ok None) calls = quiet_keeps before.cells.cells.limits before after calls same
   remove_keeps (Ok (Some number)) calls = removed_keeps before.cells.cells.limits before after (cell_in store key context) calls same

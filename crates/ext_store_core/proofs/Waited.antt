@@ -42,8 +42,6 @@ waited_more a b c waited same two = elim waited [
   | inr o ↦ inr (same ∙ o.0, calls_compose a.cells.limits a.view b.view c.view [] [] o.1 (subst (λ (z : CellsId). Calls z.limits b.view c.view []) o.0 two))
 ]
 
-]
-
 -- a look-up that was answered after that
 pub looks_later : (store : ContextCells) (path : List ℕ) (key : ℕ) (a b c : Lane) (found : Look) → Waited a b → LooksAt store path key b c found → LooksAt store path key a c found
 looks_later store path key a b c found waited x = elim waited [

@@ -16,5 +16,3 @@ changed_last Changes rows count row changed long some at one = record {
       let same : row ≡ other = at ∙ ap (λ n. get_or rows (n - 1) row) long ∙ get_or_from_slice_get rows (length rows - 1) other row there in
       (changed, subst (λ r. Changes r changed) same one, ap (λ n. slice_set rows (n - 1) changed) long);
 }
-
-}
