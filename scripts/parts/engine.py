@@ -1,4 +1,4 @@
-"""Runs the proved example engine, and compares what it prints with the files of crates/demo_engine.
+"""Runs the example engine, the proved one if no other is given, and compares what it prints with the files of crates/demo_engine.
 
 Its `stdout` is the program's report. The comment at the head of src/main.rt has a picture that `--lanes-over-time` adds: which lane ran which test when differs from run to run, but
 the picture has that form, and shows what the locks forbid. Nothing is left of the run's folder, though tests fail. Once more it runs where no file can grow: the factory of the database
@@ -12,7 +12,7 @@ import tempfile
 
 TOP = pathlib.Path(__file__).resolve().parent.parent.parent
 CRATE = TOP / "crates" / "demo_engine"
-PROGRAM = CRATE / "out" / "demo_engine"
+PROVED = CRATE / "out" / "demo_engine"
 EXAMPLE = TOP / "examples" / "cases" / "engine.report"
 LINE = re.compile(r"(\[engine:demo\]\S*\[(?:test|row):([a-z]+|#\d)\]) +\|(\.*)(([0-3])\5*)(\.*)\|")
 TESTS = ["gift", "loan", "letter", "parcel", "lease", "alone", "sum", "eve", "#1", "#2"]
@@ -28,12 +28,12 @@ def shown_picture():
     return lines[lines.index("```text") + 1 : lines.index("```")]
 
 
-def run(*words, may_write=True):
+def run(program, *words, may_write=True):
     """What the program prints, its exit status, and what it leaves in the folder for temporary files. Where it may not write, each write to a file fails."""
     limits = [] if may_write else [(resource.RLIMIT_FSIZE, (0, 0))]
     with tempfile.TemporaryDirectory(prefix="engine-example-") as folder:
         ran = subprocess.run(
-            [PROGRAM, *words], env={"TMPDIR": folder}, capture_output=True, text=True, timeout=120, restore_signals=may_write,
+            [program, *words], env={"TMPDIR": folder}, capture_output=True, text=True, timeout=120, restore_signals=may_write,
             preexec_fn=lambda: [resource.setrlimit(*it) for it in limits],
         )  # fmt: skip
         left = list(pathlib.Path(folder).iterdir())
@@ -53,11 +53,12 @@ def are_apart(spans, one, other):
     return len(set(spans[one]) & set(spans[other])) <= 1
 
 
-def main(_program, _words):
+def main(given, _words):
+    program = given if pathlib.Path(given).name == PROVED.name else PROVED
     report = lines_of(CRATE / "stdout")
     rows = TESTS[8:]
     count = len(TESTS)
-    plain, drawn_run, failing = run(), run("--lanes-over-time"), run(may_write=False)
+    plain, drawn_run, failing = run(program), run(program, "--lanes-over-time"), run(program, may_write=False)
     drawn = drawn_run[0]
     picture = drawn[len(report) - 1 : -1]
     spans = spans_in(picture)

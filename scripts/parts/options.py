@@ -1,7 +1,6 @@
-"""Runs the proved trial engine, crates/trial_engine, with each option of the command line that engines have, and compares what comes out with what has to. Prints a line for each case.
+"""Runs the trial engine, crates/trial_engine, the proved one if no other is given, with each option of the command line that engines have, and compares what comes out with what has to. Prints a line for each case.
 
-What a case says is written here, by docs/ENGINES.md. Times are compared as `T`. The XML is read by Python's own parser. A further word is another program to run; with
-`--write` the sessions at terminals are written to examples/sessions in place of being compared.
+What a case says is written here, by docs/ENGINES.md. Times are compared as `T`. The XML is read by Python's own parser. With `--write` the sessions at terminals are written to examples/sessions in place of being compared.
 """
 import json
 import os
@@ -17,7 +16,7 @@ import xml.etree.ElementTree
 from parts.terminal import read_all
 
 TOP = pathlib.Path(__file__).resolve().parent.parent.parent
-PROGRAM = TOP / "crates" / "trial_engine" / "out" / "trial_engine"
+PROVED = TOP / "crates" / "trial_engine" / "out" / "trial_engine"
 SESSIONS = TOP / "examples" / "sessions"
 MANY = 1000
 
@@ -204,9 +203,9 @@ def sessions(program, writing):
         yield f"a session at {columns} columns is that of examples/sessions", status == 1 and path.is_file() and shown == path.read_text(encoding="utf-8")
 
 
-def main(_program, words):
+def main(given, words):
     writing = "--write" in words
-    program = next((it for it in words if it != "--write"), PROGRAM)
+    program = given if pathlib.Path(given).name == PROVED.name else PROVED
     with tempfile.TemporaryDirectory(prefix="options-") as name:
         folder = pathlib.Path(name)
         cases = [

@@ -22,7 +22,7 @@ use Rattle.ext_locks.specs.Refusals.{lock_of, undone, steps_to_take, steps_to_re
 use Rattle.ext_locks.specs.InnerSteps.{lane_at, Makes, AddsAtMost, HoldsBetween, HeldBut, IsWithin, Missed}
 use Rattle.ext_locks.proofs.Holding.{passed, took, passed_back, gave, none_between, all_between, has_own}
 use Rattle.ext_locks.proofs.Lists.{wants_modes, locks_more, locks_same, below_take}
-use Rattle.ext_locks.proofs.Fronts.{makes_self, makes_quiet}
+use Rattle.ext_locks.proofs.Fronts.{makes_self, makes_then, makes_quiet}
 
 -- each lock more takes a load and the exchanges of its tries
 more_locks : (n t : ℕ) → (n + 1) * (t + 1) ≡ n * (t + 1) + (t + 1)
