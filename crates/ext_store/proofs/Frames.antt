@@ -1,6 +1,6 @@
 -- The laws of frames, and the frames of calls.
 use Rattle.std.proofs.Common.{◌≡◌, ◌≢◌, inl, inr, ℕ, List, [], ◌∷◌, ◌++◌, map, sym, refl, ap, ◌∙◌, subst, arith}
-use Rattle.std.specs.Prelude.{All, Contains, Option, Result, Ok, Err}
+use Rattle.std.specs.Prelude.{All, Contains, Option, None, Result, Ok, Err}
 use Rattle.std.proofs.lemmas.List.Elements.{All-nil, All-cons, All-head, All-tail, Contains-append_left, Contains-append_right, Contains-push, Contains-push_cases}
 use mathlib.Core.List.{IsPrefix}
 use base.Growing.{prefix_trans}
@@ -14,13 +14,13 @@ use Rattle.ext_history.proofs.Composed.{calls_none}
 use Rattle.ext_model.proofs.Composed.{calls_compose}
 use Rattle.ext_tree.specs.Keys.{KeepsKeys, key_places_of}
 use Rattle.ext_tree.proofs.KeyPlacing.{keeps_all, keeps_both}
-use Rattle.ext_values.specs.Known.{KeepsKnown, known_at, slots_of}
+use Rattle.ext_values.specs.Known.{KeepsKnown, Learns, known_at, slots_of}
 use Rattle.ext_cells.specs.Lanes.{CellsId, Lane}
 use Rattle.ext_store_core.specs.declared.fault.Refusal.{Refusal}
 use Rattle.ext_store_core.specs.ContextCalls.{ContextCells, cell_in}
 use Rattle.ext_store.specs.Stores.{StoreId, StoreLane, IsKeptBy, IsLaneOf, IsOnCells, StillKeeps, StillKeepsBut}
 use Rattle.ext_store.specs.LaneCalls.{put_acts, remove_acts, Frame, Grows, KeepsAllBut, Makes, Stays, stored_by}
-use Rattle.ext_store.proofs.Keeping.{quiet_keeps, stored_keeps, remove_keeps}
+use Rattle.ext_store.proofs.Keeping.{quiet_keeps, stored_keeps, remove_keeps, unplaced_keeps, learnt_keeps}
 
 nowhere : (number : ℕ) → Contains [] number → ⊥
 nowhere number at = let less = at.1 in absurd (omega (arith, less))
@@ -80,6 +80,11 @@ module _ {V : Type 0} (id : StoreId) where
       keys = keys;
       kept = λ number other kept. keeps number (λ same. other (subst (Contains (stored ∷ [])) (sym same) (Contains-push [] stored))) kept;
     }
+
+    -- and of one that made no step on the cells
+    pub framed_still : b.cells ≡ a.cells → StillKeeps a b → Frame id [] a b
+    unfolding Frame
+    framed_still still keeps = record { lane = after; steps = ([], inl (still, refl)); known = known; faults = faults; keys = keys; kept = λ number other kept. keeps number kept }
 
 -- a frame says that the lane is of the store
 pub frame_lane : {V : Type 0} (id : StoreId) (stored : List ℕ) (a b : StoreLane V) → Frame id stored a b → IsLaneOf id b
@@ -178,6 +183,15 @@ module _ {V : Type 0} (id : StoreId) (inside a b : StoreLane V) (is : inside ≡
 
   -- that drew a number, whose value it knows now or not,
   module _ (after : IsLaneOf id b) (drawn : ℕ) (calls : Calls inside.cells.cells.limits inside.cells.view b.cells.view (Keep drawn ∷ [])) where
+    pub unplaced_frame : IsOnCells inside b → Frame id [] a b
+    unplaced_frame on_cells = frame_of on_cells (Keep drawn ∷ []) calls (unplaced_keeps inside.cells.cells.limits inside b drawn calls (ap (λ (l : StoreLane V). l.known) on_cells))
+
+    pub learnt_frame : (value : V) → KeepsKnown inside.known b.known → KeepsKnown inside.faults b.faults → KeepsKeys inside.keys b.keys → Learns inside.known b.known drawn value → known_at inside.known drawn ≡ None → Frame id [] a b
+    learnt_frame value knows knows_faults knows_keys learns free = subst (λ l. Frame id [] l b) is (framed id inside b own after knows knows_faults knows_keys (Keep drawn ∷ []) calls (learnt_keeps inside.cells.cells.limits inside b drawn value calls learns free))
+
+  -- or made no step at all
+  pub still_frame : b.cells ≡ inside.cells → IsLaneOf id b → KeepsKnown inside.known b.known → KeepsKnown inside.faults b.faults → KeepsKeys inside.keys b.keys → StillKeeps inside b → Frame id [] a b
+  still_frame still after knows knows_faults knows_keys keeps = subst (λ l. Frame id [] l b) is (framed_still id inside b own after knows knows_faults knows_keys still keeps)
 
 -- ---- one history
 

@@ -1,6 +1,6 @@
 -- What a call leaves of the numbers that a lane keeps, and what the drawing of a number says.
 use Rattle.std.proofs.Common.{◌≡◌, ◌≢◌, ℕ, ◌+◌, ◌≤◌, length, length-drop, Bool, true, false, List, [], ◌∷◌, sym, refl, ap, ◌∙◌, subst, arith, nat_lt, Option, None, Some}
-use Rattle.std.specs.Prelude.{Result, Ok, Err, All, IfErr, if◌then◌else◌}
+use Rattle.std.specs.Prelude.{Result, Ok, Err, All, IfErr, MatchResult, if◌then◌else◌}
 use Rattle.std.proofs.lemmas.List.Elements.{All-nil, All-cons}
 use Rattle.std.proofs.lemmas.Bool.Decides.{nat_tests}
 use Rattle.ext_model.specs.declared.event.Act.{Act}
@@ -19,7 +19,7 @@ use Rattle.ext_store_core.specs.declared.fault.Refusal.{Refusal}
 use Rattle.ext_store_core.specs.ContextCalls.{ContextCells, cell_in}
 use Rattle.ext_store.specs.Stores.{StoreView, StoreLane, IsKeptBy, StillKeeps, StillKeepsBut}
 use Rattle.ext_store.specs.InnerKeeping.{keep_fault}
-use Rattle.ext_store.specs.LaneCalls.{HoldsAtPoint, reply_to, steps_of, with_kept, remove_acts, KeepFails}
+use Rattle.ext_store.specs.LaneCalls.{HoldsAtPoint, reply_to, steps_of, with_kept, put_acts, remove_acts, KeepFails}
 use Rattle.ext_store.specs.Waiting.{IsDecided}
 
 -- where two are there, they are one
@@ -93,6 +93,11 @@ decided_back number said r is decided = subst (λ x. IfErr x (λ e. IsDecided e.
     decides (Err why) d = d
 
 module _ {V : Type 0} (store : ContextCells) (context key : ℕ) (before after : StoreLane V) (same : after.known ≡ before.known) where
+  pub put_keeps : (number : ℕ) (r : Result (Option ℕ) (ℕ × Refusal)) → Calls before.cells.cells.limits before.cells.view after.cells.view (put_acts (cell_in store key context) number r)
+      → MatchResult r (λ _. StillKeepsBut number before after) (λ _. StillKeeps before after)
+  put_keeps number (Ok stood) calls = stored_keeps before.cells.cells.limits before after (cell_in store key context) number calls same
+  put_keeps number (Err e) calls = quiet_keeps before.cells.cells.limits before after calls same
+
   pub remove_keeps : (r : Result (Option ℕ) Refusal) → Calls before.cells.cells.limits before.cells.view after.cells.view (remove_acts (cell_in store key context) r) → StillKeeps before after
   remove_keeps (Ok None) calls = quiet_keeps before.cells.cells.limits before after calls same
   remove_keeps (Ok (Some number)) calls = removed_keeps before.cells.cells.limits before after (cell_in store key context) calls same

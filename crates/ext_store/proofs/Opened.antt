@@ -1,5 +1,5 @@
 -- What the opening of a store says of its limits, where it is refused and where it is not.
-use Rattle.std.proofs.Common.{◌≡◌, ◌≤◌, ◌*◌, ℕ, arith}
+use Rattle.std.proofs.Common.{◌≡◌, ◌≤◌, ◌*◌, ℕ, refl, arith}
 use Rattle.std.proofs.Math.Nat.{mul-le-mul}
 use Rattle.std.specs.Prelude.{◌↔◌, Result, Ok, Err}
 use Rattle.ext_model.specs.Sizes.{most_lanes, most_numbers}
@@ -7,13 +7,17 @@ use Rattle.ext_model.specs.declared.size.Size.{Size}
 use Rattle.ext_model.specs.declared.size.Size.TheVariants.{Usual, Large}
 use Rattle.ext_cells.specs.Lanes.{AreLimits}
 use Rattle.ext_store.specs.declared.limits.StoreFault.{StoreFault}
-use Rattle.ext_store.specs.declared.limits.StoreFault.TheVariants.{BadLimit}
+use Rattle.ext_store.specs.declared.limits.StoreFault.TheVariants.{BadLimit, Memory}
 use Rattle.ext_store.specs.Stores.{AreStoreLimits}
-use Rattle.ext_store.specs.Opening.{places_for}
+use Rattle.ext_store.specs.Opening.{IsNotOpened, places_for}
 
 module _ {A : Type 0} (size : Size) (keys lanes tries numbers : ℕ) where
   abbrev BadOf : Result A StoreFault → Type 0
   BadOf r = (r ≡ Err BadLimit) ↔ (¬ AreStoreLimits size keys lanes tries numbers)
+
+  pub refused_bad : (why : StoreFault) → IsNotOpened size keys lanes tries numbers why → BadOf (Err why)
+  refused_bad BadLimit is = (λ _. is, λ _. refl)
+  refused_bad Memory is = (λ e. absurd (cc e), λ not. absurd (not is))
 
   pub opened_bad : (parts : A) → AreStoreLimits size keys lanes tries numbers → BadOf (Ok parts)
   opened_bad parts within = (λ e. absurd (cc e), λ not. absurd (not within))

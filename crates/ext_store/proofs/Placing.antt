@@ -1,6 +1,6 @@
 -- What all clauses of `keep` and of `keep_wait` say together, by what was drawn and what became of it.
 use Rattle.std.proofs.Common.{◌≡◌, ◌≢◌, ◌≤◌, arith, length, ℕ, List, [], ◌∷◌, sym, refl, ap, ◌∙◌, subst}
-use Rattle.std.specs.Prelude.{Result, Ok, Err, IfOk, MatchResult}
+use Rattle.std.specs.Prelude.{Result, Ok, Err, IfOk, IfErr, MatchResult}
 use Rattle.ext_model.specs.declared.event.Act.{Act}
 use Rattle.ext_model.specs.declared.event.Act.TheVariants.{Keep}
 use Rattle.ext_history.specs.Histories.{seen_by}
@@ -10,12 +10,14 @@ use Rattle.ext_tree.proofs.KeyPlacing.{keeps_all}
 use Rattle.ext_values.specs.Slots.{IsNumber}
 use Rattle.ext_values.specs.Known.{Known, KeepsKnown, LearnsOne, known_at, slots_of}
 use Rattle.ext_cells.specs.declared.refusal.CellRefusal.{CellRefusal}
+use Rattle.ext_cells.specs.declared.refusal.CellRefusal.TheVariants as cell
 use Rattle.ext_cells.specs.Lanes.{CellsId, Lane}
 use Rattle.ext_cells.specs.CellCalls as cells
 use Rattle.ext_store.specs.declared.fault.KeepFault.{KeepFault}
 use Rattle.ext_store.specs.declared.fault.KeepFault.TheVariants.{Memory, Unplaced}
 use Rattle.ext_store.specs.Stores.{StoreView, StoreLane, IsKeptBy, IsLaneOf, StillKeeps}
 use Rattle.ext_store.specs.LaneCalls.{Frame, KeepFails, KeepsAs, KeepsNothing, KnowsUnkept}
+use Rattle.ext_store.specs.Waiting.{IsDecidedFault}
 use Rattle.ext_store.specs.InnerKeeping.{IsOfCount, keep_fault, IsInSlot, SlotsDrawn}
 use Rattle.ext_store.proofs.Keeping.{quiet_keeps, found_keeps, learnt_keeps, drew, drew_number, drew_none, not_both}
 use Rattle.ext_store.proofs.NewDraws.{drawn_apart, draws_new, knows_undrawn}
@@ -118,3 +120,16 @@ pub drawn_fits : (store : StoreView) (tries : ℕ) → tries ≡ store.tries →
     → (slots : List ℕ) → before.cells.limits.numbers ≡ length slots → MatchResult drawn (IsNumber slots) IsOfCount
 drawn_fits store tries same before after (Ok number) answers slots numbers = let d = drew_number store tries before after same number answers in (omega (arith, d.0), subst (λ n. number ≤ n) numbers d.1)
 drawn_fits store tries same before after (Err why) answers slots numbers = draw_refusal tries before after why answers
+
+-- a draw that other lanes were not in the way of gives no fault of that kind
+pub decided_by_drawn : {V : Type 0} (slots : List ℕ) (value : V) (drawn : Result ℕ CellRefusal) (before after : List (Known V)) (r : Result ℕ (V × KeepFault)) → drawn ≢ Err cell.Contended → MatchResult drawn (IsNumber slots) IsOfCount
+    → SlotsDrawn value drawn before after r → IfErr r (λ e. IsDecidedFault e.1)
+decided_by_drawn slots value drawn before after (Ok number) ne fits p = tt
+decided_by_drawn slots value (Ok n) before after (Err (back, why)) ne fits p = subst IsDecidedFault (sym p.1.0) tt
+decided_by_drawn slots value (Err cell.NumbersFull) before after (Err (back, why)) ne fits p = subst IsDecidedFault (sym p.1.0) tt
+decided_by_drawn slots value (Err cell.Contended) before after (Err (back, why)) ne fits p = absurd (ne refl)
+decided_by_drawn slots value (Err cell.Busy) before after (Err (back, why)) ne fits p = absurd fits
+decided_by_drawn slots value (Err cell.Closed) before after (Err (back, why)) ne fits p = absurd fits
+decided_by_drawn slots value (Err cell.Exhausted) before after (Err (back, why)) ne fits p = absurd fits
+decided_by_drawn slots value (Err cell.Memory) before after (Err (back, why)) ne fits p = absurd fits
+decided_by_drawn slots value (Err cell.BadLimit) before after (Err (back, why)) ne fits p = absurd fits
