@@ -5,7 +5,8 @@ use crate::rows::{FOUR_LANES, PLAIN};
 use crate::same::same;
 use ext_model::Fault;
 use ext_run::{
-    Call, FaultOrigin, Kind, NodeResult, Options, ReportForm, RunListener, Size, plan_of, run_plan,
+    Call, FaultOrigin, Kind, NodeResult, Options, ReportForm, RunListener, Size, plan_of,
+    report_text, run_plan,
 };
 use std::alloc::Global;
 use std::process::Abort;
@@ -189,7 +190,8 @@ fn is_next(before: Option<u64>, origin: FaultOrigin, fault: &Fault) -> bool {
     text.as_str() == wanted && origin == at
 }
 
-/// Runs the plan so, with this listener, and asserts that a node failed. Gives the report.
+/// Runs the plan so, with this listener, and asserts that a node failed and that the report is that
+/// of the results which are handed back. Gives the report.
 fn failing_report<R: Threads + Wait + Sync + Abort, L: RunListener + Sync>(
     rt: &R,
     alloc: Global,
@@ -201,9 +203,11 @@ fn failing_report<R: Threads + Wait + Sync + Abort, L: RunListener + Sync>(
 {
     let plan = plan_of(alloc, plan.as_bytes(), options.size)?;
     let mut written = Vec::new(alloc);
-    let summary = run_plan(rt, alloc, &mut written, &plan, options, listener)?;
-    same(rt, summary.failed, true, "whether a node failed");
+    let ran = run_plan(rt, alloc, &mut written, &plan, options, listener)?;
+    same(rt, ran.summary.failed, true, "whether a node failed");
     let text = std::str::from_utf8(written.as_slice()).map_err(|_| "the report is text")?;
+    let again = report_text(alloc, plan.tree(), ran.results.as_slice())?;
+    same(rt, again.as_str(), text, "the report of the results");
     Ok(String::from_str(alloc, text)?)
 }
 
