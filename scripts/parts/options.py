@@ -115,6 +115,8 @@ def running(program):
     rows = Ran(program, ["Rows", "--report", "tree"])
     storing = Ran(program, ["Storing", "--report", "text"])
     callbacks = Ran(program, ["Callbacks", "--report", "text"])
+    # (A job in the background has this signal ignored, and so has what it starts.)
+    signal.signal(signal.SIGINT, signal.default_int_handler)
     interrupted = subprocess.Popen([program, "Slow"], stdout=subprocess.DEVNULL, stderr=subprocess.DEVNULL, env={})
     interrupted.send_signal(signal.SIGINT)
     yield "--lanes 2 runs two tests at once", together.out == "2 tests in T: 2 passed\n" and together.status == 0

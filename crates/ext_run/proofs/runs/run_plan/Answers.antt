@@ -1,4 +1,5 @@
-use Rattle.std.proofs.Common.{Ok, subst, sym}
+use Rattle.std.proofs.Common.{Ok, subst, sym, ◌∙◌}
+use Rattle.std.specs.Io.KnownBytes.{Appends}
 use Rattle.ext_plan_reading.specs.Plans.{plan_view}
 use Rattle.ext_run.specs.OneReports.{ReportsOne}
 use Rattle.ext_run.specs.Reports.{IsRunFault, RefusedAs, Reports}
@@ -30,3 +31,8 @@ returns-clause-written g c = reported (Reports c.args.options (Ok (plan_view c.a
 
 pub returns-clause-one_report : goal.returns-clause-one_report
 returns-clause-one_report g c = reported (ReportsOne c.args.options (Ok (plan_view c.args.plan.now))) _ _ _ _ _ c.in_ok-output.ensures.one c.as_slice.ensures.value c.in_ok-write_whole.ensures.written
+
+pub returns-clause-results : goal.returns-clause-results
+returns-clause-results g c =
+    subst (Appends (g.W.Write.contents c.args.writer.now) (g.W.Write.contents c.write_whole.new.writer)) (c.as_slice.ensures.value ∙ c.in_ok-output.ensures.report)
+    c.in_ok-write_whole.ensures.written
