@@ -1,10 +1,10 @@
-use Rattle.std.proofs.Common.{codes, refl, subst, ◌∙◌}
+use Rattle.std.proofs.Common.{codes, refl, subst}
 use Rattle.clap.specs.Matches.{found_of}
-use Rattle.clap.proofs.WalkLemmas.{first_value-rows, one_text-rows}
+use Rattle.clap.proofs.WalkLemmas.{one_text-rows}
 use Rattle.extrun.specs.Flags.{IsFlag}
 use Rattle.extrun.proofs.command.plan_request.Goals as goal
 
 pub returns : goal.returns
 returns c =
     let found = found_of c.args.words.now in
-    (refl, c.in_ok-file_of.ensures ∙ first_value-rows found (codes "FILE"), subst (λ text. IsFlag text c.is_set.result) (one_text-rows found (codes "explain")) c.is_set.ensures, subst (λ text. IsFlag text c.is_set-2.result) (one_text-rows found (codes "brief")) c.is_set-2.ensures)
+    ((refl, refl), subst (λ text. IsFlag text c.is_set.result) (one_text-rows found (codes "explain")) c.is_set.ensures, subst (λ text. IsFlag text c.is_set-2.result) (one_text-rows found (codes "brief")) c.is_set-2.ensures)
