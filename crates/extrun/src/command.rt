@@ -102,7 +102,7 @@ pub(crate) enum Task {
 pub(crate) struct Asides {
     /// How far it is.
     pub(crate) progress: bool,
-    /// The slowest nodes, at the end.
+    /// How long its slowest tests took, at the end.
     pub(crate) durations: bool,
     /// All faults of its nodes, behind all else.
     pub(crate) failures: bool,
