@@ -35,7 +35,7 @@ pub record Ran : Type 0 where
 
 -- The results, where each node that ran has its own.
 abbrev pub with_results : List (ResultOf Fault) → List Ran → List (ResultOf Fault)
-with_results results [] = places
+with_results results [] = results
 with_results results (r ∷ rs) = with_results (slice_set results r.result.node r.result) rs
 
 -- Before any node ran, each is skipped.
