@@ -1,10 +1,8 @@
-use Rattle.std.proofs.Common.{Result, Ok, Err}
+use Rattle.std.proofs.Common.{Ok}
 use Rattle.ext_plan_reading.specs.Plans.{plan_view}
 use Rattle.ext_run.specs.OneReports.{ReportsOne}
 use Rattle.ext_run.specs.Reports.{RefusedPlan, Reports}
-use Rattle.ext_run.specs.declared.fault.RunFault.{RunFault}
-use Rattle.ext_run.specs.declared.options.Summary.{Summary}
-use Rattle.ext_run.proofs.RunReports.{of_whole, refused, written}
+use Rattle.ext_run.proofs.RunReports.{of_whole, written}
 use Rattle.ext_run.proofs.runs.run.Goals as goal
 
 pub returns-in-Err-clause-refused : goal.returns-in-Err-clause-refused
@@ -21,9 +19,3 @@ pub returns-in-Ok-run_plan-clause-one_report : goal.returns-in-Ok-run_plan-claus
 returns-in-Ok-run_plan-clause-one_report g c =
     let input = c.in_ok-input.ensures in
     written c.args.options.size _ _ _ input.whole input.short c.as_slice.ensures.value (ReportsOne c.args.options) (plan_view c.in-Ok.plan) (Ok c.in-Ok-run_plan.ran.summary) _ c.in-Ok.ensures.read c.in-Ok-run_plan.ensures.one_report
-
-pub returns-in-Err-run_plan-clause-refused : goal.returns-in-Err-run_plan-clause-refused
-returns-in-Err-run_plan-clause-refused g c =
-    let input = c.in_ok-input.ensures in
-    let refusal : Result Summary RunFault = Err c.in-Err-run_plan.fault in
-    refused c.args.options.size _ _ _ input.whole input.short c.as_slice.ensures.value c.args.options (plan_view c.in-Ok.plan) refusal c.in-Ok.ensures.read c.in-Err-run_plan.ensures.refused
