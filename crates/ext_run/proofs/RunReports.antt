@@ -110,12 +110,6 @@ module _ (size : Size) (whole : Option (List ℕ)) (items bytes : List ℕ) (sam
       of_whole (λ p. (x : List ℕ) × Gives p (record { report = x; failed = s.failed; lacked = s.lacked }) × Written x)
       (subst (λ p. (x : List ℕ) × Gives p (record { report = x; failed = s.failed; lacked = s.lacked }) × Written x) (sym read) done)
 
-  -- and why not
-  pub refused : {A : Type 0} (options : Options) (text : PlanText) (r : Result A RunFault) → plan_of_bytes size bytes ≡ Ok text → IfErr r (λ fault. RefusedAs options fault (Ok text))
-      → IfErr r (λ fault. IfSome whole (λ input. RefusedAs options fault (plan_of_input size input)))
-  refused options text (Ok x) read why = tt
-  refused options text (Err e) read why = of_whole (RefusedAs options e) (subst (RefusedAs options e) (sym read) why)
-
 -- ---- the report of a plan that was read
 
 pub reported : (Gives : RunReport → Type 0) (report wrote : List ℕ) (failed lacked : Bool) (Written : List ℕ → Type 0) → Gives (record { report = report; failed = failed; lacked = lacked }) → wrote ≡ report → Written wrote
