@@ -15,8 +15,8 @@ asked : (rows : List Row) (races tree all lint : Bool) (form : Option ListForm) 
 asked rows races tree all lint form size request told drawn whole noted written size_asked asks =
     record { races = races; tree = tree; all = all; lint = lint; form = form; size = size; told = told; drawn = drawn; whole = whole; noted = noted; written = written; asked = size_asked; asks = asks }
 
-pub returns-in-Some : goal.returns-in-Some
-returns-in-Some g c =
+pub returns-in_ok-plan_alone-in-Some : goal.returns-in_ok-plan_alone-in-Some
+returns-in_ok-plan_alone-in-Some g c =
     let found = found_of c.args.words.now in
     let races = subst (λ text. IsFlag text c.is_set-races.result) (one_text-rows found (codes "races")) c.is_set-races.ensures in
     let tree = subst (λ text. IsFlag text c.is_set-tree.result) (one_text-rows found (codes "tree")) c.is_set-tree.ensures in
@@ -24,7 +24,7 @@ returns-in-Some g c =
     let lint = subst (λ text. IsFlag text c.is_set-lint.result) (one_text-rows found (codes "lint")) c.is_set-lint.ensures in
     let form = subst (λ text. IsListForm text c.list_form_in-form.result) (first_value-rows found (codes "report")) c.list_form_in-form.ensures in
     let request = c.plan_request.result in
-    let asks = asks-weaker (rows_of found) _ (λ task files. (task ≡ c.in-Some.task) × IsPlanAlone (rows_of found) files) (λ task files is. (is.0, subst (IsPlanAlone (rows_of found)) (sym is.1) c.in_ok-plan_alone.ensures)) request c.plan_request.ensures in
+    let asks = asks-weaker (rows_of found) _ (λ task files. (task ≡ c.in-Some.task) × IsPlanAlone (rows_of found) files) (λ task files is. (is.0, subst (IsPlanAlone (rows_of found)) (sym is.1) c.in_ok-plan_alone-in-Some.ensures)) request c.plan_request.ensures in
     asked (rows_of found) _ _ _ _ _ _ request races tree all lint form c.size_in.ensures (subst (λ task. AsksTask (rows_of found) task request) c.in-Some.ensures asks)
 
 pub returns-in-None : goal.returns-in-None
