@@ -228,7 +228,7 @@ def is_right(name, what, count):
     try:
         print(f"{name}: {count()} {what}")
         return True
-    except (ValueError, xml.etree.ElementTree.ParseError) as fault:
+    except (ValueError, OSError, xml.etree.ElementTree.ParseError) as fault:
         print(f"{name}: NOT as it has to be: {fault}")
         return False
 
