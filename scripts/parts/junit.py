@@ -208,9 +208,9 @@ def check_timed():
     return len(read)
 
 
-def check_unwritten(program):
+def check_unwritten(program, name):
     """Runs a plan whose report cannot be written to one of the files, and then to none, and says how many files are written."""
-    plan, count = (TOP / "examples/cases/junit.toml").read_bytes(), 0
+    plan, count = (TOP / "examples" / name).read_bytes(), 0
     report = written(program, "text", plan)
     with tempfile.TemporaryDirectory() as folder:
         for names in ("none/a.xml", "b.json"), ("c.xml", "none/d.json"), ("none/e.xml", "none/f.json"):
@@ -236,6 +236,6 @@ def is_right(name, what, count):
 def main(program, _words):
     files = [TOP / "examples/cases/junit.toml", *sorted((TOP / "examples/cases/rows").glob("*.toml")), *sorted((TOP / "examples/cases/outside").glob("*.toml"))]
     right = [is_right("times and attempts", "times and attempts in XML", check_timed)]
-    right += [is_right("unwritten", "files beside them", lambda: check_unwritten(program))]
+    right += [is_right(f"unwritten beside {name}", "files are", lambda: check_unwritten(program, name)) for name in ("server.toml", "cases/junit.toml")]  # noqa: B023
     right += [is_right(f"{file.parent.name}/{file.stem}", "cases in XML", lambda: check(program, file.read_bytes())) for file in files]  # noqa: B023
     return sum(right), len(right) - sum(right)
