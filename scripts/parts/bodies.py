@@ -86,6 +86,8 @@ def files_of_test(body):
         return {TOP / "scripts" / "parts" / f"{body.test.split()[0]}.py"}
     if body.crate == "bindings":
         return {TOP / "bindings" / "c" / "test.c"}
+    if body.crate == "tool_refused_allocations":
+        return {*folder.glob("src/**/*.rt"), TOP / "scripts" / "refused-allocations"}
     if body.crate == "extrun":
         name = body.test.split()[0]
         row = TOP / "examples" / "cases" / "rows" / name
