@@ -82,6 +82,11 @@ pub record IsReportOf (options : Options) (plan : PlanText) (given : RunReport) 
   pub run : IsRunAs options plan results given.lacked
   pub report_is : given ≡ run_report_of options.form plan results given.lacked
 
+-- It is the report of a run of this plan that had these results.
+pub record IsReportBy (options : Options) (plan : PlanText) (results : List NodeOutcome) (given : RunReport) : Type 0 where
+  pub run : IsRunAs options plan results given.lacked
+  pub report_is : given ≡ run_report_of options.form plan results given.lacked
+
 -- What was read is a plan, and this is the report of a run of it.
 abbrev pub Reports : Options → Result PlanText RunFault → RunReport → Type 0
 Reports options (Ok plan) given = IsReportOf options plan given

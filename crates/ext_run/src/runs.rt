@@ -4,10 +4,9 @@ ghost use Rattle.std.specs.Io.KnownBytes.{Consumes, Appends};
 ghost use Rattle.ext_plan_reading.specs.Plans.{plan_view};
 ghost use Rattle.ext_plan_reading.specs.ReadPlans.{IsReadPlan, ids_of_nodes};
 ghost use Rattle.ext_lifecycle.specs.FaultTexts.{results_view};
-ghost use Rattle.ext_report.specs.Forms.{report_in};
 ghost use Rattle.ext_report.specs.Report.{report_of};
 ghost use Rattle.ext_run.specs.OneReports.{ReportsOne};
-ghost use Rattle.ext_run.specs.Reports.{input_limit, plan_of_input, IsRunFault, RefusedAs, Reports};
+ghost use Rattle.ext_run.specs.Reports.{input_limit, plan_of_input, IsReportBy, IsRunFault, RefusedAs, Reports};
 ghost use Rattle.ext_run.specs.InnerOutputs.{IsPlanFault, output_view};
 
 use crate::fault::RunFault;
@@ -132,8 +131,9 @@ pub fn run_plan<R: Threads + Wait + Sync, W: Write, L: RunListener + Sync>(
     ensures one_report { IfOk result (λ ran. (report : List ℕ)
         × ReportsOne options (Ok (plan_view plan.now)) (record { report = report; failed = ran.summary.failed; lacked = ran.summary.lacked })
         × Appends (W.contents writer.old) (W.contents writer.new) report) }
-    ensures results { IfOk result (λ ran. Appends (W.contents writer.old) (W.contents writer.new)
-        (report_in options.form (ids_of_nodes (plan_view plan.now).nodes) (results_view ran.results.items))) }
+    ensures results { IfOk result (λ ran. (report : List ℕ)
+        × IsReportBy options (plan_view plan.now) (results_view ran.results.items) (record { report = report; failed = ran.summary.failed; lacked = ran.summary.lacked })
+        × Appends (W.contents writer.old) (W.contents writer.new) report) }
     ensures in_tree { IfOk result (λ ran. All (λ r. r.node < length (ids_of_nodes (plan_view plan.now).nodes)) ran.results.items) }
     ensures refused { IfErr result (λ fault. RefusedAs options fault (Ok (plan_view plan.now))) }
     ensures of_run { IfErr result IsRunFault }
@@ -186,7 +186,7 @@ fn output_of<R: Threads + Wait + Sync, L: RunListener + Sync>(
     requires plan { IsReadPlan (plan_view plan.now) }
     ensures run { IfOk result (λ o. Reports options (Ok (plan_view plan.now)) (output_view o)) }
     ensures one { IfOk result (λ o. ReportsOne options (Ok (plan_view plan.now)) (output_view o)) }
-    ensures report { IfOk result (λ o. o.report.items ≡ report_in options.form (ids_of_nodes (plan_view plan.now).nodes) (results_view o.results.items)) }
+    ensures results { IfOk result (λ o. IsReportBy options (plan_view plan.now) (results_view o.results.items) (output_view o)) }
     ensures in_tree { IfOk result (λ o. All (λ r. r.node < length (ids_of_nodes (plan_view plan.now).nodes)) o.results.items) }
     ensures fault { IfErr result (IsPlanFault options (plan_view plan.now)) }
 {

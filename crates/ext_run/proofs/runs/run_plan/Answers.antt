@@ -1,8 +1,8 @@
-use Rattle.std.proofs.Common.{Ok, subst, sym, ◌∙◌}
-use Rattle.std.specs.Io.KnownBytes.{Appends}
+use Rattle.std.proofs.Common.{Ok, subst, sym}
+use Rattle.ext_lifecycle.specs.FaultTexts.{results_view}
 use Rattle.ext_plan_reading.specs.Plans.{plan_view}
 use Rattle.ext_run.specs.OneReports.{ReportsOne}
-use Rattle.ext_run.specs.Reports.{IsRunFault, RefusedAs, Reports}
+use Rattle.ext_run.specs.Reports.{IsReportBy, IsRunFault, RefusedAs, Reports}
 use Rattle.ext_run.proofs.ReadBytes.{fault_is}
 use Rattle.ext_run.proofs.RunReports.{IsRunFault-read, RefusedAs-read, reported, unwritten}
 use Rattle.ext_run.proofs.runs.run_plan.Goals as goal
@@ -34,5 +34,4 @@ returns-clause-one_report g c = reported (ReportsOne c.args.options (Ok (plan_vi
 
 pub returns-clause-results : goal.returns-clause-results
 returns-clause-results g c =
-    subst (Appends (g.W.Write.contents c.args.writer.now) (g.W.Write.contents c.write_whole.new.writer)) (c.as_slice.ensures.value ∙ c.in_ok-output.ensures.report)
-    c.in_ok-write_whole.ensures.written
+    reported (IsReportBy c.args.options (plan_view c.args.plan.now) (results_view c.in_ok-output.output.results.items)) _ _ _ _ _ c.in_ok-output.ensures.results c.as_slice.ensures.value c.in_ok-write_whole.ensures.written
