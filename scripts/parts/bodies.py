@@ -52,9 +52,9 @@ class WrongBody(typing.NamedTuple):
     def is_current(self):
         return self.seen == basis(self)
 
-    def keep(self, refused_by):
-        """Writes down that it was seen refused by this, as its files stand."""
-        text = SEEN.sub("", read(self.path)).replace("\nfile: ", f"\n# seen: {basis(self)} by {refused_by}\nfile: ", 1)
+    def keep(self, seen, refused_by):
+        """Writes down that it was seen refused by this, as its files stood when they had this basis."""
+        text = SEEN.sub("", read(self.path)).replace("\nfile: ", f"\n# seen: {seen} by {refused_by}\nfile: ", 1)
         self.path.write_text(text, encoding="utf-8")
 
 
