@@ -82,7 +82,7 @@ def with_named(file):
 def files_of_test(body):
     """The files that say what the test of a body does."""
     folder = TOP / "crates" / body.crate
-    if body.crate == "examples":
+    if body.crate == "examples" or body.crate == "trial_engine" and not body.test[0].isdigit():
         return {TOP / "scripts" / "parts" / f"{body.test.split()[0]}.py"}
     if body.crate == "bindings":
         return {TOP / "bindings" / "c" / "test.c"}

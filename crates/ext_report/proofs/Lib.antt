@@ -4,7 +4,7 @@ mod SuiteCases
 mod Orders
 mod ContextLines
 mod Indents
-mod CharacterTexts
+pub mod CharacterTexts
 mod Suites
 mod ClassNames
 mod Attempts

@@ -102,8 +102,10 @@ fn write_flaky(text: &mut String, attempt: u32) -> Result<(), AllocError>
     Ok(())
 }
 
-/// Writes milliseconds as seconds with three decimals at the end of a text.
-pub(crate) fn write_seconds(text: &mut String, millis: u64) -> Result<(), AllocError>
+/// Writes milliseconds as seconds with three decimals, as `0.123`, at the end of a text.
+///
+/// Takes memory if the text has no room, and fails with `AllocError` only if that is refused.
+pub fn write_seconds(text: &mut String, millis: u64) -> Result<(), AllocError>
     ensures { OnOk result (string_bytes text.new ≡ string_bytes text.old ++ seconds millis) }
 {
     let whole = millis / 1000;

@@ -23,7 +23,7 @@ mod visible;
 mod xml;
 
 pub use ext_lifecycle::{NodeResult, Status};
-pub use extra::Extra;
+pub use extra::{Extra, write_seconds};
 pub use form::{ReportForm, report_in};
 pub use grouping::grouped;
 pub use json_lines::{json_report, json_report_with};

@@ -137,6 +137,12 @@ fn with_telling<'a>(alloc: Global, command: Command<'a>) -> Result<Command<'a>, 
         ))?
         .arg(option(
             alloc,
+            "html",
+            "FILE",
+            "Writes a page to this file that shows what failed, the tree, the lanes over time and what was shared",
+        ))?
+        .arg(option(
+            alloc,
             "durations",
             "N",
             "Says how long the N slowest tests took, and what they waited for",

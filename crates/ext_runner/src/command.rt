@@ -79,6 +79,8 @@ pub(crate) struct Telling {
     pub(crate) junit: Option<String>,
     /// The file to which the report in JSON is written.
     pub(crate) json: Option<String>,
+    /// The file to which the page of the run is written.
+    pub(crate) html: Option<String>,
     /// Of how many of the slowest tests it is said how long they took.
     pub(crate) durations: u32,
 }
@@ -212,6 +214,7 @@ fn telling_in(alloc: Global, words: &ArgMatches<'_>) -> Result<Telling, AllocErr
         color: color_of(words.get_str("color")),
         junit: file_in(alloc, words, "junit")?,
         json: file_in(alloc, words, "json")?,
+        html: file_in(alloc, words, "html")?,
         durations: words.get_one::<u32>("durations").unwrap_or(0),
     })
 }

@@ -11,12 +11,14 @@ mod earlier_run;
 mod ending;
 mod live;
 mod node_log;
+mod page;
 mod program;
 mod results;
 mod run_log;
 mod selecting;
 mod summary;
 mod telling;
+mod timeline;
 
 pub use ext_lane::LentLane;
 pub use ext_table::{Engine, Fault, Kept, Kind, LockMode, Scope, Stop, TableFault, TestTable};

@@ -1,6 +1,6 @@
 //! The lines that are told while a run lasts.
 use crate::node_log::NodeLog;
-use ext_report::write_visible;
+use ext_report::{write_seconds, write_visible};
 use ext_table::Status;
 use std::alloc::{AllocError, Global};
 use std::time::Duration;
@@ -74,9 +74,10 @@ fn write_took(text: &mut String, took: Option<Duration>) -> Result<(), AllocErro
 }
 
 /// Writes a time in seconds at the end of a text.
-pub(crate) fn write_seconds(text: &mut String, took: Duration) -> Result<(), AllocError> {
-    let (seconds, millis) = (took.as_secs(), took.subsec_millis());
-    write!(text, "{seconds}.{millis:0>3} s")
+pub(crate) fn write_time(text: &mut String, took: Duration) -> Result<(), AllocError> {
+    let millis = u64::try_from(took.as_millis()).unwrap_or(u64::MAX);
+    write_seconds(text, millis)?;
+    text.push_str(" s")
 }
 
 /// The line of a test that has run longer than it should.

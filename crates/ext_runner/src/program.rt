@@ -1,13 +1,14 @@
 //! The program of an engine.
 use crate::command::{Asked, Options, read_words};
 use crate::ending::Ending;
+use crate::page::About;
 use crate::results::reported_results;
 use crate::run_log::{Listed, RunLog, Watching};
 use crate::selecting::selected_by;
 use crate::telling::{is_colored, tell};
 use ext_model::Size;
 use ext_store::Limits;
-use ext_table::{Engine, RunLimits, TableFault, TableRun, TestTable, run_table};
+use ext_table::{Engine, NamedLock, Row, RunLimits, TableFault, TableRun, TestTable, run_table};
 use std::io::IsTerminal;
 use std::process::ExitCode;
 use std::sync::Wait;
@@ -86,7 +87,7 @@ where
         list(rt, &table)?;
         Ok(Ending::Passed)
     } else {
-        run_repeated(threads, rt, engine, &table, options)
+        run_repeated(threads, rt, name, engine, &table, options)
     }
 }
 
@@ -106,6 +107,7 @@ fn list<T>(rt: &HostRuntime, table: &TestTable<T>) -> anyhow::Result<()> {
 fn run_repeated<R: Threads + Wait + Sync + Clock, E: Engine + Sync>(
     threads: &R,
     rt: &HostRuntime,
+    name: &str,
     engine: &E,
     table: &TestTable<E::Given>,
     options: &Options,
@@ -117,7 +119,7 @@ where
     let times = options.running.repeat;
     for time in 1..times {
         eprintln!(rt; "run {time} of {times}")?;
-        let ending = run_once(threads, rt, engine, table, options)?;
+        let ending = run_once(threads, rt, name, engine, table, options)?;
         if !matches!(ending, Ending::Passed) {
             return Ok(ending);
         }
@@ -125,13 +127,14 @@ where
     if times > 1 {
         eprintln!(rt; "run {times} of {times}")?;
     }
-    run_once(threads, rt, engine, table, options)
+    run_once(threads, rt, name, engine, table, options)
 }
 
 /// Runs a table, and tells of the run.
 fn run_once<R: Threads + Wait + Sync + Clock, E: Engine + Sync>(
     threads: &R,
     rt: &HostRuntime,
+    name: &str,
     engine: &E,
     table: &TestTable<E::Given>,
     options: &Options,
@@ -147,15 +150,15 @@ where
     };
     let listed = listed(rt, table, options)?;
     let begun = Instant::now(rt).ok();
-    let log = RunLog::new(threads, rt, listed, watching)?;
-    let run = run_watched(
+    let log = RunLog::new(
         threads,
         rt,
-        engine,
-        table,
-        limits(threads, table, options),
-        &log,
+        listed,
+        watching,
+        options.telling.html.is_some(),
     )?;
+    let limits = limits(threads, table, options);
+    let run = run_watched(threads, rt, engine, table, limits, &log)?;
     let took = match begun {
         Some(begun) => begun.elapsed(rt).ok(),
         None => None,
@@ -163,7 +166,13 @@ where
     if at_terminal {
         eprintln!(rt; "")?;
     }
-    let (listed, state) = log.into_parts();
+    let (listed, mut state) = log.into_parts();
+    let timeline = state.timeline.take();
+    let about = About {
+        name,
+        lanes: limits.limits.lanes,
+        lock_names: table.lock_names.as_slice(),
+    };
     let TableRun { store, results } = run;
     let tree = store.tree();
     let reported = reported_results(rt.alloc(), tree, results, listed.as_slice(), &state)?;
@@ -175,6 +184,8 @@ where
         &state,
         took,
         &options.telling,
+        about,
+        timeline,
     )
 }
 
@@ -224,6 +235,20 @@ fn limits<R: Threads, T>(threads: &R, table: &TestTable<T>, options: &Options) -
     }
 }
 
+/// The locks that the tests of a row hold: its own, and those of the node above it.
+fn held_locks<T>(
+    rt: &HostRuntime,
+    row: &Row<T>,
+    above: Option<&Listed>,
+) -> anyhow::Result<Vec<NamedLock>> {
+    let mut held = Vec::new(rt.alloc());
+    held.extend_from_slice(row.locks.as_slice())?;
+    if let Some(above) = above {
+        held.extend_from_slice(above.locks.as_slice())?;
+    }
+    Ok(held)
+}
+
 /// The nodes of a table as they are told.
 fn listed<T>(
     rt: &HostRuntime,
@@ -239,6 +264,9 @@ fn listed<T>(
             id: text,
             is_test,
             slow_after: row.slow_after.or(options.running.slow),
+            locks: held_locks(rt, row, listed.get(row.above))?,
+            is_isolated: row.is_isolated
+                || listed.get(row.above).is_some_and(|above| above.is_isolated),
         })?;
     }
     Ok(listed)

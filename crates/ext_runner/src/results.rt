@@ -154,6 +154,24 @@ fn text_of_all(
     Ok(text)
 }
 
+/// Where in this node a fault came. Takes memory.
+pub(crate) fn place_text(
+    alloc: Global,
+    listed: &[Listed],
+    node: ContextNo,
+    origin: FaultOrigin,
+) -> Result<String, AllocError> {
+    let mut text = String::new(alloc);
+    match origin {
+        FaultOrigin::Close => text.push_str("close")?,
+        FaultOrigin::Step { call, .. } => {
+            text.push_str(word_of(call.kind))?;
+            write_owner(&mut text, listed, node, call.from)?;
+        }
+    }
+    Ok(text)
+}
+
 /// Writes where in this node a fault came, unless it came in the test itself.
 fn write_origin(
     text: &mut String,

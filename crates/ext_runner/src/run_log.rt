@@ -1,8 +1,12 @@
 //! What is known of a run while it lasts.
 use crate::live::{ended_line, progress_line, slow_line};
 use crate::node_log::{NodeLog, ReportedFault};
+use crate::results::place_text;
+use crate::timeline::Timeline;
+use ext_page::FaultRow;
 use ext_table::{
-    Call, ContextNo, Fault, FaultOrigin, LeftOut, NodeResult, RunListener, TableListener,
+    Call, ContextNo, Fault, FaultOrigin, Kind, LeftOut, NamedLock, NodeResult, RunListener,
+    TableListener,
 };
 use std::alloc::{AllocError, Global};
 use std::sync::{Condvar, CondvarTimeouts, Mutex, Wait};
@@ -27,6 +31,9 @@ pub(crate) struct Listed {
     pub(crate) is_test: bool,
     /// After how many seconds it is told as slow.
     pub(crate) slow_after: Option<u32>,
+    /// The locks that it holds, and whether it holds that of all others.
+    pub(crate) locks: Vec<NamedLock>,
+    pub(crate) is_isolated: bool,
 }
 
 /// What is known of a run. Several threads add to it at once.
@@ -36,6 +43,9 @@ pub(crate) struct RunLog<'a, R> {
     rt: &'a HostRuntime,
     listed: Vec<Listed>,
     watching: Watching,
+    begun: Option<Instant>,
+    /// Whether the course of the run is noted.
+    is_timed: bool,
     state: Mutex<State>,
     over: Condvar,
 }
@@ -51,6 +61,8 @@ pub(crate) struct State {
     is_over: bool,
     /// Whether a fault was lost for want of memory.
     pub(crate) lost: bool,
+    /// The course of the run, if a page is asked for.
+    pub(crate) timeline: Option<Timeline>,
 }
 
 impl<'a, R: Wait + Clock> RunLog<'a, R> {
@@ -60,23 +72,32 @@ impl<'a, R: Wait + Clock> RunLog<'a, R> {
         rt: &'a HostRuntime,
         listed: Vec<Listed>,
         watching: Watching,
+        is_timed: bool,
     ) -> Result<RunLog<'a, R>, AllocError> {
         let mut nodes = Vec::new(rt.alloc());
         for _ in listed.as_slice() {
             nodes.push(NodeLog::new(rt.alloc()))?;
         }
         let tests = listed.iter().filter(|node| node.is_test).count();
+        let timeline = if is_timed {
+            Some(Timeline::new(rt.alloc(), listed.len())?)
+        } else {
+            None
+        };
         Ok(RunLog {
             threads,
             rt,
             listed,
             watching,
+            begun: Instant::now(rt).ok(),
+            is_timed,
             state: Mutex::new(State {
                 nodes,
                 ended: 0,
                 tests,
                 is_over: false,
                 lost: false,
+                timeline,
             }),
             over: Condvar::new(),
         })
@@ -152,14 +173,52 @@ impl<'a, R: Wait + Clock> RunLog<'a, R> {
     fn now(&self) -> Option<Instant> {
         Instant::now(self.rt).ok()
     }
+
+    /// The microseconds from the begin of the run to this moment; 0 if a clock was not read.
+    fn micros(&self, now: Option<Instant>) -> u64 {
+        match (self.begun, now) {
+            (Some(begun), Some(now)) => {
+                u64::try_from(now.duration_since(begun).as_micros()).unwrap_or(u64::MAX)
+            }
+            _ => 0,
+        }
+    }
+
+    /// Whether a node is a test.
+    fn is_test(&self, node: ContextNo) -> bool {
+        match self.listed.get(node) {
+            Some(listed) => listed.is_test,
+            None => false,
+        }
+    }
+
+    /// A fault of a node as a page shows it. Takes memory.
+    fn fault_row(
+        &self,
+        node: ContextNo,
+        attempt: Option<u32>,
+        origin: FaultOrigin,
+        fault: &Fault,
+    ) -> Result<FaultRow, AllocError> {
+        let alloc = self.rt.alloc();
+        Ok(FaultRow {
+            node,
+            attempt: attempt.map(|attempt| attempt as usize),
+            place: place_text(alloc, self.listed.as_slice(), node, origin)?,
+            text: format!(in alloc; "{fault}")?,
+        })
+    }
 }
 
 impl<R: Wait + Clock> RunListener for RunLog<'_, R> {
-    fn started(&self, node: ContextNo, _lane: usize) {
+    fn started(&self, node: ContextNo, lane: usize) {
         let now = self.now();
         let mut state = self.state.lock(self.threads);
         if let Some(log) = state.nodes.get_mut(node) {
             log.started = now;
+        }
+        if let Some(timeline) = &mut state.timeline {
+            timeline.start(node, lane, self.micros(now));
         }
     }
 
@@ -173,6 +232,13 @@ impl<R: Wait + Clock> RunListener for RunLog<'_, R> {
         if !kept {
             state.lost = true;
         }
+        let attempt = attempt_in(state.nodes.get(node), origin);
+        if let Some(timeline) = &mut state.timeline {
+            if attempt.is_some() {
+                timeline.fail(node);
+            }
+            timeline.add_fault(self.fault_row(node, attempt, origin, fault));
+        }
     }
 
     fn ended(&self, ran: &NodeResult, _nodes: usize) {
@@ -184,6 +250,9 @@ impl<R: Wait + Clock> RunListener for RunLog<'_, R> {
         if !ran.is_test {
             return;
         }
+        if let Some(timeline) = &mut state.timeline {
+            timeline.end(ran.node, ran.status);
+        }
         state.ended = state.ended.saturating_add(1);
         if self.watching.each
             && let (Some(listed), Some(log)) = (
@@ -194,6 +263,34 @@ impl<R: Wait + Clock> RunListener for RunLog<'_, R> {
             let colored = self.watching.colored;
             self.print(ended_line(self.rt.alloc(), listed.id.as_str(), log, colored));
         }
+    }
+}
+
+/// The origin of a fault of a node's test.
+fn in_test(node: ContextNo) -> FaultOrigin {
+    let call = Call {
+        kind: Kind::Test,
+        from: node,
+        index: 0,
+    };
+    FaultOrigin::Step { call, step: 0 }
+}
+
+/// The attempt in which a fault came; none if it did not come in the test itself.
+fn attempt_in(log: Option<&NodeLog>, origin: FaultOrigin) -> Option<u32> {
+    match (origin, log) {
+        (FaultOrigin::Step { call, .. }, Some(log)) if matches!(call.kind, Kind::Test) => {
+            Some(log.attempt.max(1))
+        }
+        _ => None,
+    }
+}
+
+/// The text of a fault, if there is one, and memory for it.
+fn text_of(alloc: Global, fault: Option<&Fault>) -> Option<String> {
+    match fault {
+        Some(fault) => format!(in alloc; "{fault}").ok(),
+        None => None,
     }
 }
 
@@ -216,6 +313,9 @@ impl<R: Wait + Clock> TableListener for RunLog<'_, R> {
         if let Some(log) = state.nodes.get_mut(node) {
             log.call(now);
         }
+        if let Some(timeline) = &mut state.timeline {
+            timeline.call(node, self.is_test(node), self.micros(now));
+        }
     }
 
     fn asks(&self, node: ContextNo, _from: ContextNo) {
@@ -224,13 +324,78 @@ impl<R: Wait + Clock> TableListener for RunLog<'_, R> {
         if let Some(log) = state.nodes.get_mut(node) {
             log.asked = now;
         }
+        if let Some(timeline) = &mut state.timeline {
+            timeline.ask(node, self.micros(now));
+        }
     }
 
-    fn handed(&self, node: ContextNo, _from: ContextNo, is_new: bool) {
+    fn makes(&self, node: ContextNo, from: ContextNo) {
+        if !self.is_timed {
+            return;
+        }
+        let now = self.micros(self.now());
+        let mut state = self.state.lock(self.threads);
+        if let Some(timeline) = &mut state.timeline {
+            timeline.make(self.rt.alloc(), node, from, now);
+        }
+    }
+
+    fn made(&self, _node: ContextNo, from: ContextNo, fault: Option<&Fault>) {
+        if !self.is_timed {
+            return;
+        }
+        let now = self.micros(self.now());
+        let fault = text_of(self.rt.alloc(), fault);
+        let mut state = self.state.lock(self.threads);
+        if let Some(timeline) = &mut state.timeline {
+            timeline.finish_making(from, fault, now);
+        }
+    }
+
+    fn handed(&self, node: ContextNo, from: ContextNo, is_new: bool) {
         let now = self.now();
         let mut state = self.state.lock(self.threads);
         if let Some(log) = state.nodes.get_mut(node) {
             log.hand(now, is_new);
+        }
+        if let Some(timeline) = &mut state.timeline
+            && !is_new
+        {
+            timeline.find(node, from, self.micros(now));
+        }
+    }
+
+    fn returned(&self, node: ContextNo, _call: &Call) {
+        if !self.is_timed {
+            return;
+        }
+        let now = self.micros(self.now());
+        let mut state = self.state.lock(self.threads);
+        if let Some(timeline) = &mut state.timeline {
+            timeline.finish_call(node, now);
+        }
+    }
+
+    fn closes(&self, node: ContextNo) {
+        if !self.is_timed {
+            return;
+        }
+        let now = self.micros(self.now());
+        let mut state = self.state.lock(self.threads);
+        if let Some(timeline) = &mut state.timeline {
+            timeline.close(node, now);
+        }
+    }
+
+    fn closed(&self, node: ContextNo, fault: Option<&Fault>) {
+        if !self.is_timed {
+            return;
+        }
+        let now = self.micros(self.now());
+        let fault = text_of(self.rt.alloc(), fault);
+        let mut state = self.state.lock(self.threads);
+        if let Some(timeline) = &mut state.timeline {
+            timeline.finish_close(node, fault, now);
         }
     }
 
@@ -239,9 +404,14 @@ impl<R: Wait + Clock> TableListener for RunLog<'_, R> {
         if let Some(log) = state.nodes.get_mut(node) {
             log.attempt = attempt;
         }
+        if let Some(timeline) = &mut state.timeline
+            && attempt > 1
+        {
+            timeline.try_again(node, attempt, self.micros(self.now()));
+        }
     }
 
-    fn failed_attempt(&self, node: ContextNo, _attempt: u32, fault: &Fault) {
+    fn failed_attempt(&self, node: ContextNo, attempt: u32, fault: &Fault) {
         let text = format!(in self.rt.alloc(); "{fault}");
         let mut state = self.state.lock(self.threads);
         let kept = match (text, state.nodes.get_mut(node)) {
@@ -250,6 +420,11 @@ impl<R: Wait + Clock> TableListener for RunLog<'_, R> {
         };
         if !kept {
             state.lost = true;
+        }
+        if let Some(timeline) = &mut state.timeline {
+            timeline.fail_attempt(node, self.micros(self.now()));
+            let origin = in_test(node);
+            timeline.add_fault(self.fault_row(node, Some(attempt), origin, fault));
         }
     }
 

@@ -1,7 +1,7 @@
 //! What people are told of a run.
 ghost use Rattle.std.specs.Prelude.{◌<◌, All, length};
 
-use crate::live::{write_seconds, write_word};
+use crate::live::{write_time, write_word};
 use crate::run_log::{Listed, State};
 use ext_report::{NodeResult, Status, write_visible, write_visible_lines};
 use ext_table::LeftOut;
@@ -151,7 +151,7 @@ fn write_counts(
     write!(text, "{tests} tests")?;
     if let Some(took) = took {
         text.push_str(" in ")?;
-        write_seconds(text, took)?;
+        write_time(text, took)?;
     }
     text.push_str(parts.as_str())?;
     if counts.containers > 0 {

@@ -8,10 +8,12 @@ ghost use Rattle.ext_runner.specs.InnerTelling.{ending_of, with_indented_fault};
 
 use crate::command::{ColorChoice, Form, Telling};
 use crate::ending::Ending;
-use crate::live::write_seconds;
+use crate::live::write_time;
+use crate::page::{About, page_text};
 use crate::results::{ReportedResults, indented};
 use crate::run_log::{Listed, State};
 use crate::summary::summary;
+use crate::timeline::Timeline;
 use ext_report::{
     NodeResult, any_failed, json_report_with, junit_report_with, report_text_with,
     tree_report_with, write_visible,
@@ -31,11 +33,18 @@ pub(crate) fn tell(
     state: &State,
     took: Option<Duration>,
     telling: &Telling,
+    about: About<'_>,
+    timeline: Option<Timeline>,
 ) -> anyhow::Result<Ending>
     requires { All (λ r. r.node < length tree.now) reported.now.results.items }
 {
     let alloc = rt.alloc();
     write_files(rt, tree, reported, telling)?;
+    if let (Some(file), Some(timeline)) = (&telling.html, timeline) {
+        let results = reported.results.as_slice();
+        let page = page_text(alloc, about, tree, results, listed, timeline, took)?;
+        fs::write(rt, file.as_str(), page.as_str())?;
+    }
     if telling.durations > 0 {
         let text = slowest(alloc, listed, state, telling.durations as usize)?;
         eprint!(rt; "{}", text.as_str())?;
@@ -152,7 +161,7 @@ fn write_slow(
     log: &crate::node_log::NodeLog,
 ) -> Result<(), AllocError> {
     text.push_str("took ")?;
-    write_seconds(text, log.took.unwrap_or(Duration::ZERO))?;
+    write_time(text, log.took.unwrap_or(Duration::ZERO))?;
     text.push_str("  ")?;
     write_visible(text, id)?;
     write_part(text, ", waited for locks ", log.for_locks)?;
@@ -167,7 +176,7 @@ fn write_part(text: &mut String, word: &str, time: Duration) -> Result<(), Alloc
         return Ok(());
     }
     text.push_str(word)?;
-    write_seconds(text, time)
+    write_time(text, time)
 }
 
 /// Whether what is told has colours: by the choice, or else at a terminal, unless the environment

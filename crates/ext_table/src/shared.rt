@@ -121,7 +121,7 @@ impl<E: Engine, L: TableListener> TableSuite<'_, E, L> {
         };
         self.listener.asks(node, at);
         let above = handing.values.as_slice();
-        let (value, is_new) = match self.value_of(rt, store, at, given, above, lane) {
+        let (value, is_new) = match self.value_of(rt, store, node, at, given, above, lane) {
             Ok(found) => found,
             Err(why) => return Err(why),
         };
@@ -145,11 +145,12 @@ impl<E: Engine, L: TableListener> TableSuite<'_, E, L> {
         }
     }
 
-    /// The value that a node shares, and whether it was made now.
+    /// The value that a node shares with `node`, and whether it was made now.
     fn value_of<'s, R: Wait>(
         &self,
         rt: &R,
         store: &'s Store<Kept<E::Shared>>,
+        node: ContextNo,
         at: ContextNo,
         given: &E::Given,
         above: &[&E::Shared],
@@ -162,7 +163,9 @@ impl<E: Engine, L: TableListener> TableSuite<'_, E, L> {
         ensures misses { IfErr result (λ why. Misses store.now (E.make_gives self.now.engine.now given.now (map (λ s. s.now) above.now)) at lane.old why lane.new) }
         ensures lane { IsLaneOf store.now.id lane.new }
     {
-        let make = |_key: &Key| -> Result<Kept<E::Shared>, Fault> { self.made(at, given, above) };
+        let make = |_key: &Key| -> Result<Kept<E::Shared>, Fault> {
+            self.made(node, at, given, above)
+        };
         self.value_by(rt, store, at, given, above, lane, make)
     }
 
@@ -195,8 +198,24 @@ impl<E: Engine, L: TableListener> TableSuite<'_, E, L> {
         }
     }
 
-    /// What is made of this.
+    /// What is made of this, for `node`, of which the listener is told.
     fn made(
+        &self,
+        node: ContextNo,
+        at: ContextNo,
+        given: &E::Given,
+        above: &[&E::Shared],
+    ) -> Result<Kept<E::Shared>, Fault>
+        ensures { IsMade (E.make_gives self.now.engine.now given.now (map (λ s. s.now) above.now)) result }
+    {
+        self.listener.makes(node, at);
+        let made = self.made_of(at, given, above);
+        self.listener.made(node, at, made.as_ref().err());
+        made
+    }
+
+    /// What is made of this.
+    fn made_of(
         &self,
         node: ContextNo,
         given: &E::Given,

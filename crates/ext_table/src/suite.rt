@@ -62,10 +62,15 @@ impl<E: Engine, L: TableListener> CloseAction<Kept<E::Shared>> for Closing<'_, E
     ghost close_gives = { λ before number kept closed after. (after ≡ before) × IsClosed (E.close_gives before.engine.now kept.0) closed };
 
     fn close(&mut self, _number: u32, kept: &Kept<E::Shared>) -> Result<(), Fault> {
+        self.listener.closes(self.node);
         match self.engine.close(self.rt, &kept.0) {
-            Ok(()) => Ok(()),
+            Ok(()) => {
+                self.listener.closed(self.node, None);
+                Ok(())
+            }
             Err(stop) => {
                 let fault = stop.fault(self.rt);
+                self.listener.closed(self.node, Some(&fault));
                 self.listener.faulted(self.node, FaultOrigin::Close, &fault);
                 Err(fault)
             }
@@ -185,6 +190,7 @@ where
         self.listener.called(node, call);
         let outcome = self.outcome_of(rt, store, node, call, lane);
         self.tell(node, call, &outcome.verdict);
+        self.listener.returned(node, call);
         outcome
     }
 }

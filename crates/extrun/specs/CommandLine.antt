@@ -68,7 +68,8 @@ command name rules = record (new_app name).top { rules = rules }
 abbrev pub run_of : ValueParser → ValueParser → ValueParser → Shape
 run_of store form color = command (codes "run")
     (plan_file ∷ lanes ∷ option (codes "store") store (codes "cells") ∷ free_option (codes "report") form
-    ∷ tree ∷ file_option (codes "junit") ∷ file_option (codes "json") ∷ option (codes "color") color (codes "auto")
+    ∷ tree ∷ file_option (codes "junit") ∷ file_option (codes "json") ∷ file_option (codes "html")
+    ∷ option (codes "color") color (codes "auto")
     ∷ flag (codes "progress") ∷ flag (codes "durations") ∷ flag (codes "failures") ∷ flag (codes "large")
     ∷ flag (codes "explain") ∷ flag (codes "brief") ∷ [])
 

@@ -45,17 +45,19 @@ pub record IsListForm (text : Option Text) (form : Option ListForm) : Type 0 whe
   pub object : text ≡ Some (codes "json") → form ≡ Some forms.Json
   pub lines : (t : Text) → text ≡ Some t → t ≢ codes "json" → form ≡ Some forms.Lines
 
--- The files of a run: that of its plan, and those behind `--junit` and `--json`.
+-- The files of a run: that of its plan, and those behind `--junit`, `--json` and `--html`.
 pub record AreRunFiles (rows : List Row) (files : FileNames) : Type 0 where
   pub plan : option_map string_bytes files.plan ≡ first_of (codes "FILE") rows
   pub junit : option_map string_bytes files.junit ≡ first_of (codes "junit") rows
   pub json : option_map string_bytes files.json ≡ first_of (codes "json") rows
+  pub html : option_map string_bytes files.html ≡ first_of (codes "html") rows
 
 -- The file of a plan, and no other.
 pub record IsPlanAlone (rows : List Row) (files : FileNames) : Type 0 where
   pub plan : option_map string_bytes files.plan ≡ first_of (codes "FILE") rows
   pub junit : files.junit ≡ None
   pub json : files.json ≡ None
+  pub html : files.html ≡ None
 
 -- A run by the words, and its files.
 abbrev pub AsksRunOf : List Row → Task → FileNames → Type 0
@@ -149,5 +151,5 @@ pub record AsksCommand (name : List ℕ) (rows : List Row) (request : Request) :
   pub run : name ≢ codes "id" → name ≢ codes "check" → AsksOfPlan rows (AsksRunOf rows) request
 
 abbrev pub AsksFor : Option (List ℕ × List Row) → Request → Type 0
-AsksFor None request = request ≡ requests.Plan wordless_run (record { plan = None; junit = None; json = None }) false false
+AsksFor None request = request ≡ requests.Plan wordless_run (record { plan = None; junit = None; json = None; html = None }) false false
 AsksFor (Some command) request = AsksCommand command.0 command.1 request

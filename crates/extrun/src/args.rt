@@ -126,6 +126,17 @@ pub(crate) fn json_option<'a>(alloc: Global) -> Arg<'a>
         .action(ArgAction::Set)
 }
 
+pub(crate) fn html_option<'a>(alloc: Global) -> Arg<'a>
+    ensures rule { rule_of result ≡ line.file_option (codes "html") }
+    ensures local { result.global ≡ false }
+{
+    Arg::new(alloc, "html")
+        .long("html")
+        .value_name("FILE")
+        .help("Writes a page to this file that shows what failed, the tree and the lanes over time")
+        .action(ArgAction::Set)
+}
+
 /// The flag `--tree` of the command `check`.
 pub(crate) fn draw_flag<'a>(alloc: Global) -> Arg<'a>
     ensures rule { rule_of result ≡ line.flag (codes "tree") }

@@ -14,8 +14,8 @@ ghost use Rattle.extrun.specs.RunWords.{AreOptions, AsksAsides, AsksForm, AsksRu
 
 use crate::args::{
     all_flag, brief_flag, color_option, draw_flag, durations_flag, explain_flag, explain_id_flag,
-    failures_flag, id_texts, json_option, junit_option, lanes_option, large_flag, lint_flag,
-    make_flag, plan_file, progress_flag, race_report_option, races_flag, report_option,
+    failures_flag, html_option, id_texts, json_option, junit_option, lanes_option, large_flag,
+    lint_flag, make_flag, plan_file, progress_flag, race_report_option, races_flag, report_option,
     report_tree_flag, store_option,
 };
 use crate::color::ColorChoice;
@@ -70,6 +70,8 @@ pub(crate) struct FileNames {
     pub(crate) junit: Option<String>,
     /// To which it is written in JSON, too.
     pub(crate) json: Option<String>,
+    /// To which a page of it is written.
+    pub(crate) html: Option<String>,
 }
 
 /// A task for a plan.
@@ -200,6 +202,7 @@ fn asked_for<R: AllocGlobal + Eprint>(
                 plan: None,
                 junit: None,
                 json: None,
+                html: None,
             },
             explain: false,
             brief: false,
@@ -615,6 +618,7 @@ fn run_files(alloc: Global, words: &ArgMatches<'_>) -> Result<FileNames, AllocEr
         plan: file_of(alloc, words, "FILE")?,
         junit: file_of(alloc, words, "junit")?,
         json: file_of(alloc, words, "json")?,
+        html: file_of(alloc, words, "html")?,
     })
 }
 
@@ -626,6 +630,7 @@ fn plan_alone(alloc: Global, words: &ArgMatches<'_>) -> Result<FileNames, AllocE
         plan: file_of(alloc, words, "FILE")?,
         junit: None,
         json: None,
+        html: None,
     })
 }
 
@@ -714,6 +719,7 @@ fn run_command<'a>(alloc: Global) -> Result<Command<'a>, AllocError>
         .arg(report_tree_flag(alloc)?)?
         .arg(junit_option(alloc))?
         .arg(json_option(alloc))?
+        .arg(html_option(alloc))?
         .arg(color_option(alloc))?
         .arg(progress_flag(alloc))?
         .arg(durations_flag(alloc))?

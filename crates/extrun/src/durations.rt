@@ -3,6 +3,7 @@ ghost use Rattle.std.specs.Prelude.{◌<◌, All, length};
 
 use crate::screen::shown_text;
 use crate::times::{Times, seconds};
+use ext_page::Attempt;
 use ext_report::{Extra, slowest_tests};
 use ext_run::{NodeResult, RunListener, Tree};
 use std::alloc::{AllocError, Global};
@@ -30,22 +31,22 @@ impl<'a, R: AllocGlobal> Durations<'a, R> {
         })
     }
 
-    /// How long each node took, in the order of the plan.
-    pub(crate) fn into_extras(self) -> Vec<Extra> {
-        self.times.into_inner().into_extras()
+    /// How long each node took, in the order of the plan, and when each test ran.
+    pub(crate) fn into_parts(self) -> (Vec<Extra>, Vec<Attempt>) {
+        self.times.into_inner().into_parts()
     }
 }
 
 impl<R: Wait + Clock> RunListener for Durations<'_, R> {
-    fn started(&self, node: usize, _lane: usize) {
+    fn started(&self, node: usize, lane: usize) {
         if let Ok(now) = Instant::now(self.rt) {
-            self.times.lock(self.rt).start(node, now);
+            self.times.lock(self.rt).start(node, lane, now);
         }
     }
 
     fn ended(&self, ran: &NodeResult, _nodes: usize) {
         if let Ok(now) = Instant::now(self.rt) {
-            self.times.lock(self.rt).end(ran.node, now);
+            self.times.lock(self.rt).end(ran, now);
         }
     }
 }

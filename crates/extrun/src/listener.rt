@@ -8,6 +8,7 @@ ghost use Rattle.extrun.specs.Tasks.{IsPlanOutcome, IsRunOutcome};
 use crate::command::Asides;
 use crate::durations::{Durations, tell_durations};
 use crate::failing::tell_failures;
+use crate::page::Course;
 use crate::progress::{Progress, run_beside};
 use crate::report_files::ReportFiles;
 use ext_model::Fault;
@@ -42,7 +43,13 @@ where
     requires plan { IsReadPlan (plan_view plan.now) }
     ensures { IsRunOutcome options (Ok (plan_view plan.now)) result (Appends (W.contents writer.old) (W.contents writer.new)) }
 {
-    let listener = Listener::new(rt, plan, asides, reports.is_asked_for())?;
+    let listener = Listener::new(
+        rt,
+        plan,
+        asides,
+        reports.is_asked_for(),
+        reports.is_page_asked_for(),
+    )?;
     match run_heard(rt, plan, writer, options, &listener) {
         Ok(ran) => {
             listener.end(plan, ran.results.as_slice(), options, asides, reports);
@@ -89,6 +96,7 @@ impl<'a, R: Wait + Clock + AllocGlobal + Eprint> Listener<'a, R> {
         plan: &Plan,
         asides: Asides,
         for_files: bool,
+        for_page: bool,
     ) -> Result<Listener<'a, R>, AllocError> {
         let mut listener = Listener {
             rt,
@@ -102,7 +110,7 @@ impl<'a, R: Wait + Clock + AllocGlobal + Eprint> Listener<'a, R> {
         if asides.durations || for_files {
             listener.durations = Some(Durations::new(rt, plan.nodes.len())?);
         }
-        if asides.failures {
+        if asides.failures || for_page {
             listener.failures = Some(Failures::new(rt, rt.alloc()));
         }
         Ok(listener)
@@ -128,8 +136,10 @@ impl<'a, R: Wait + Clock + AllocGlobal + Eprint> Listener<'a, R> {
             ..
         } = self;
         let (tree, for_terminal) = (plan.tree(), asides.for_terminal);
+        let mut attempts = Vec::new(rt.alloc());
         if let Some(durations) = durations {
-            let extras = durations.into_extras();
+            let (extras, of_tests) = durations.into_parts();
+            attempts = of_tests;
             let extras = extras.as_slice();
             reports.write(rt, tree, results, extras);
             if asides.durations {
@@ -138,7 +148,15 @@ impl<'a, R: Wait + Clock + AllocGlobal + Eprint> Listener<'a, R> {
         }
         if let Some(failures) = failures {
             let faults = failures.into_reported();
-            tell_failures(rt, plan, options.form, &faults, for_terminal);
+            if asides.failures {
+                tell_failures(rt, plan, options.form, &faults, for_terminal);
+            }
+            let course = Course {
+                lanes: if options.plain { 1 } else { options.lanes },
+                attempts,
+                faults,
+            };
+            reports.write_page(rt, tree, results, course);
         }
     }
 }

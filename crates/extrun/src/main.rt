@@ -18,6 +18,7 @@ mod failing;
 mod help;
 mod ids;
 mod listener;
+mod page;
 mod plans;
 mod progress;
 mod refusing;

@@ -2,6 +2,7 @@
 ghost use Rattle.std.specs.Prelude.{◌≡◌, ◌<◌, true, false, All, IfOk, length};
 
 use crate::command::FileNames;
+use crate::page::{Course, page_text};
 use ext_report::{Extra, json_report_with, junit_report_with};
 use ext_run::{NodeResult, RequestFault, RunFault, Summary, Tree};
 use std::alloc::AllocError;
@@ -27,7 +28,35 @@ impl<'a> ReportFiles<'a> {
 
     /// Tests whether there is a file to be written.
     pub(crate) fn is_asked_for(&self) -> bool {
-        self.names.junit.is_some() || self.names.json.is_some()
+        self.names.junit.is_some() || self.names.json.is_some() || self.is_page_asked_for()
+    }
+
+    /// Tests whether a page is to be written.
+    pub(crate) fn is_page_asked_for(&self) -> bool {
+        self.names.html.is_some()
+    }
+
+    /// Writes the page of a run with these results. Prints why it is not written.
+    pub(crate) fn write_page<R: Files + AllocGlobal + Eprint>(
+        &mut self,
+        rt: &R,
+        tree: &Tree,
+        results: &[NodeResult],
+        course: Course,
+    )
+        requires { All (λ r. r.node < length tree.now) results.now }
+    {
+        if let Some(name) = &self.names.html {
+            let plan = match &self.names.plan {
+                Some(plan) => plan.as_str(),
+                None => "extrun",
+            };
+            let page = match page_text(rt.alloc(), plan, tree, results, course) {
+                Ok(text) => Ok(text.into_bytes()),
+                Err(fault) => Err(fault),
+            };
+            self.unwritten |= !is_written(rt, name.as_str(), page);
+        }
     }
 
     /// Writes the report of these results to each file. Prints why one is not written.

@@ -3,16 +3,22 @@ ghost use Rattle.std.specs.Prelude.{◌≡◌, string_bytes, vec_len, IfOk};
 ghost use Rattle.std.specs.Duration.{as_nanos};
 ghost use Rattle.extrun.specs.Times.{seconds_text, time_text};
 
+use ext_page::Attempt;
 use ext_report::Extra;
+use ext_run::NodeResult;
 use std::alloc::{AllocError, Global};
 use std::time::{Duration, Instant};
 
 /// The times of the nodes of a run, in the order of the plan.
 #[derive(Drop)]
 pub(crate) struct Times {
-    started: Vec<Option<Instant>>,
+    started: Vec<Option<(Instant, usize)>>,
     /// How long each node took that has ended.
     extras: Vec<Extra>,
+    /// When the first node started.
+    begun: Option<Instant>,
+    /// The tests that ran.
+    attempts: Vec<Attempt>,
 }
 
 impl Times {
@@ -27,30 +33,61 @@ impl Times {
             started.push(None)?;
             extras.push(Extra::default())?;
         }
-        Ok(Times { started, extras })
+        Ok(Times {
+            started,
+            extras,
+            begun: None,
+            attempts: Vec::new(alloc),
+        })
     }
 
-    /// Notes that a node starts now.
-    pub(crate) fn start(&mut self, node: usize, now: Instant) {
+    /// Notes that a node starts now on this lane.
+    pub(crate) fn start(&mut self, node: usize, lane: usize, now: Instant) {
+        if self.begun.is_none() {
+            self.begun = Some(now);
+        }
         if let Some(started) = self.started.get_mut(node) {
-            *started = Some(now);
+            *started = Some((now, lane));
         }
     }
 
     /// Notes that a node has ended now.
-    pub(crate) fn end(&mut self, node: usize, now: Instant) {
-        if let Some(Some(started)) = self.started.get(node)
-            && let Some(extra) = self.extras.get_mut(node)
-        {
-            let took = now.saturating_duration_since(*started);
+    pub(crate) fn end(&mut self, ran: &NodeResult, now: Instant) {
+        let Some(Some((started, lane))) = self.started.get(ran.node) else {
+            return;
+        };
+        let (started, lane) = (*started, *lane);
+        if let Some(extra) = self.extras.get_mut(ran.node) {
+            let took = now.saturating_duration_since(started);
             *extra = Extra::new(Some(took), 0);
+        }
+        if ran.is_test {
+            self.note(ran, lane, started, now);
         }
     }
 
-    /// How long each node took, in the order of the plan.
-    pub(crate) fn into_extras(self) -> Vec<Extra> {
-        self.extras
+    /// Notes when a test ran, if there is memory for it.
+    fn note(&mut self, ran: &NodeResult, lane: usize, started: Instant, now: Instant) {
+        let begun = self.begun.unwrap_or(started);
+        let _ = self.attempts.push(Attempt {
+            node: ran.node,
+            lane,
+            begun: micros(begun, started),
+            ended: micros(begun, now),
+            status: ran.status,
+        });
     }
+
+    /// How long each node took, in the order of the plan, and when each test ran.
+    pub(crate) fn into_parts(self) -> (Vec<Extra>, Vec<Attempt>) {
+        (self.extras, self.attempts)
+    }
+}
+
+/// The microseconds from one moment to another.
+fn micros(from: Instant, to: Instant) -> u64 {
+    let time = to.saturating_duration_since(from).as_micros();
+    u64::try_from(time).unwrap_or(u64::MAX)
 }
 
 /// A time in seconds, as `0.123 s`. Takes memory.

@@ -20,6 +20,8 @@ use std::{env, thread};
 enum Task {
     /// A count, from 0.
     Count,
+    /// The same, which takes so many milliseconds to make.
+    SlowCount(u64),
     /// A value whose close fails.
     Unclosable,
     /// A value that cannot be made.
@@ -77,7 +79,7 @@ fn add_times(tests: &mut TestTable<Task>) -> Result<(), TableFault> {
     tests.test("alone", Task::Sleep(10))?;
     tests.alone();
     tests.class("Meeting")?;
-    tests.share(Task::Count);
+    tests.share(Task::SlowCount(50));
     tests.test("one", Task::Meet(2))?;
     tests.test("two", Task::Meet(2))?;
     tests.class("Locked")?;
@@ -156,6 +158,10 @@ impl Engine for Trial {
         match node.given {
             Task::Unclosable => Ok(Shared::Unclosable),
             Task::Unmakable => Err(node.fail("nothing to be had")),
+            Task::SlowCount(millis) => {
+                thread::sleep(node.rt, Duration::from_millis(*millis));
+                Ok(Shared::Count(AtomicU64::new(0)))
+            }
             _ => Ok(Shared::Count(AtomicU64::new(0))),
         }
     }

@@ -10,4 +10,5 @@ returns c =
       plan = c.in_ok-file_of.ensures ∙ first_value-rows found (codes "FILE");
       junit = c.in_ok-file_of-2.ensures ∙ first_value-rows found (codes "junit");
       json = c.in_ok-file_of-3.ensures ∙ first_value-rows found (codes "json");
+      html = c.in_ok-file_of-4.ensures ∙ first_value-rows found (codes "html");
     }

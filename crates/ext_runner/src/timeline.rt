@@ -1,0 +1,305 @@
+//! The course of a run over time, noted while it lasts, for its page. Times are microseconds since
+//! the run began.
+use ext_page::{Attempt, Closing, FaultRow, SharedValue, Wait, Waited};
+use ext_table::{ContextNo, Status};
+use std::alloc::{AllocError, Global};
+
+/// How long a wait is that is noted.
+const LEAST_WAIT: u64 = 100;
+
+/// What is known of a node.
+#[derive(Clone, Copy)]
+struct Course {
+    lane: usize,
+    started: u64,
+    /// When its attempt began that runs: the first with its first call.
+    begun: Option<u64>,
+    /// When the last of its calls ended.
+    returned: u64,
+    /// When the call that runs asked for what is shared.
+    asked: u64,
+    /// Whether its test failed or aborted.
+    has_failed: bool,
+    /// The place of the value that it shares, once it was made.
+    value: Option<usize>,
+    /// When the close of that value began.
+    closes: u64,
+}
+
+/// A time between the start of a test and its first call.
+#[derive(Clone, Copy)]
+pub(crate) struct Delay {
+    pub(crate) lane: usize,
+    pub(crate) node: ContextNo,
+    pub(crate) begun: u64,
+    pub(crate) ended: u64,
+    /// How many attempts had ended by then.
+    pub(crate) attempts: usize,
+}
+
+/// The course of a run.
+#[derive(Drop)]
+pub(crate) struct Timeline {
+    courses: Vec<Course>,
+    pub(crate) attempts: Vec<Attempt>,
+    pub(crate) faults: Vec<FaultRow>,
+    /// Waits for values.
+    pub(crate) waits: Vec<Wait>,
+    pub(crate) delays: Vec<Delay>,
+    pub(crate) values: Vec<SharedValue>,
+    /// Whether something was lost for want of memory.
+    pub(crate) lost: bool,
+}
+
+impl Timeline {
+    /// Nothing is known of so many nodes. Takes memory.
+    pub(crate) fn new(alloc: Global, nodes: usize) -> Result<Timeline, AllocError> {
+        let mut courses = Vec::new(alloc);
+        for _ in 0..nodes {
+            courses.push(Course {
+                lane: 0,
+                started: 0,
+                begun: None,
+                returned: 0,
+                asked: 0,
+                has_failed: false,
+                value: None,
+                closes: 0,
+            })?;
+        }
+        Ok(Timeline {
+            courses,
+            attempts: Vec::new(alloc),
+            faults: Vec::new(alloc),
+            waits: Vec::new(alloc),
+            delays: Vec::new(alloc),
+            values: Vec::new(alloc),
+            lost: false,
+        })
+    }
+
+    pub(crate) fn start(&mut self, node: ContextNo, lane: usize, now: u64) {
+        if let Some(course) = self.courses.get_mut(node) {
+            course.lane = lane;
+            course.started = now;
+        }
+    }
+
+    /// A call begins.
+    pub(crate) fn call(&mut self, node: ContextNo, is_test: bool, now: u64) {
+        let Some(course) = self.courses.get_mut(node) else {
+            return;
+        };
+        if course.begun.is_some() {
+            return;
+        }
+        course.begun = Some(now);
+        let delay = Delay {
+            lane: course.lane,
+            node,
+            begun: course.started,
+            ended: now,
+            attempts: self.attempts.len(),
+        };
+        if is_test && now.saturating_sub(course.started) >= LEAST_WAIT {
+            let kept = self.delays.push(delay);
+            self.keep(kept.is_ok());
+        }
+    }
+
+    /// The call that runs asks for what is shared.
+    pub(crate) fn ask(&mut self, node: ContextNo, now: u64) {
+        if let Some(course) = self.courses.get_mut(node) {
+            course.asked = now;
+        }
+    }
+
+    /// The call makes what the node `from` shares. Takes memory for its key.
+    pub(crate) fn make(&mut self, alloc: Global, node: ContextNo, from: ContextNo, now: u64) {
+        let lane = self.lane_of(node);
+        let Ok(key) = String::from_str(alloc, "shared") else {
+            self.lost = true;
+            return;
+        };
+        let place = self.values.len();
+        let kept = self.values.push(SharedValue {
+            key,
+            context: from,
+            maker: node,
+            lane,
+            begun: Some(now),
+            ended: now,
+            fault: None,
+            found: 0,
+            closing: None,
+            close_fault: None,
+        });
+        self.keep(kept.is_ok());
+        if let Some(course) = self.courses.get_mut(from) {
+            course.value = Some(place);
+        }
+    }
+
+    /// It has made it, or failed to with this fault.
+    pub(crate) fn finish_making(&mut self, from: ContextNo, fault: Option<String>, now: u64) {
+        if let Some(value) = self.value_of(from) {
+            value.ended = now;
+            value.fault = fault;
+        }
+    }
+
+    /// The call was handed what another one has made.
+    pub(crate) fn find(&mut self, node: ContextNo, from: ContextNo, now: u64) {
+        let (lane, asked) = match self.courses.get(node) {
+            Some(course) => (course.lane, course.asked),
+            None => return,
+        };
+        let Some(place) = self.place_of_value(from) else {
+            return;
+        };
+        let Some(value) = self.values.get_mut(place) else {
+            return;
+        };
+        value.found = value.found.saturating_add(1);
+        let (maker, made) = (value.maker, value.ended);
+        if made > asked && now.saturating_sub(asked) >= LEAST_WAIT {
+            let kept = self.waits.push(Wait {
+                lane,
+                node,
+                begun: asked,
+                ended: now,
+                waited: Waited::ForValue(place),
+                by: Some(maker),
+            });
+            self.keep(kept.is_ok());
+        }
+    }
+
+    /// An attempt begins. The first begins with the first call.
+    pub(crate) fn try_again(&mut self, node: ContextNo, attempt: u32, now: u64) {
+        if let Some(course) = self.courses.get_mut(node)
+            && attempt > 1
+        {
+            course.begun = Some(now);
+        }
+    }
+
+    /// An attempt failed that is not the last.
+    pub(crate) fn fail_attempt(&mut self, node: ContextNo, now: u64) {
+        let Some(course) = self.courses.get(node) else {
+            return;
+        };
+        let (lane, begun) = (course.lane, course.begun.unwrap_or(now));
+        self.note_attempt(node, lane, begun, now, Status::Failed);
+    }
+
+    /// The test of a node failed or aborted.
+    pub(crate) fn fail(&mut self, node: ContextNo) {
+        if let Some(course) = self.courses.get_mut(node) {
+            course.has_failed = true;
+        }
+    }
+
+    /// A call ended.
+    pub(crate) fn finish_call(&mut self, node: ContextNo, now: u64) {
+        if let Some(course) = self.courses.get_mut(node) {
+            course.returned = now;
+        }
+    }
+
+    /// A test ended so.
+    pub(crate) fn end(&mut self, node: ContextNo, status: Status) {
+        let Some(course) = self.courses.get(node) else {
+            return;
+        };
+        let Course {
+            lane,
+            begun,
+            returned,
+            has_failed,
+            ..
+        } = *course;
+        let status = if has_failed {
+            status
+        } else {
+            Status::Successful
+        };
+        if let Some(begun) = begun {
+            self.note_attempt(node, lane, begun, returned, status);
+        }
+    }
+
+    /// The close of what a node shares begins.
+    pub(crate) fn close(&mut self, node: ContextNo, now: u64) {
+        if let Some(course) = self.courses.get_mut(node) {
+            course.closes = now;
+        }
+    }
+
+    /// The close ended, or failed with this fault.
+    pub(crate) fn finish_close(&mut self, node: ContextNo, fault: Option<String>, now: u64) {
+        let (lane, begun) = match self.courses.get(node) {
+            Some(course) => (course.lane, course.closes),
+            None => return,
+        };
+        if let Some(value) = self.value_of(node) {
+            value.closing = Some(Closing {
+                lane,
+                begun,
+                ended: now,
+            });
+            value.close_fault = fault;
+        }
+    }
+
+    /// A fault came.
+    pub(crate) fn add_fault(&mut self, fault: Result<FaultRow, AllocError>) {
+        let kept = match fault {
+            Ok(fault) => self.faults.push(fault).is_ok(),
+            Err(_) => false,
+        };
+        self.keep(kept);
+    }
+
+    fn note_attempt(
+        &mut self,
+        node: ContextNo,
+        lane: usize,
+        begun: u64,
+        ended: u64,
+        status: Status,
+    ) {
+        let kept = self.attempts.push(Attempt {
+            node,
+            lane,
+            begun,
+            ended: ended.max(begun),
+            status,
+        });
+        self.keep(kept.is_ok());
+    }
+
+    fn keep(&mut self, is_kept: bool) {
+        self.lost |= !is_kept;
+    }
+
+    fn lane_of(&self, node: ContextNo) -> usize {
+        match self.courses.get(node) {
+            Some(course) => course.lane,
+            None => 0,
+        }
+    }
+
+    /// The place of the value that a node shares.
+    fn place_of_value(&self, node: ContextNo) -> Option<usize> {
+        match self.courses.get(node) {
+            Some(course) => course.value,
+            None => None,
+        }
+    }
+
+    fn value_of(&mut self, node: ContextNo) -> Option<&mut SharedValue> {
+        let place = self.place_of_value(node)?;
+        self.values.get_mut(place)
+    }
+}

@@ -1,0 +1,168 @@
+"""Reads the pages that engines and `extrun run` write (`--html`): the data in them by Python's JSON parser, the whole by its HTML parser, and by chromium where that is there.
+
+The runs are those of crates/trial_engine and of plans: of one alone where its program is given, and else of both proved programs. Prints a line for each case.
+"""
+import html.parser
+import json
+import os
+import pathlib
+import re
+import shutil
+import subprocess
+import tempfile
+
+TOP = pathlib.Path(__file__).resolve().parent.parent.parent
+PROVED = TOP / "crates" / "trial_engine" / "out" / "trial_engine"
+DATA = re.compile(r'<script type="application/json" id="data">(.*?)</script>', re.S)
+STATUSES = ["successful", "failed", "aborted", "skipped"]
+VOID = {"meta", "link", "input", "path", "circle", "br"}
+HOSTILE = '</script><!-- & "\u202e \U0001f600 \x7f'
+
+
+class Nesting(html.parser.HTMLParser):
+    """Whether each tag of a page is closed in its turn, and what it would load."""
+
+    def __init__(self, text):
+        super().__init__()
+        self.open, self.faults = [], []
+        self.feed(text)
+        self.faults += self.open
+
+    def handle_starttag(self, tag, attributes):
+        if tag not in VOID:
+            self.open.append(tag)
+        self.faults += [value for name, value in attributes if name in ("src", "href") and not value.startswith(("#", "data:,"))]
+
+    def handle_endtag(self, tag):
+        if tag not in VOID and (not self.open or self.open.pop() != tag):
+            self.faults.append(f"/{tag}")
+
+
+class Page:
+    """A page of a run, and the data in it."""
+
+    def __init__(self, program, words, given="", many=0):
+        with tempfile.TemporaryDirectory() as folder:
+            self.file = pathlib.Path(folder) / "page.html"
+            environment = {"PATH": os.environ["PATH"], "TRIAL_TESTS": str(many)}
+            ran = subprocess.run([program, *words, "--html", self.file], input=given, capture_output=True, text=True, env=environment, timeout=300)
+            self.status = ran.returncode
+            self.text = self.file.read_text(encoding="utf-8")
+        self.json = DATA.search(self.text)[1]
+        self.data = json.loads(self.json)
+
+    def ids(self):
+        """The id of each node."""
+        ids = []
+        for parent, name, _, _ in self.data["nodes"]:
+            ids.append(name if parent is None else f"{ids[parent]}/{name}")
+        return ids
+
+    def of(self, table):
+        """The rows of a table, whose first field that is a node is its id."""
+        at = {"attempts": 0, "faults": 0, "waits": 1, "values": 1}[table]
+        ids = self.ids()
+        return [[*row[:at], ids[row[at]], *row[at + 1 :]] for row in self.data[table]]
+
+    def is_whole(self):
+        """Whether it stands by itself: the data can end no script, and nothing is loaded."""
+        return self.json.isascii() and not re.search("[<\x00-\x1f\x7f]", self.json) and not Nesting(self.text).faults
+
+    def is_in_order(self):
+        """Whether attempts lie within the run, and in one lane beside one another."""
+        wall, lanes, last = self.data["run"]["wall"], self.data["run"]["lanes"], {}
+        for _, lane, begun, ended, _ in sorted(self.data["attempts"], key=lambda it: it[2:4]):
+            if not last.get(lane, 0) <= begun <= ended <= wall or lane >= lanes:
+                return False
+            last[lane] = ended
+        return True
+
+
+def json_of(program, words):
+    """The id, whether it is a test, and the status of each node by the report in JSON."""
+    ran = subprocess.run([program, *words, "--report", "json"], capture_output=True, text=True, stdin=subprocess.DEVNULL, env={}, timeout=300)
+    return [(it["id"], it["test"], it["status"]) for it in map(json.loads, ran.stdout.splitlines()) if "id" in it]
+
+
+def of_all(program):
+    page = Page(program, ["--lanes", "3"])
+    told = [(name, bool(row[2]), STATUSES[row[3]]) for name, row in zip(page.ids(), page.data["nodes"])]
+    ran = {it[0] for it in page.of("attempts")}
+    faults = [(node.partition("/")[2], attempt, place, text) for node, attempt, place, text in page.of("faults")]
+    values = {row[1].rpartition(":")[2]: row for row in page.of("values")}
+    yield "the nodes are those of the report", told == json_of(program, ["--lanes", "3"])
+    yield "it stands by itself", page.is_whole() and page.data["version"] == 1
+    yield "tests lie in the lanes on which they ran", page.is_in_order() and page.data["run"]["lanes"] == 3
+    yield "each test that ran has an attempt", ran == {name for name, is_test, status in told if is_test and status != "skipped"}
+    yield "a fault has its text, its place and its attempt", ("[class:Failing]/[test:both]", 1, "test", "first") in faults
+    yield "so has one of a callback", ("[class:Failing]/[test:both]", None, "after each", "second\nof two lines") in faults
+    yield "one of a callback of a class", ("[class:Broken]", None, "before all", "no class") in faults
+    yield "and one of a close", ("[class:Unclosed]", None, "close", "it does not close") in faults
+    yield "a value is closed, and the fault of its close is told", values["Unclosed]"][11] == "it does not close" and values["Unclosed]"][8] is not None
+    yield "its close begins once it was found last", values["Callbacks]"][5] < values["Callbacks]"][9] <= values["Callbacks]"][10]
+    yield "a factory that fails is told", values["Unmade]"][6] == "nothing to be had" and values["Unmade]"][8:] == [None] * 4
+    yield "how often a value was found is told", values["Callbacks]"][7] == 11
+
+
+def of_waits(program):
+    meeting, locked, alone = (Page(program, [name, "--lanes", "2"]) for name in ("Meeting", "Locked", "Slow"))
+    [[_, _, maker, _, begun, ended, *_]] = meeting.data["values"]
+    [[lane, waiting, since, until, kind, what, by]] = meeting.data["waits"]
+    yield "a wait for a value is told with who made it", (kind, what, by) == (1, 0, maker) and waiting != maker and begun <= until and ended - begun >= 50_000
+    yield "it ends when the value is there", since < ended <= until
+    [[_, waiting, since, until, kind, what, by]] = locked.data["waits"]
+    holder = next(it for it in locked.data["attempts"] if it[0] == by)
+    yield "a wait for a lock is told with who held it", (kind, locked.data["locks"][what]) == (0, "count") and waiting != by and until - since >= 50_000
+    yield "it ends when that one has ended", holder[3] <= until
+    [[_, _, since, until, kind, what, by]] = alone.data["waits"]
+    yield "so is that of a test that is alone", (kind, what) == (0, None) and by is not None and until - since >= 9_000
+
+
+def of_attempts(program):
+    page = Page(program, ["Flaky", "--retries", "2"])
+    attempts = page.data["attempts"]
+    yield "attempts are told one by one", [it[4] for it in attempts] == [1, 1, 0] and page.is_in_order()
+    yield "with their faults", [(it[1], it[3]) for it in page.data["faults"]] == [(1, "not yet"), (2, "not yet")]
+    yield "an aborted test's attempt is aborted", [it[4] for it in Page(program, ["needs"]).data["attempts"]] == [2]
+
+
+def of_plans(extrun):
+    ids = [f"[test:{number}]" for number in range(1000)]
+    plan = "".join(f'[[node]]\nid = "[engine:x]{it}"\n' + ("test = []\nmode = \"concurrent\"\n" if it else "") for it in ["", *(f"/{it}" for it in ids)])
+    page = Page(extrun, ["run", "--lanes", "4", "--large"], plan)
+    yield "of a plan of 1,000 tests, too", page.status == 0 and page.is_whole() and page.is_in_order() and page.ids()[1:] == [f"[engine:x]/{it}" for it in ids]
+    yield "in less than 200 kB", len(page.text) < 200_000
+    step = json.dumps("fail " + HOSTILE.replace(" ", "_"), ensure_ascii=False).replace("\x7f", "\\u007F")
+    page = Page(extrun, ["run", "--store", "plain"], f'[[node]]\nid = "[engine:x]"\ntest = [{step}]\n')
+    yield "texts that look like HTML stay texts", page.is_whole() and [it[1:] for it in page.data["faults"]] == [[1, "test, step 0", HOSTILE.replace(" ", "_")]]
+
+
+def in_browser(program):
+    """What chromium shows of the page, which is said to be skipped where there is none."""
+    browser = next(filter(None, map(shutil.which, ["chromium", "chromium-headless-shell", "google-chrome"])), None)
+    if not browser:
+        print("in a browser: skipped, since there is no chromium")
+        return
+    with tempfile.TemporaryDirectory() as folder:
+        file = pathlib.Path(folder) / "page.html"
+        subprocess.run([program, "Failing", "--html", file], capture_output=True, env={}, timeout=120)
+        words = ["--headless", "--no-sandbox", "--disable-gpu", f"--user-data-dir={folder}/user", "--virtual-time-budget=5000", "--enable-logging=stderr", "--dump-dom"]
+        ran = subprocess.run([browser, *words, file.as_uri()], capture_output=True, text=True, timeout=120)
+    shown = re.sub(r"<[^>]*>", " ", ran.stdout.partition("<body")[2].partition("<script")[0])
+    words = " ".join(shown.split())
+    yield "in a browser it shows what failed", all(it in words for it in ["2 failed", "1 aborted", "1 passed", "wanted &lt;sum&gt; 7, got:"])
+    yield "without an error", "CONSOLE" not in ran.stderr
+
+
+def main(program, _words):
+    is_trial, cases = pathlib.Path(program).name == "trial_engine", []
+    if not is_trial:
+        cases += of_plans(program)
+    if is_trial or pathlib.Path(program) == TOP / "crates/extrun/out/extrun":
+        trial = program if is_trial else PROVED
+        cases += [*of_all(trial), *of_waits(trial), *of_attempts(trial), *in_browser(trial)]
+    passed = failed = 0
+    for case, is_right in cases:
+        passed, failed = passed + is_right, failed + (not is_right)
+        print(f"page, {case}: " + ("as it has to be" if is_right else "NOT as it has to be"))
+    return passed, failed
