@@ -27,6 +27,7 @@ typedef struct ext_lanes {
 } ext_lanes;
 
 /* ext_open, of `count` lanes. *store may have any bytes before, and is usable after EXT_DONE alone. */
+EXT_TO_BE_READ
 static inline ext_code ext_lanes_open(ext_lanes *store, const uint8_t *bytes, size_t byte_count, const uint32_t *lengths,
                                       size_t length_count, const ext_limits *limits, size_t count) {
     ext_slot slots[EXT_MOST_LANES] = {{0, NULL}};
@@ -43,6 +44,7 @@ static inline ext_code ext_lanes_open(ext_lanes *store, const uint8_t *bytes, si
 }
 
 /* Takes the lane for one call, as a lock is taken; EXT_DONE where it is taken. */
+EXT_TO_BE_READ
 static inline ext_code ext_lane_take(ext_lanes *store, uint32_t lane) {
     if (lane >= store->count) return EXT_BAD_LANE;
     if (__atomic_exchange_n(&store->lanes[lane].in_use, true, __ATOMIC_ACQUIRE)) return EXT_LANE_IN_USE;
@@ -55,6 +57,7 @@ static inline ext_code ext_lane_give(ext_lanes *store, uint32_t lane, ext_code c
     return code;
 }
 
+EXT_TO_BE_READ
 static inline ext_code ext_lanes_key(ext_lanes *store, uint32_t lane, const uint8_t *bytes, size_t byte_count, const uint32_t *lengths,
                                      size_t length_count, size_t *key) {
     ext_code code = ext_lane_take(store, lane);
@@ -62,6 +65,7 @@ static inline ext_code ext_lanes_key(ext_lanes *store, uint32_t lane, const uint
     return ext_lane_give(store, lane, ext_key(&store->lanes[lane].slot, bytes, byte_count, lengths, length_count, key));
 }
 
+EXT_TO_BE_READ
 static inline ext_code ext_lanes_put(ext_lanes *store, uint32_t lane, size_t context, size_t key, uint64_t handle, bool closeable,
                                      ext_value *stood) {
     ext_code code = ext_lane_take(store, lane);
@@ -69,42 +73,49 @@ static inline ext_code ext_lanes_put(ext_lanes *store, uint32_t lane, size_t con
     return ext_lane_give(store, lane, ext_put(&store->lanes[lane].slot, context, key, handle, closeable, stood));
 }
 
+EXT_TO_BE_READ
 static inline ext_code ext_lanes_get(ext_lanes *store, uint32_t lane, size_t context, size_t key, ext_value *found) {
     ext_code code = ext_lane_take(store, lane);
     if (code != EXT_DONE) return code;
     return ext_lane_give(store, lane, ext_get(&store->lanes[lane].slot, context, key, found));
 }
 
+EXT_TO_BE_READ
 static inline ext_code ext_lanes_get_along(ext_lanes *store, uint32_t lane, const size_t *path, size_t length, size_t key, ext_value *found) {
     ext_code code = ext_lane_take(store, lane);
     if (code != EXT_DONE) return code;
     return ext_lane_give(store, lane, ext_get_along(&store->lanes[lane].slot, path, length, key, found));
 }
 
+EXT_TO_BE_READ
 static inline ext_code ext_lanes_remove(ext_lanes *store, uint32_t lane, size_t context, size_t key, ext_value *taken) {
     ext_code code = ext_lane_take(store, lane);
     if (code != EXT_DONE) return code;
     return ext_lane_give(store, lane, ext_remove(&store->lanes[lane].slot, context, key, taken));
 }
 
+EXT_TO_BE_READ
 static inline ext_code ext_lanes_begin(ext_lanes *store, uint32_t lane, size_t context, size_t key, ext_value *found) {
     ext_code code = ext_lane_take(store, lane);
     if (code != EXT_DONE) return code;
     return ext_lane_give(store, lane, ext_begin(&store->lanes[lane].slot, context, key, found));
 }
 
+EXT_TO_BE_READ
 static inline ext_code ext_lanes_begin_along(ext_lanes *store, uint32_t lane, const size_t *path, size_t length, size_t key, ext_value *found) {
     ext_code code = ext_lane_take(store, lane);
     if (code != EXT_DONE) return code;
     return ext_lane_give(store, lane, ext_begin_along(&store->lanes[lane].slot, path, length, key, found));
 }
 
+EXT_TO_BE_READ
 static inline ext_code ext_lanes_fill(ext_lanes *store, uint32_t lane, uint64_t handle, bool closeable, uint32_t *number) {
     ext_code code = ext_lane_take(store, lane);
     if (code != EXT_DONE) return code;
     return ext_lane_give(store, lane, ext_fill(&store->lanes[lane].slot, handle, closeable, number));
 }
 
+EXT_TO_BE_READ
 static inline ext_code ext_lanes_fail(ext_lanes *store, uint32_t lane, uint64_t handle, uint32_t *number) {
     ext_code code = ext_lane_take(store, lane);
     if (code != EXT_DONE) return code;
@@ -118,6 +129,7 @@ static inline ext_code ext_lanes_abandon(ext_lanes *store, uint32_t lane) {
 }
 
 /* ext_close by a slot, asked again while it is EXT_UNJOINED. */
+EXT_TO_BE_READ
 static inline ext_code ext_close_joined(ext_slot *slot, size_t context, ext_value *values, size_t places, size_t *count) {
     ext_code code = ext_close(slot, context, values, places, count);
     for (size_t shown = 0; shown < places && code == EXT_UNJOINED; shown++) code = ext_close(slot, context, values, places, count);
@@ -125,6 +137,7 @@ static inline ext_code ext_close_joined(ext_slot *slot, size_t context, ext_valu
 }
 
 /* ext_close by the last lane, asked again while it is EXT_UNJOINED. */
+EXT_TO_BE_READ
 static inline ext_code ext_lanes_close(ext_lanes *store, size_t context, ext_value *values, size_t places, size_t *count) {
     *count = 0;
     if (store->count == 0) return EXT_BAD_LANE;

@@ -27,6 +27,16 @@
 #include <stddef.h>
 #include <stdint.h>
 
+#define EXT_VERSION "0.1.0"
+#define EXT_VERSION_NUMBER 100 /* that of 1.2.3 would be 10203 */
+
+/* The compiler warns where the code of such a call is dropped. */
+#if defined(__GNUC__) || defined(__clang__)
+#define EXT_TO_BE_READ __attribute__((warn_unused_result))
+#else
+#define EXT_TO_BE_READ
+#endif
+
 #ifdef __cplusplus
 extern "C" {
 #endif
@@ -105,6 +115,7 @@ typedef struct ext_limits {
    Else all slots are as they were, and nothing is left. Refused in this order: EXT_NOT_EMPTY; EXT_BAD_LIMIT; EXT_BAD_LENGTHS or
    EXT_BAD_TEXT, for the first text that is none; EXT_BAD_ID; EXT_TOO_MANY or EXT_BAD_TREE. EXT_NO_MEMORY may come in place of
    the last three, or after them */
+EXT_TO_BE_READ
 ext_code ext_open(const uint8_t *bytes, size_t byte_count, const uint32_t *lengths, size_t length_count, const ext_limits *limits,
                   ext_slot *slots, size_t lanes);
 
@@ -115,6 +126,7 @@ ext_code ext_open(const uint8_t *bytes, size_t byte_count, const uint32_t *lengt
    EXT_DONE: *key is the number, from 0 and below the places for keys
    Else nothing has changed: EXT_DIRECTORY_FULL, EXT_NO_MEMORY, EXT_BAD_LENGTHS (also where there is no text), EXT_BAD_TEXT,
    EXT_UNPLACED, EXT_NO_LANE */
+EXT_TO_BE_READ
 ext_code ext_key(ext_slot *slot, const uint8_t *bytes, size_t byte_count, const uint32_t *lengths, size_t length_count, size_t *key);
 
 /* Stores the handle in the context itself, under a new number. `closeable`: ext_close of the context writes it out. Takes memory.
@@ -123,6 +135,7 @@ ext_code ext_key(ext_slot *slot, const uint8_t *bytes, size_t byte_count, const 
    EXT_UNSHOWN: it is stored, and of *stood number and context alone are true
    Else nothing is stored, the handle is the caller's again, and a number may be lost: EXT_BUSY, EXT_CLOSED, EXT_CONTENDED,
    EXT_EXHAUSTED, EXT_NUMBERS_FULL, EXT_NO_MEMORY, EXT_UNPLACED, EXT_CLAIMING, EXT_BAD_CONTEXT, EXT_BAD_KEY, EXT_NO_LANE */
+EXT_TO_BE_READ
 ext_code ext_put(ext_slot *slot, size_t context, size_t key, uint64_t handle, bool closeable, ext_value *stood);
 
 /* Looks in the context and then in its ancestors, the nearest first, all of it at one moment. Takes no memory.
@@ -133,6 +146,7 @@ ext_code ext_put(ext_slot *slot, size_t context, size_t key, uint64_t handle, bo
    EXT_BUSY, EXT_CLOSED: found->context is the one that decides, and nothing else of *found is written
    EXT_UNSHOWN: of *found number and context alone are true
    Else: EXT_CONTENDED, EXT_CLAIMING, EXT_BAD_CONTEXT, EXT_BAD_KEY, EXT_NO_LANE */
+EXT_TO_BE_READ
 ext_code ext_get(ext_slot *slot, size_t context, size_t key, ext_value *found);
 
 /* Looks as ext_get does, but in the contexts of the path, path[0] first: 1 to 16 contexts of the store, none twice. For a context that
@@ -140,6 +154,7 @@ ext_code ext_get(ext_slot *slot, size_t context, size_t key, ext_value *found);
    its id says. ext_put, ext_remove and ext_close ask for no path.
 
    As ext_get, and EXT_BAD_CONTEXT where that is no path */
+EXT_TO_BE_READ
 ext_code ext_get_along(ext_slot *slot, const size_t *path, size_t length, size_t key, ext_value *found);
 
 /* Takes out what stands in the context itself, a value or a kept fault. It is not closed. Takes no memory.
@@ -149,6 +164,7 @@ ext_code ext_get_along(ext_slot *slot, const size_t *path, size_t length, size_t
    EXT_UNSHOWN: it is taken out, and of *taken number and context alone are true
    Else nothing has changed: EXT_BUSY, EXT_CLOSED, EXT_CONTENDED, EXT_EXHAUSTED, EXT_CLAIMING, EXT_BAD_CONTEXT, EXT_BAD_KEY,
    EXT_NO_LANE */
+EXT_TO_BE_READ
 ext_code ext_remove(ext_slot *slot, size_t context, size_t key, ext_value *taken);
 
 /* Begins a compute: looks as ext_get does, and claims the place in the context where nothing was found. Takes no memory.
@@ -161,9 +177,11 @@ ext_code ext_remove(ext_slot *slot, size_t context, size_t key, ext_value *taken
    EXT_BUSY, EXT_CLOSED: found->context is the one that decides, and nothing else of *found is written
    EXT_UNSHOWN: as EXT_DONE, but of *found number and context alone are true
    Else nothing is claimed: EXT_CONTENDED, EXT_EXHAUSTED, EXT_CLAIMING, EXT_BAD_CONTEXT, EXT_BAD_KEY, EXT_NO_LANE */
+EXT_TO_BE_READ
 ext_code ext_begin(ext_slot *slot, size_t context, size_t key, ext_value *found);
 
 /* Begins a compute as ext_begin does, but in path[0], with the rest of the path as its ancestors. The path is that of ext_get_along. */
+EXT_TO_BE_READ
 ext_code ext_begin_along(ext_slot *slot, const size_t *path, size_t length, size_t key, ext_value *found);
 
 /* Ends the compute with the factory's value. Where other lanes draw numbers at the same moment it draws again while the claim
@@ -173,6 +191,7 @@ ext_code ext_begin_along(ext_slot *slot, const size_t *path, size_t length, size
    EXT_NUMBERS_FULL, EXT_NO_MEMORY, EXT_UNPLACED: the claim is given up, nothing is stored, and the handle is the caller's again; a
    next ext_begin may run a factory anew
    Else: EXT_NO_CLAIM, EXT_NO_LANE */
+EXT_TO_BE_READ
 ext_code ext_fill(ext_slot *slot, uint64_t handle, bool closeable, uint32_t *number);
 
 /* Ends the compute of a factory that failed. Draws again as ext_fill does, and takes memory, where the store keeps faults.
@@ -181,6 +200,7 @@ ext_code ext_fill(ext_slot *slot, uint64_t handle, bool closeable, uint32_t *num
    EXT_GIVEN_UP: the store keeps none: the claim is given up, and the handle is the caller's again
    EXT_NUMBERS_FULL, EXT_NO_MEMORY, EXT_UNPLACED: the claim is given up, nothing is kept, and the handle is the caller's again
    Else: EXT_NO_CLAIM, EXT_NO_LANE */
+EXT_TO_BE_READ
 ext_code ext_fail(ext_slot *slot, uint64_t handle, uint32_t *number);
 
 /* Ends the compute: the claim is given up, and nothing is stored. Takes no memory.
@@ -203,6 +223,7 @@ ext_code ext_abandon(ext_slot *slot);
    EXT_BUSY, EXT_CONTENDED: some of the context's places are sealed already. End the factories that run for it, and ask again
    EXT_CLOSED: it was closed before
    Else nothing has changed: EXT_NO_CLOSER, EXT_TOO_FEW_PLACES, EXT_CLAIMING, EXT_BAD_CONTEXT, EXT_NO_LANE */
+EXT_TO_BE_READ
 ext_code ext_close(ext_slot *slot, size_t context, ext_value *values, size_t places, size_t *count);
 
 /* Gives up the lane, and its claim if it has one; the slot is empty then. With the last lane of a store its memory is freed. Handles

@@ -1,11 +1,10 @@
 /* Two tests need one server, each on a thread of its own: whichever comes first starts it, both find it, and it is stopped when their context
    has ended. bindings/README.md shows some of it. */
-#include "ext_store.h"
+#include "ext_strings.h"
 
 #include <pthread.h>
 #include <sched.h>
 #include <stdio.h>
-#include <string.h>
 
 /* What the handle of a value stands for is the caller's: here it is the server's port. */
 static uint64_t start_server(void) {
@@ -20,18 +19,15 @@ enum { ENGINE, CLASS, CONTEXTS };
 
 /* Opens a store with three lanes: one for each test, and one that closes. */
 static ext_code open_store(ext_slot slots[3]) {
-    static const char ids[] =
-        "[engine:x]"
-        "[engine:x]/[class:A]";
-    static const uint32_t lengths[CONTEXTS] = {10, 20};
+    static const char *const ids[CONTEXTS] = {"[engine:x]", "[engine:x]/[class:A]"};
     static const ext_limits limits = {.tries = 64, .numbers = 1000, .keys = 32};
-    return ext_open((const uint8_t *)ids, strlen(ids), lengths, CONTEXTS, &limits, slots, 3);
+    return ext_open_strings(ids, CONTEXTS, &limits, slots, 3);
 }
 
 /* The number of the key "server" of the namespace "web". */
 static ext_code server_key(ext_slot *slot, size_t *key) {
-    static const uint32_t lengths[] = {3, 6};
-    return ext_key(slot, (const uint8_t *)"webserver", 9, lengths, 2, key);
+    static const char *const names[] = {"web", "server"};
+    return ext_key_strings(slot, names, 2, key);
 }
 
 /* Starts the server, for a lane that has claimed its place. */

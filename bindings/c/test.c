@@ -6,6 +6,7 @@
    It is linked with -Wl,--wrap=malloc,--wrap=realloc, so that it can refuse memory to the library. */
 #define _POSIX_C_SOURCE 200809L
 #include "ext_lanes.h"
+#include "ext_strings.h"
 
 #include <pthread.h>
 #include <sched.h>
@@ -644,6 +645,26 @@ static ext_code begun_and_failed(ext_slot *slot, uint32_t *number) {
     return ext_fail(slot, 81, number);
 }
 
+/* ext_strings.h: what strings open and name is what their bytes and lengths do. */
+static void strings_are_ids_and_keys(void) {
+    static const char *const paths[] = {"[engine:x]", "[engine:x]/[class:A]"}, *const name[] = {"a", "", "name"};
+    ext_slot slots[2] = {{0, NULL}};
+    CODE(ext_open_strings(paths, 0, &USUAL, slots, 2), EXT_BAD_TREE);
+    CODE(ext_open_strings(paths + 1, 1, &USUAL, slots, 2), EXT_BAD_TREE);
+    CODE(ext_open_strings(name, 1, &USUAL, slots, 2), EXT_BAD_ID);
+    WANT(slots[0].state == 0);
+    WITH_LITTLE_MEMORY(ext_open_strings(paths, 2, &USUAL, slots, 2), slots[0].state == 0 && slots[1].state == 0);
+    size_t number = 7, same = 8;
+    CODE(ext_key_strings(&slots[0], name, 0, &number), EXT_BAD_LENGTHS);
+    WITH_LITTLE_MEMORY(ext_key_strings(&slots[0], name, 3, &number), number == 7);
+    CODE(key_of(&slots[1], TEXTS("a", "", "name"), &same), EXT_DONE);
+    WANT(number == 0 && same == 0);
+    ext_value value = {0};
+    CODE(ext_get(&slots[0], CLASS, number, &value), EXT_ABSENT);
+    CODE(ext_get(&slots[0], CLASS + 1, number, &value), EXT_BAD_CONTEXT);
+    left(slots, 2);
+}
+
 static void want_of_memory_is_a_code(void) {
     ext_slot slots[2] = {{0, NULL}}, *one = &slots[0];
     texts list = ids();
@@ -956,6 +977,7 @@ int main(int count, char **words) {
     large_store(), ran("large_store");
     numbers_run_out(), ran("numbers_run_out");
     slot_moves(), ran("slot_moves");
+    strings_are_ids_and_keys(), ran("strings_are_ids_and_keys");
     want_of_memory_is_a_code(), ran("want_of_memory_is_a_code");
     calls_that_take_no_memory(), ran("calls_that_take_no_memory");
     threads_compute_put_and_close(4, rounds), ran("threads_compute_put_and_close, 4 threads");

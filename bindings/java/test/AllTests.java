@@ -28,7 +28,7 @@ final class AllTests {
     }
 
     public static void main(String[] words) throws ReflectiveOperationException {
-        for (Class<?> type : List.of(StoreTest.class, ClosingTest.class, ThreadsTest.class)) {
+        for (Class<?> type : List.of(StoreTest.class, ClosingTest.class, ThreadsTest.class, LoadingTest.class)) {
             run(type);
         }
         System.out.println(passed + " passed, " + failed + " failed");

@@ -1,4 +1,5 @@
 import extensionstore.CloseableResource;
+import extensionstore.Context;
 import extensionstore.Contexts;
 import extensionstore.Limits;
 import extensionstore.Namespace;
@@ -40,6 +41,70 @@ final class ClosingTest extends OverContexts {
         contexts.close();
         equal(closed.get(3), "the engine's");
         equal(closed.size(), 4);
+    }
+
+    void sealsBeforeItCloses() {
+        List<String> closed = new ArrayList<>();
+        inClass.put("earlier", resource(closed, "earlier"));
+        Object later = resource(closed, "later");
+        inClass.put("later", later);
+        Context context = contexts.all().get(1);
+        for (int time = 0; time < 2; time++) {
+            context.seal();
+            equal(closed.size(), 0);
+            equal(first.get("later"), later);
+            equal(thrown(StoreException.class, () -> inClass.put("later", 1)).isClosed(), true);
+            equal(thrown(StoreException.class, () -> inClass.remove("later")).isClosed(), true);
+        }
+        for (int time = 0; time < 2; time++) {
+            context.close();
+            equal(closed, List.of("later", "earlier"));
+            equal(thrown(StoreException.class, () -> first.get("later")).isClosed(), true);
+        }
+        context.seal();
+        equal(closed.size(), 2);
+    }
+
+    void sealIsRefusedInsideAFactory() {
+        Context context = contexts.all().get(1);
+        inClass.getOrComputeIfAbsent("own", it -> {
+            equal(thrown(StoreException.class, ran(context::seal)).isClosed(), false);
+            return "own";
+        });
+        context.seal();
+        equal(first.get("own"), "own");
+    }
+
+    void sealWaitsForFactoriesOfOtherThreads() throws Exception {
+        Context context = contexts.all().get(1);
+        CountDownLatch begun = new CountDownLatch(1);
+        AtomicInteger ended = new AtomicInteger();
+        together(2, thread -> {
+            if (thread == 0) {
+                inClass.getOrComputeIfAbsent("other", it -> {
+                    begun.countDown();
+                    sleep();
+                    return ended.incrementAndGet();
+                });
+            } else {
+                await(begun);
+                context.seal();
+                equal(ended.get(), 1);
+            }
+        });
+        equal(first.get("other"), 1);
+    }
+
+    void keysThatTheStoreTakes() {
+        Store small = Contexts.open(new Limits(1, 64, 100, 32, false, true), IDS).root().getStore(Namespace.GLOBAL);
+        for (int key = 0; key < 32; key++) {
+            equal(small.takes(key), true);
+        }
+        equal(small.takes(32), false);
+        equal(small.takes(0), true);
+        equal(small.get(0), null);
+        small.put(31, "stored");
+        thrown(StoreException.class, () -> small.put(32, "refused"));
     }
 
     private static CloseableResource resource(List<String> closed, String name) {

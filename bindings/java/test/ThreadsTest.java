@@ -156,6 +156,28 @@ final class ThreadsTest extends OverContexts {
         equal(System.nanoTime() - begin < 15_000_000_000L, true); // no time limit is waited for
     }
 
+    void factoriesOfTwoStoresThatWaitForOneAnother() throws Exception {
+        List<Store> stores = new ArrayList<>();
+        for (int each = 0; each < 2; each++) {
+            stores.add(Contexts.open(new Limits(15, 64, 10, false), IDS).root().getStore(Namespace.GLOBAL));
+        }
+        CountDownLatch begun = new CountDownLatch(2);
+        AtomicInteger refused = new AtomicInteger();
+        together(2, thread -> {
+            try {
+                stores.get(thread).getOrComputeIfAbsent("key", it -> {
+                    begun.countDown();
+                    await(begun);
+                    return stores.get(1 - thread).getOrComputeIfAbsent("key", other -> "made");
+                });
+            } catch (StoreException refusal) {
+                equal(refusal.getMessage().startsWith("all factories that run wait for one another"), true);
+                refused.incrementAndGet();
+            }
+        });
+        equal(refused.get(), 1);
+    }
+
     void callsInAStoreOfOneTry() throws Exception {
         Contexts shared = Contexts.open(new Limits(15, 1, 65_535, true), IDS);
         Store own = shared.all().get(1).getStore(Namespace.GLOBAL);

@@ -82,10 +82,7 @@ fn batch(threads: usize, count: u32, operation: Operation) -> (Duration, Duratio
         "[engine:x]/[class:A]",
         "[engine:x]/[class:A]/[method:m()]",
     ];
-    let limits = Limits {
-        lanes: threads,
-        ..Limits::default()
-    };
+    let limits = Limits::default().with(|it| it.lanes = threads);
     let (_store, mut lanes, _closers) = Store::open(&ids, limits).expect("a store");
     let key = lanes[0].key(&[], "key").expect("a number");
     lanes[0].put(0, &key, Number(1)).expect("a value");

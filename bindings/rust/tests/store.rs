@@ -1,7 +1,7 @@
 //! The calls on one thread, one after another.
 use extension_store::{
-    Closer, ComputeError, GetError, Key, Lane, Limits, OpenError, PutError, Refusal, Stood, Store,
-    StoreValue,
+    Closer, ComputeError, GetError, Key, Lane, Lanes, Limits, OpenError, PutError, Refusal, Stood,
+    Store, StoreValue, TypedKey,
 };
 use std::panic::{catch_unwind, AssertUnwindSafe};
 use std::sync::atomic::{AtomicUsize, Ordering::SeqCst};
@@ -58,10 +58,7 @@ fn open(limits: Limits) -> Opened {
 }
 
 fn keeping() -> Limits {
-    Limits {
-        keep_faults: true,
-        ..Limits::default()
-    }
+    Limits::default().with(|it| it.keep_faults = true)
 }
 
 impl Opened {
@@ -106,41 +103,32 @@ fn refused_openings() {
     let usual = Limits::default();
     for lanes in [0, 16, usize::MAX] {
         assert_eq!(
-            refused(&IDS, Limits { lanes, ..usual }),
+            refused(&IDS, usual.with(|it| it.lanes = lanes)),
             Some(OpenError::BadLimit)
         );
     }
     for tries in [0, 65] {
         assert_eq!(
-            refused(&IDS, Limits { tries, ..usual }),
+            refused(&IDS, usual.with(|it| it.tries = tries)),
             Some(OpenError::BadLimit)
         );
     }
     for numbers in [0, 65_536] {
         assert_eq!(
-            refused(&IDS, Limits { numbers, ..usual }),
+            refused(&IDS, usual.with(|it| it.numbers = numbers)),
             Some(OpenError::BadLimit)
         );
     }
     for keys in [0, 1_025, u32::MAX] {
         assert_eq!(
-            refused(&IDS, Limits { keys, ..usual }),
+            refused(&IDS, usual.with(|it| it.keys = keys)),
             Some(OpenError::BadLimit)
         );
     }
     for bad in [
-        Limits {
-            lanes: 32,
-            ..large()
-        },
-        Limits {
-            numbers: 1_048_576,
-            ..large()
-        },
-        Limits {
-            keys: 1_025,
-            ..large()
-        },
+        large().with(|it| it.lanes = 32),
+        large().with(|it| it.numbers = 1_048_576),
+        large().with(|it| it.keys = 1_025),
     ] {
         assert_eq!(refused(&IDS, bad), Some(OpenError::BadLimit));
     }
@@ -248,10 +236,7 @@ fn equal_keys_are_one() {
 #[test]
 fn keys_up_to_the_limit() {
     for (keys, places) in [(1, 32), (33, 64), (65, 96), (1_024, 1_024)] {
-        let mut opened = open(Limits {
-            keys,
-            ..Limits::default()
-        });
+        let mut opened = open(Limits::default().with(|it| it.keys = keys));
         let keys: Vec<Key> = (0..places).map(|it| opened.key(&it.to_string())).collect();
         assert_eq!(opened.lanes[0].key(&[], "one more"), Err(Refusal::KeysFull));
         // of 1,024 values the close would take long over a library that is not optimized
@@ -268,22 +253,18 @@ fn keys_up_to_the_limit() {
 }
 
 fn large() -> Limits {
-    Limits {
-        large: true,
-        ..Limits::default()
-    }
+    Limits::default().with(|it| it.large = true)
 }
 
 #[test]
 fn large_store() {
     let mut ids = vec!["[engine:x]".to_string()];
     ids.extend((1..65_536).map(|it| format!("[engine:x]/[m:{it}]")));
-    let limits = Limits {
-        lanes: 31,
-        numbers: 1_048_575,
-        keys: 32,
-        ..large()
-    };
+    let limits = large().with(|it| {
+        it.lanes = 31;
+        it.numbers = 1_048_575;
+        it.keys = 32;
+    });
     let (store, mut lanes, mut closers) = Store::<Thing>::open(&ids, limits).unwrap();
     assert_eq!(store.context("[engine:x]/[m:65535]"), Some(65_535));
     assert_eq!((lanes.len(), closers.len()), (31, 65_536));
@@ -321,7 +302,7 @@ fn key_of_another_store_is_refused() {
         Err(GetError::Refused(Refusal::OtherStore))
     ));
     let thing = one.thing("thing");
-    let Err(PutError { value, refusal }) = one.lanes[0].put(ENGINE, &foreign, thing) else {
+    let Err(PutError { value, refusal, .. }) = one.lanes[0].put(ENGINE, &foreign, thing) else {
         panic!("a key of another store is taken");
     };
     assert_eq!((value.name, refusal), ("thing", Refusal::OtherStore));
@@ -463,10 +444,7 @@ fn kept_fault_stands_until_it_is_replaced() {
 
 #[test]
 fn numbers_run_out() {
-    let limits = Limits {
-        numbers: 1,
-        ..keeping()
-    };
+    let limits = keeping().with(|it| it.numbers = 1);
     let mut opened = open(limits);
     let (one, other) = (opened.key("one"), opened.key("other"));
     opened.put(0, ENGINE, &one, "first");
@@ -652,10 +630,7 @@ fn values_are_dropped_once_and_with_all_of_the_store() {
 
 #[test]
 fn a_refused_value_is_dropped_once() {
-    let limits = Limits {
-        numbers: 1,
-        ..Limits::default()
-    };
+    let limits = Limits::default().with(|it| it.numbers = 1);
     let mut opened = open(limits);
     let key = opened.key("key");
     opened.put(0, ENGINE, &key, "first");
@@ -715,4 +690,6 @@ fn what_may_cross_threads() {
     send::<Store<Thing>>();
     sync::<Store<Thing>>();
     send::<Key>();
+    sync::<Lanes<Thing>>();
+    send::<TypedKey<Thing>>();
 }

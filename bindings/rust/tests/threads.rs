@@ -30,11 +30,10 @@ fn open(
     lanes: usize,
     keep_faults: bool,
 ) -> (Store<Number>, Vec<Lane<Number>>, Vec<Closer<Number>>) {
-    let limits = Limits {
-        lanes,
-        keep_faults,
-        ..Limits::default()
-    };
+    let limits = Limits::default().with(|it| {
+        it.lanes = lanes;
+        it.keep_faults = keep_faults;
+    });
     Store::open(&ids(), limits).unwrap()
 }
 
@@ -116,12 +115,11 @@ fn each_value_is_replaced_once() {
 /// Each lane computes for a key of its own, and all draw numbers, in a store with one try.
 #[test]
 fn what_a_factory_answers_is_kept_beside_others() {
-    let limits = Limits {
-        lanes: 15,
-        tries: 1,
-        keep_faults: true,
-        ..Limits::default()
-    };
+    let limits = Limits::default().with(|it| {
+        it.lanes = 15;
+        it.tries = 1;
+        it.keep_faults = true;
+    });
     let (_store, lanes, _closers) = Store::open(&ids(), limits).unwrap();
     together(lanes, |at, lane| {
         let key = lane.key(&[], &at.to_string()).unwrap();
@@ -153,12 +151,11 @@ fn contexts_given_out(threads: usize) {
     let template = "[engine:x]/[test-template:t]";
     let mut ids = vec!["[engine:x]".to_string(), template.to_string()];
     ids.extend((1..=ROUNDS).map(|it| format!("{template}/[test-template-invocation:#{it}]")));
-    let limits = Limits {
-        lanes: threads,
-        keys: 32,
-        large: true,
-        ..Limits::default()
-    };
+    let limits = Limits::default().with(|it| {
+        it.lanes = threads;
+        it.keys = 32;
+        it.large = true;
+    });
     let (_store, mut lanes, closers) = Store::open(&ids, limits).unwrap();
     let shared = lanes[0].key(&[], "shared").unwrap();
     assert!(lanes[0].put(1, &shared, Number(1)).unwrap().is_none());

@@ -10,26 +10,19 @@ import org.junit.jupiter.api.extension.ExtensionContext;
 import org.junit.jupiter.api.extension.ExtensionContext.Namespace;
 import org.junit.jupiter.api.extension.ExtensionContext.Store;
 
-/** Contexts whose limits configuration parameters tell: 70,000 numbers, of a large store, and 100 keys, which is 128 with the rest of a block. */
+/** Contexts whose numbers a configuration parameter tells: 70,000, of a large store. */
 @ExtendWith(AskedLimitsTests.Filling.class)
 class AskedLimitsTests {
     static class Filling implements BeforeEachCallback {
         @Override
         public void beforeEach(ExtensionContext context) {
             Store store = ProvedStore.of(context, Namespace.GLOBAL);
-            for (int key = 0; key < 128; key++) {
-                store.put(key, key);
-            }
-            refused("other keys have all of this store's numbers for keys: 128", () -> store.put(128, 128));
-            for (int number = 129; number <= 70_000; number++) {
+            for (int number = 1; number <= 70_000; number++) {
                 store.put(0, number);
             }
-            refused("all numbers of the store were drawn: 0", () -> store.put(0, 70_001));
+            String message = "all numbers of the store were drawn: 0; the configuration parameter extensionstore.numbers is 70000";
+            Assertions.assertEquals(message, Assertions.assertThrows(StoreException.class, () -> store.put(0, 70_001)).getMessage());
             Assertions.assertEquals(70_000, store.get(0));
-        }
-
-        private static void refused(String message, Runnable call) {
-            Assertions.assertEquals(message, Assertions.assertThrows(StoreException.class, call::run).getMessage());
         }
     }
 

@@ -3,8 +3,13 @@ package extensionstore;
 import java.util.ArrayList;
 import java.util.List;
 
-/** The factories that run for a store, by their threads, and the threads that wait for the end of one. */
+/**
+ * The factories that run for all stores, by their threads, and the threads that wait for the end of one. For all, since a factory of one store may ask
+ * another store.
+ */
 final class Factories {
+    static final Factories ALL = new Factories();
+
     /** More than the calls take that come between a claim and its end, but for the factory itself. */
     private static final int FRAMES = 200;
 
@@ -14,17 +19,32 @@ final class Factories {
     private int running; // threads that run factories, or are about to
     private int stuck; // those of them that have waited since the last end
 
-    /** A place for which a thread runs a factory, or is about to. */
-    record Claim(int context, int key) {}
+    /**
+     * A place for which a thread runs a factory, or is about to.
+     *
+     * @param store the store's address
+     */
+    record Claim(long store, int context, int key) {}
 
-    /** How many factories this thread runs. */
-    int ofThisThread() {
-        return own.get().size();
+    private Factories() {}
+
+    /** How many factories this thread runs for the store. */
+    int ofThisThread(long store) {
+        int many = 0;
+        for (Claim claim : own.get()) {
+            many += claim.store() == store ? 1 : 0;
+        }
+        return many;
     }
 
     /** Whether this thread runs the factory of the claim. */
     boolean isOwn(Claim claim) {
         return own.get().contains(claim);
+    }
+
+    /** Whether this thread runs a factory for the context. */
+    boolean isOwn(long store, int context) {
+        return own.get().stream().anyMatch(it -> it.store() == store && it.context() == context);
     }
 
     /**
@@ -103,7 +123,7 @@ final class Factories {
 
     /** What a call of this thread has seen of the ends, which it waits for. */
     Patience patience() {
-        return new Patience(this, ofThisThread() > 0);
+        return new Patience(this, !own.get().isEmpty());
     }
 
     /**

@@ -3,31 +3,50 @@ package extensionstore;
 import java.io.IOException;
 import java.io.InputStream;
 import java.nio.file.Files;
+import java.nio.file.InvalidPathException;
 import java.nio.file.Path;
 import java.nio.file.StandardCopyOption;
 import java.util.Locale;
 
 /** Loads the native library: that of the property {@code extensionstore.library}, or that in the jar for this machine, or one of {@code java.library.path}. */
 final class Library {
+    private static final String GIVEN = "extensionstore.library";
+
     /** Why it is not loaded; null where it is. */
     static final String MISSING = load();
 
     private Library() {}
 
     private static String load() {
-        String given = System.getProperty("extensionstore.library");
+        String given = System.getProperty(GIVEN);
         String inJar = "META-INF/native/" + machine() + "/libextension_store.so";
         try (InputStream found = Library.class.getResourceAsStream("/" + inJar)) {
             if (given != null) {
-                System.load(given);
+                loadGiven(Path.of(given));
             } else if (found != null) {
                 loadCopy(found);
             } else {
                 System.loadLibrary("extension_store");
             }
             return null;
-        } catch (IOException | UnsatisfiedLinkError fault) {
-            return "the native library " + (given == null ? "for this machine, " + inJar + "," : given) + " is not loaded: " + fault.getMessage();
+        } catch (IOException | UnsatisfiedLinkError | InvalidPathException fault) {
+            String what = given == null ? "for this machine, " + inJar + "," : given;
+            String instead = "; the property " + GIVEN + " may name its file, as where no code may run in " + System.getProperty("java.io.tmpdir");
+            return "the native library " + what + " is not loaded: " + fault.getMessage() + (given == null ? instead : "");
+        }
+    }
+
+    // The virtual machine loads a file for one class loader alone.
+    private static void loadGiven(Path file) throws IOException {
+        try {
+            System.load(file.toString());
+        } catch (UnsatisfiedLinkError fault) {
+            if (!String.valueOf(fault.getMessage()).contains("another classloader")) {
+                throw fault;
+            }
+            try (InputStream again = Files.newInputStream(file)) {
+                loadCopy(again);
+            }
         }
     }
 

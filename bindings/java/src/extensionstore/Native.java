@@ -12,6 +12,7 @@ final class Native {
     static final int BUSY = 5;
     static final int CLOSED = 6;
     static final int CONTENDED = 7;
+    static final int DIRECTORY_FULL = 9;
     static final int NUMBERS_FULL = 10;
     static final int UNSHOWN = 13;
     static final int CLAIMING = 15;

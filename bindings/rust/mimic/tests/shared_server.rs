@@ -1,13 +1,12 @@
 //! Tests of libtest-mimic that share a server: whichever needs it first starts it, the others find it, and when all have ended it is stopped.
 #![forbid(unsafe_code)]
-use extension_store::{Key, Lane, Limits, Store, StoreValue};
+use extension_store::{Key, Lanes, Limits, Store, StoreValue};
 use libtest_mimic::{Arguments, Failed, Trial};
 use std::io::{self, Read, Write};
 use std::net::{TcpListener, TcpStream};
-use std::sync::{Arc, Mutex};
+use std::sync::Arc;
 
 const ENGINE: usize = 0;
-const MOST_THREADS: usize = 8;
 
 /// A server that greets each caller who connects.
 struct Server {
@@ -38,21 +37,18 @@ impl Server {
     }
 }
 
-/// What all tests have: a lane for each thread, while no test asks the store with it, and the server's key.
+/// What all tests have: lanes, of which each takes one while it asks the store, and the server's key.
 struct Shared {
-    lanes: Mutex<Vec<Lane<Server>>>,
+    lanes: Lanes<Server>,
     server: Key,
 }
 
 impl Shared {
     fn server(&self) -> Result<Arc<Server>, Failed> {
-        let idle = self.lanes.lock()?.pop();
-        let mut lane = idle.ok_or("there are more threads than lanes")?;
+        let mut lane = self.lanes.take();
         let found = lane.compute(ENGINE, &self.server, Server::start);
         let server = found.map(|it| it.share());
-        let server = server.map_err(|fault| fault.to_string());
-        self.lanes.lock()?.push(lane);
-        Ok(server?)
+        Ok(server.map_err(|fault| fault.to_string())?)
     }
 }
 
@@ -65,17 +61,12 @@ fn test(shared: &Arc<Shared>, name: String) -> Trial {
 }
 
 fn main() {
-    let mut words = Arguments::from_args();
-    let threads = words.test_threads.unwrap_or(MOST_THREADS);
-    words.test_threads = Some(threads.min(MOST_THREADS));
-    let limits = Limits {
-        lanes: MOST_THREADS,
-        ..Limits::default()
-    };
-    let opened = Store::open(&["[engine:shared_server]"], limits);
-    let (_store, mut lanes, closers) = opened.expect("an id, and limits in their ranges");
-    let server = lanes[0].key(&[], "server").expect("the first key");
-    let lanes = Mutex::new(lanes);
+    let words = Arguments::from_args();
+    let opened = Store::open(&["[engine:shared_server]"], Limits::default());
+    let (_store, lanes, closers) = opened.expect("an id, and limits in their ranges");
+    let lanes = Lanes::from(lanes);
+    let key = lanes.take().key(&[], "server");
+    let server = key.expect("the first key");
     let shared = Arc::new(Shared { lanes, server });
     let tests = (1..=20).map(|it| test(&shared, format!("test{it}")));
     let ended = libtest_mimic::run(&words, tests.collect());

@@ -17,14 +17,19 @@ import org.junit.platform.commons.PreconditionViolationException;
  * JUnit's {@code Store} over the proved one, for extensions: {@code ProvedStore.of(context, namespace)} in place of {@code context.getStore(namespace)}. What is
  * stored by the one is not seen by the other.
  *
- * <p>Each of JUnit's contexts in which something is stored has a proved store of its own. JUnit closes it with the context, as a resource that stands there
- * since the first {@code of} for this context or for one below it; and with it each {@code CloseableResource}, the latest first. A look-up asks the stores
- * one after another, the nearest first, as JUnit's does.
+ * <p>Each of JUnit's contexts in which something is stored has a proved store of its own. A look-up asks the stores one after another, the nearest first, as
+ * JUnit's does. JUnit closes each resource with its context: after those that were stored later, here or in JUnit's own store. A value whose creator asks for
+ * another is the later one, where in JUnit's own store the other is.
  *
- * <p>A context has at most 64 keys, over all namespaces, or as many as the configuration parameter {@code extensionstore.keys} says (1 to 1,024); and 1,023
- * values are stored in it, in the root 65,535, those that are replaced, removed or refused among them, or as many as {@code extensionstore.numbers} says (1
- * to 1,048,575). What is refused is refused by a {@link StoreException}; so is each call after the context was closed. A close fails while a creator runs
- * for the context, where JUnit waits.
+ * <p>A resource is what implements {@code CloseableResource}; since JUnit 5.13 also what is {@code AutoCloseable}, unless JUnit's configuration parameter
+ * {@code junit.jupiter.extensions.store.close.autocloseable.enabled} is false.
+ *
+ * <p>From the close of the first resource on nothing more is stored or removed in the context. What is refused is refused by a {@link StoreException}; so is
+ * each call after the context was closed. The close waits while a creator runs for the context, as JUnit does.
+ *
+ * <p>A context of a test method stores 4,095 values, a class's 65,535 and the root 262,143, those that are replaced, removed or refused among them; or as
+ * many as the configuration parameter {@code extensionstore.numbers} says, 1 to 1,048,575. Keys have no limit: for each 1,024 more a store is opened, which
+ * has as many numbers.
  */
 public final class ProvedStore implements Store {
     private static final String NONE = "no proved store: ";
@@ -47,15 +52,11 @@ public final class ProvedStore implements Store {
         }
     }
 
-    /** Null as a value, which ends a look-up. */
-    private enum Nothing {
-        HERE
-    }
-
     /**
      * The values of the context in the namespace.
      *
-     * @throws ExtensionContextException where no native library fits this machine, which {@link Contexts#unavailable()} tells before
+     * @throws ExtensionContextException where no native library fits this machine, which {@link Contexts#unavailable()} tells before; and where
+     *     {@code extensionstore.numbers} is out of its range
      */
     public static ProvedStore of(ExtensionContext context, Namespace namespace) {
         given(namespace, "Namespace");
@@ -79,7 +80,7 @@ public final class ProvedStore implements Store {
 
     @Override
     public Object get(Object key) {
-        return told(found(named(key)));
+        return Own.value(own.found(named(key)));
     }
 
     @Override
@@ -91,8 +92,8 @@ public final class ProvedStore implements Store {
     public <K, V> Object getOrComputeIfAbsent(K key, Function<K, V> defaultCreator) {
         Name name = named(key);
         given(defaultCreator, "defaultCreator function");
-        Object found = found(name);
-        return told(found != null ? found : own.opened().getOrComputeIfAbsent(name, it -> stored(defaultCreator.apply(key))));
+        Object found = own.found(name);
+        return Own.value(found != null ? found : own.computed(name, () -> defaultCreator.apply(key)));
     }
 
     @Override
@@ -102,17 +103,34 @@ public final class ProvedStore implements Store {
         return cast(name, type(requiredType), getOrComputeIfAbsent(key, defaultCreator));
     }
 
+    /**
+     * JUnit 6's: as {@link #getOrComputeIfAbsent(Object, Function)}, but a null that stands there is as nothing, and the creator's value must not be
+     * null.
+     */
+    public <K, V> Object computeIfAbsent(K key, Function<? super K, ? extends V> defaultCreator) {
+        Name name = named(key);
+        given(defaultCreator, "defaultCreator function");
+        Object value = get(key);
+        while (value == null) {
+            own.removeNull(name);
+            value = Own.value(own.computed(name, () -> given(defaultCreator.apply(key), "the defaultCreator's value")));
+        }
+        return value;
+    }
+
+    /** The same, of a type. */
+    public <K, V> V computeIfAbsent(K key, Function<? super K, ? extends V> defaultCreator, Class<V> requiredType) {
+        return cast(named(key), type(requiredType), computeIfAbsent(key, defaultCreator));
+    }
+
     @Override
     public void put(Object key, Object value) {
-        Name name = named(key);
-        own.opened().put(name, stored(value));
+        own.put(named(key), value);
     }
 
     @Override
     public Object remove(Object key) {
-        Name name = named(key);
-        extensionstore.Store store = own.store();
-        return store == null ? null : told(store.remove(name));
+        return own.remove(named(key));
     }
 
     @Override
@@ -134,23 +152,6 @@ public final class ProvedStore implements Store {
 
     private static <V> Class<V> type(Class<V> required) {
         return given(required, "requiredType");
-    }
-
-    private Object found(Name name) {
-        Object value = null;
-        for (Own at = own; at != null && value == null; at = at.above()) {
-            extensionstore.Store store = at.store();
-            value = store == null ? null : store.get(name);
-        }
-        return value;
-    }
-
-    private static Object stored(Object value) {
-        return value == null ? Nothing.HERE : value;
-    }
-
-    private static Object told(Object value) {
-        return value == Nothing.HERE ? null : value;
     }
 
     @SuppressWarnings("unchecked")
