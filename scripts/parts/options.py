@@ -66,7 +66,7 @@ def selecting(program):
     failing = [it for it in everything if it.startswith(FAILING)]
     callbacks = [it for it in everything if "[class:Callbacks]" in it]
     nothing = Ran(program, ["Failing", "Nowhere", "--skip", "Failing"])
-    yield "--list has all tests in their order", len(everything) == 20 and everything[0] == "[engine:trial]/[class:Slow]/[test:sleeps]" and everything[-1].endswith("[class:Unmade]/[test:two]")
+    yield "--list has all tests in their order", len(everything) == 21 and everything[0] == "[engine:trial]/[class:Slow]/[test:sleeps]" and everything[-1].endswith("[class:Unmade]/[test:two]")
     yield "a part of an id selects", Ran(program, ["--list", "Failing"]).tests() == failing and len(failing) == 4
     yield "one of several parts selects", Ran(program, ["--list", "s:Failing", "lbacks]"]).tests() == callbacks + failing
     yield "--skip leaves out", Ran(program, ["--list", "Failing", "--skip", "needs", "--skip", "both"]).tests() == [failing[0], failing[3]]
@@ -115,6 +115,7 @@ def running(program):
     rows = Ran(program, ["Rows", "--report", "tree"])
     storing = Ran(program, ["Storing", "--report", "text"])
     callbacks = Ran(program, ["Callbacks", "--report", "text"])
+    nested = Ran(program, ["Nested"])
     # (A job in the background has this signal ignored, and so has what it starts.)
     signal.signal(signal.SIGINT, signal.default_int_handler)
     interrupted = subprocess.Popen([program, "Slow"], stdout=subprocess.DEVNULL, stderr=subprocess.DEVNULL, env={})
@@ -127,6 +128,7 @@ def running(program):
     yield "no more often than it says", twice.out == "failed  [engine:trial]/[class:Flaky]/[test:third]\n    not yet\n\n1 tests in T: 1 failed\n" and twice.status == 1
     yield "a test that may be run twice finds at its second attempt what it stored at the first", "[test:twice] successful closed 1 took T flaky, passed at attempt 2\n" in storing.out
     yield "of rows in reserve those that come are run and told", "case:#1 successful" in rows.out and "case:#2" not in rows.out and "tests 1 successful 1" in rows.out
+    yield "a test is handed what each node above it shares", nested.status == 0
     yield "callbacks come in JUnit's order", "tests 2 successful 2 " in callbacks.out and "[class:Callbacks] successful closed 1" in callbacks.out
     yield "Ctrl-C ends it", interrupted.wait(timeout=60) == -signal.SIGINT
     for words, status in [(["--lanes", "0"], 2), (["--lanes", "33"], 2), (["--retries", "x"], 2), (["--fail-fast=0"], 2), (["--shuffle=x"], 2), (["--bogus"], 2), (["--help"], 0)]:

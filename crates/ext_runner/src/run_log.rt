@@ -407,7 +407,7 @@ impl<R: Wait + Clock> TableListener for RunLog<'_, R> {
         if let Some(timeline) = &mut state.timeline
             && attempt > 1
         {
-            timeline.try_again(node, attempt, self.micros(self.now()));
+            timeline.try_again(node, self.micros(self.now()));
         }
     }
 

@@ -175,11 +175,9 @@ impl Timeline {
         }
     }
 
-    /// An attempt begins. The first begins with the first call.
-    pub(crate) fn try_again(&mut self, node: ContextNo, attempt: u32, now: u64) {
-        if let Some(course) = self.courses.get_mut(node)
-            && attempt > 1
-        {
+    /// A further attempt begins. The first begins with the first call.
+    pub(crate) fn try_again(&mut self, node: ContextNo, now: u64) {
+        if let Some(course) = self.courses.get_mut(node) {
             course.begun = Some(now);
         }
     }

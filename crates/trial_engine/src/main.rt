@@ -22,6 +22,8 @@ enum Task {
     Count,
     /// The same, which takes so many milliseconds to make.
     SlowCount(u64),
+    /// A value that is made of one that is shared above it.
+    Inner,
     /// A value whose close fails.
     Unclosable,
     /// A value that cannot be made.
@@ -39,6 +41,8 @@ enum Task {
     Meet(u64),
     /// Stores a value of its own, which each attempt but the first finds.
     Store,
+    /// Fails unless a count and the value made of it are shared.
+    Levels,
     /// A row in reserve: the first one comes.
     Row(u64),
 }
@@ -47,6 +51,7 @@ enum Task {
 #[derive(Drop)]
 enum Shared {
     Count(AtomicU64),
+    Inner,
     Unclosable,
 }
 
@@ -92,6 +97,11 @@ fn add_times(tests: &mut TestTable<Task>) -> Result<(), TableFault> {
     tests.class("Storing")?;
     tests.test("twice", Task::Store)?;
     tests.attempts(2);
+    tests.class("Nested")?;
+    tests.share(Task::Count);
+    tests.group("inner")?;
+    tests.share(Task::Inner);
+    tests.case("both", Task::Levels)?;
     Ok(())
 }
 
@@ -157,6 +167,10 @@ impl Engine for Trial {
     fn make(&self, node: &Scope<Task, Shared>) -> Result<Shared, Stop> {
         match node.given {
             Task::Unclosable => Ok(Shared::Unclosable),
+            Task::Inner => match node.shared {
+                [Shared::Count(_)] => Ok(Shared::Inner),
+                _ => Err(node.fail("nothing is shared above")),
+            },
             Task::Unmakable => Err(node.fail("nothing to be had")),
             Task::SlowCount(millis) => {
                 thread::sleep(node.rt, Duration::from_millis(*millis));
@@ -168,7 +182,7 @@ impl Engine for Trial {
 
     fn close(&self, _rt: &HostRuntime, shared: &Shared) -> Result<(), Stop> {
         match shared {
-            Shared::Count(_) => Ok(()),
+            Shared::Count(_) | Shared::Inner => Ok(()),
             Shared::Unclosable => Err(anyhow::anyhow!("it does not close").into()),
         }
     }
@@ -206,6 +220,10 @@ fn act(call: &Scope<Task, Shared>) -> Result<(), Stop> {
         Task::PassAt(attempt) => pass_at(call, count(call)?, *attempt),
         Task::Step(from, to) => step(call, count(call)?, *from, *to),
         Task::Meet(others) => meet(call, count(call)?, *others),
+        Task::Levels => match call.shared {
+            [Shared::Count(_), Shared::Inner] => Ok(()),
+            _ => Err(call.fail("not both are shared")),
+        },
         Task::Row(2) => Err(call.fail("it should not have come")),
         _ => Ok(()),
     }
@@ -215,7 +233,7 @@ fn act(call: &Scope<Task, Shared>) -> Result<(), Stop> {
 fn count<'a>(call: &Scope<'a, Task, Shared>) -> Result<&'a AtomicU64, Stop> {
     match call.nearest()? {
         Shared::Count(count) => Ok(count),
-        Shared::Unclosable => Err(call.fail("no count is shared")),
+        Shared::Inner | Shared::Unclosable => Err(call.fail("no count is shared")),
     }
 }
 
