@@ -2,6 +2,7 @@
 
 What a case says is written here, by docs/ENGINES.md. Times are compared as `T`. The XML is read by Python's own parser. With `--write` the sessions at terminals are written to examples/sessions in place of being compared.
 """
+import itertools
 import json
 import os
 import pathlib
@@ -211,12 +212,12 @@ def main(given, words):
     writing = "--write" in words
     program = given if pathlib.Path(given).name == PROVED.name else PROVED
     with tempfile.TemporaryDirectory(prefix="options-") as name:
-        folder = pathlib.Path(name)
-        cases = [
-            *selecting(program), *sharding(program), *failed_again(program, folder), *running(program), *stopping(program),
-            *ordering(program), *telling(program, folder), *sessions(program, writing),
+        folder, passed, failed = pathlib.Path(name), 0, 0
+        parts = [
+            selecting(program), sharding(program), failed_again(program, folder), running(program), stopping(program),
+            ordering(program), telling(program, folder), sessions(program, writing),
         ]  # fmt: skip
-    for what, holds in cases:
-        print(f"options: {what}: {'yes' if holds else 'NO'}")
-    failed = sum(not holds for _, holds in cases)
-    return len(cases) - failed, failed
+        for what, holds in itertools.chain.from_iterable(parts):
+            print(f"options: {what}: {'yes' if holds else 'NO'}", flush=True)
+            passed, failed = passed + bool(holds), failed + (not holds)
+    return passed, failed

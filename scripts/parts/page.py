@@ -2,6 +2,7 @@
 
 The runs are those of crates/trial_engine and of plans: of one alone where its program is given, and else of both proved programs. Prints a line for each case.
 """
+import functools
 import html.parser
 import json
 import os
@@ -49,7 +50,10 @@ class Page:
             self.status = ran.returncode
             self.text = self.file.read_text(encoding="utf-8")
         self.json = DATA.search(self.text)[1]
-        self.data = json.loads(self.json)
+
+    @functools.cached_property
+    def data(self):
+        return json.loads(self.json)
 
     def ids(self):
         """The id of each node."""
