@@ -167,10 +167,8 @@ impl Engine for Trial {
     fn make(&self, node: &Scope<Task, Shared>) -> Result<Shared, Stop> {
         match node.given {
             Task::Unclosable => Ok(Shared::Unclosable),
-            Task::Inner => match node.shared {
-                [Shared::Count(_)] => Ok(Shared::Inner),
-                _ => Err(node.fail("nothing is shared above")),
-            },
+            Task::Inner if is_count(node.shared.first()) => Ok(Shared::Inner),
+            Task::Inner => Err(node.fail("no count is shared above")),
             Task::Unmakable => Err(node.fail("nothing to be had")),
             Task::SlowCount(millis) => {
                 thread::sleep(node.rt, Duration::from_millis(*millis));
@@ -220,10 +218,7 @@ fn act(call: &Scope<Task, Shared>) -> Result<(), Stop> {
         Task::PassAt(attempt) => pass_at(call, count(call)?, *attempt),
         Task::Step(from, to) => step(call, count(call)?, *from, *to),
         Task::Meet(others) => meet(call, count(call)?, *others),
-        Task::Levels => match call.shared {
-            [Shared::Count(_), Shared::Inner] => Ok(()),
-            _ => Err(call.fail("not both are shared")),
-        },
+        Task::Levels => levels(call),
         Task::Row(2) => Err(call.fail("it should not have come")),
         _ => Ok(()),
     }
@@ -235,6 +230,23 @@ fn count<'a>(call: &Scope<'a, Task, Shared>) -> Result<&'a AtomicU64, Stop> {
         Shared::Count(count) => Ok(count),
         Shared::Inner | Shared::Unclosable => Err(call.fail("no count is shared")),
     }
+}
+
+/// Whether this is a count.
+fn is_count(shared: Option<&&Shared>) -> bool {
+    match shared {
+        Some(shared) => matches!(shared, Shared::Count(_)),
+        None => false,
+    }
+}
+
+/// Fails unless a count is shared, and below it what is made of it.
+fn levels(call: &Scope<Task, Shared>) -> Result<(), Stop> {
+    let is_inner = matches!(call.nearest()?, Shared::Inner);
+    if is_inner && call.shared.len() == 2 && is_count(call.shared.first()) {
+        return Ok(());
+    }
+    Err(call.fail("not both are shared"))
 }
 
 fn pass_at(call: &Scope<Task, Shared>, count: &AtomicU64, attempt: u64) -> Result<(), Stop> {
