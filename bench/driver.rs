@@ -33,7 +33,7 @@ pub struct Found {
     pub number: u32,
 }
 
-/// A store of contexts, each below an earlier one; context 0 is the root.
+/// A store of contexts, each below an earlier one; context 0 is the root. Calls are of contexts, and of numbers of keys, that it has.
 pub trait Peer: Sync + Sized {
     const NAME: &'static str;
 
@@ -45,6 +45,16 @@ pub trait Peer: Sync + Sized {
 
     /// What stands nearest under the key, in the context or above it.
     fn get(&self, context: usize, key: &Self::Key) -> Option<Found>;
+
+    /// The number of a key, for `get_numbered`.
+    fn number(&self, _key: &Self::Key) -> usize {
+        0
+    }
+
+    /// As `get`, by the key's number in a peer that has numbers.
+    fn get_numbered(&self, context: usize, _number: usize, key: &Self::Key) -> Option<Found> {
+        self.get(context, key)
+    }
 
     /// Puts a value over what stands under the key in the context. Says whether it was done.
     fn put(&self, context: usize, key: &Self::Key, value: Payload) -> bool;
@@ -109,11 +119,22 @@ fn look_up<P: Peer>(store: &P, context: usize, key: &P::Key, there: bool) -> u64
     u64::from(LOOKS)
 }
 
+fn look_up_numbered<P: Peer>(store: &P, context: usize, key: &P::Key) -> u64 {
+    let number = store.number(key);
+    let mut right = true;
+    for _ in 0..LOOKS {
+        right &= store.get_numbered(context, number, key).is_some();
+    }
+    assert!(right);
+    u64::from(LOOKS)
+}
+
 /// Looks up from each context in turn.
 fn look_up_in_turn<P: Peer>(store: &P, last: usize, key: &P::Key) -> u64 {
+    let number = store.number(key);
     let (mut right, mut context) = (true, last);
     for _ in 0..10 * LOOKS {
-        right &= black_box(store.get(context, key)).is_some();
+        right &= store.get_numbered(context, number, key).is_some();
         context = if context == 0 { last } else { context - 1 };
     }
     assert!(right);
@@ -177,6 +198,7 @@ fn work<P: Peer>(store: &P, case: &str, writes: bool, deepest: usize) -> Option<
     let span = measured(Whose::Thread, || match case {
         "get-root-3-beside-other" if writes => put_over(store, 0, &other, 60_000),
         "get-root-3-beside-same" if writes => put_over(store, 0, &one, 60_000),
+        "get-root-3-numbered" => look_up_numbered(store, deepest, &one),
         "get-absent-3" => look_up(store, deepest, &one, false),
         "get-root-numbered-256" | "get-root-numbered-65536" => {
             look_up_in_turn(store, deepest, &one)

@@ -16,7 +16,7 @@ import java.util.function.Supplier;
  * {@code Peer} of bench/junit.
  *
  * <p>It takes the words PEER CASE THREADS ROUNDS MILLIS, where PEER is java or junit and CASE is such as get-root-4, and prints a line "PEER CASE THREADS WALL
- * PROCESSOR" for each round, in nanoseconds an operation. Two rounds that are not counted come first, in which the methods are compiled.
+ * PROCESSOR" for each round, in nanoseconds an operation. A round that is not counted comes first, as long as in {@code Peer}.
  */
 final class LookUps {
     private static final int LOOKS = 200_000;
@@ -93,8 +93,7 @@ final class LookUps {
         int threads = Integer.parseInt(words[2]);
         long millis = Long.parseLong(words[4]);
         Supplier<Object> look = words[0].equals("java") ? ours(contexts) : junits(contexts);
-        round(look, threads, millis);
-        round(look, threads, millis);
+        round(look, threads, Peer.WARM_MILLIS);
         for (int at = 0; at < Integer.parseInt(words[3]); at++) {
             double[] spent = round(look, threads, millis);
             System.out.printf(Locale.ROOT, "%s %s %d %.1f %.1f%n", words[0], words[1], threads, spent[0], spent[1]);
