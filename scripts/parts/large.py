@@ -8,7 +8,7 @@ from parts.refused import CHAIN_IDS, ROOT, Cases, failed_last, flat, nodes_of, n
 LIMIT = 67_108_864
 
 # In how many seconds a form of thousands of tests has to be written.
-SECONDS = 10
+SECONDS = 30
 
 
 def tests(count):
