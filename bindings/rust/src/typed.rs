@@ -3,7 +3,7 @@ use crate::kept::StoreValue;
 use crate::lane::Lane;
 use crate::refusal::{ComputeError, GetError, Refusal};
 use crate::store::Key;
-use std::any::{type_name, Any};
+use std::any::{Any, TypeId};
 use std::error::Error;
 use std::marker::PhantomData;
 use std::sync::Arc;
@@ -128,11 +128,9 @@ impl Lane<AnyResource> {
         namespace: &[&str],
         name: &str,
     ) -> Result<TypedKey<T>, Refusal> {
-        let parts: Vec<&str> = namespace
-            .iter()
-            .copied()
-            .chain([type_name::<T>()])
-            .collect();
+        // Two types may have one name.
+        let of_type = format!("{:?}", TypeId::of::<T>());
+        let parts: Vec<&str> = namespace.iter().copied().chain([&*of_type]).collect();
         let key = self.key(&parts, name)?;
         let of = PhantomData;
         Ok(TypedKey { key, of })

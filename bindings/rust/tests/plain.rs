@@ -157,3 +157,27 @@ fn a_value_of_another_type_is_told() {
         assert_eq!(closer.close(|it| it.close().is_ok()), [true]);
     }
 }
+
+#[test]
+fn types_of_one_name_have_a_key_each() {
+    let (_store, mut lanes, closers) =
+        Store::<AnyResource>::open(&["[engine:x]"], Limits::default()).unwrap();
+    let lane = &mut lanes[0];
+    {
+        struct Local(u8);
+        impl Resource for Local {}
+        let key = lane.typed_key::<Local>(&[], "local").unwrap();
+        assert_eq!(lane.compute_typed(0, &key, || Ok(Local(1))).unwrap().0, 1);
+    }
+    {
+        struct Local(u16);
+        impl Resource for Local {}
+        let key = lane.typed_key::<Local>(&[], "local").unwrap();
+        assert_eq!(lane.compute_typed(0, &key, || Ok(Local(2))).unwrap().0, 2);
+    }
+    for closer in closers {
+        for closed in closer.close(|it| it.close()) {
+            closed.unwrap();
+        }
+    }
+}
