@@ -41,6 +41,9 @@
 extern "C" {
 #endif
 
+/* The library's own EXT_VERSION_NUMBER. A program that was compiled with the header of another version may ask. */
+uint32_t ext_version(void);
+
 typedef uint32_t ext_code;
 
 enum {

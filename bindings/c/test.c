@@ -1,13 +1,15 @@
 /* Tests of the store by its C calls: each code, each misuse, each limit, and 2 to 32 threads. Prints a line for each test that fails; the last
    line is 'N passed, M failed', and the exit status 1 where one failed.
 
-   usage: test [ROUNDS]    how many puts each thread makes, and twice as many as it opens contexts; 2000 unless told
+   usage: test [ROUNDS]    how many puts each thread makes, twice as many as it opens contexts, and a fifth as many as the stores that it opens and leaves;
+                           2000 unless told
 
    It is linked with -Wl,--wrap=malloc,--wrap=realloc, so that it can refuse memory to the library. */
 #define _POSIX_C_SOURCE 200809L
 #include "ext_lanes.h"
 #include "ext_strings.h"
 
+#include <malloc.h>
 #include <pthread.h>
 #include <sched.h>
 #include <stdatomic.h>
@@ -102,6 +104,8 @@ static bool is(ext_value value, uint64_t handle, uint32_t number, size_t context
     return value.handle == handle && value.number == number && value.context == context && value.closeable == closeable &&
            value.fault == fault;
 }
+
+static void version_is_that_of_the_header(void) { WANT(ext_version() == EXT_VERSION_NUMBER); }
 
 static void refused_openings(void) {
     ext_slot slots[33] = {{0, NULL}};
@@ -702,6 +706,22 @@ static void calls_that_take_no_memory(void) {
     allocations_left = -1;
 }
 
+/* A store that is left gives back all memory, with values in it and with a call of a factory that never ended. */
+static void stores_leave_no_memory(void) {
+    texts list = ids();
+    size_t before = 0;
+    for (uint32_t store = 0; store < 5 * rounds; store++) {
+        if (store == 10) before = mallinfo2().uordblks;
+        ext_slot slots[2] = {{0, NULL}};
+        ext_value value = {0};
+        CODE(open_slots(&list, USUAL, slots, 2), EXT_DONE);
+        CODE(ext_put(&slots[0], CLASS, key(&slots[0], "name"), 1, false, &value), EXT_DONE);
+        CODE(ext_begin(&slots[1], CLASS, key(&slots[1], "other"), &value), EXT_RUN);
+        left(slots, 2);
+    }
+    WANT(mallinfo2().uordblks == before);
+}
+
 /* Several threads. */
 
 enum { METHODS = 100 };
@@ -960,6 +980,7 @@ int main(int count, char **words) {
         fputs("usage: test [ROUNDS]    4 to 4000 puts for each thread\n", stderr);
         return 2;
     }
+    version_is_that_of_the_header(), ran("version_is_that_of_the_header");
     refused_openings(), ran("refused_openings");
     empty_slots(), ran("empty_slots");
     keys_have_one_number(), ran("keys_have_one_number");
@@ -980,6 +1001,7 @@ int main(int count, char **words) {
     strings_are_ids_and_keys(), ran("strings_are_ids_and_keys");
     want_of_memory_is_a_code(), ran("want_of_memory_is_a_code");
     calls_that_take_no_memory(), ran("calls_that_take_no_memory");
+    stores_leave_no_memory(), ran("stores_leave_no_memory");
     threads_compute_put_and_close(4, rounds), ran("threads_compute_put_and_close, 4 threads");
     threads_compute_put_and_close(16, rounds), ran("threads_compute_put_and_close, 16 threads");
     threads_compute_put_and_close(32, rounds / 4), ran("threads_compute_put_and_close, 32 threads");

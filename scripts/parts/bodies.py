@@ -79,10 +79,15 @@ def with_named(file):
     return {it for it in files if it.is_file()}
 
 
+def is_part(crate, test):
+    """Whether the test is a case of a part of scripts/examples."""
+    return crate in ("examples", "demo_engine") or crate == "trial_engine" and not test[0].isdigit()
+
+
 def files_of_test(body):
     """The files that say what the test of a body does."""
     folder = TOP / "crates" / body.crate
-    if body.crate == "examples" or body.crate == "trial_engine" and not body.test[0].isdigit():
+    if is_part(body.crate, body.test):
         return {TOP / "scripts" / "parts" / f"{body.test.split()[0]}.py"}
     if body.crate == "bindings":
         return {TOP / "bindings" / "c" / "test.c"}

@@ -1,9 +1,9 @@
-"""Runs the example engine, the proved one if no other is given, and compares what it prints with the files of crates/demo_engine.
+"""Runs the example engine, the proved one if no other is given, and looks at its report in JSON and at its page.
 
-Its `stdout` is the program's report. The comment at the head of src/main.rt has a picture that `--lanes-over-time` adds: which lane ran which test when differs from run to run, but
-the picture has that form, and shows what the locks forbid. Nothing is left of the run's folder, though tests fail. Once more it runs where no file can grow: the factory of the database
-fails, each test by its kept fault, and nothing is left either. Of standard output and exit status of a plain run `rt ci` makes sure.
+Where a test ran is read from the page's data: what has one lock is apart, what is isolated is alone, what runs in turn comes last. Once more it runs where no file can
+grow: the factory of the database fails, and each test by its kept fault. Nothing is left of the run's folder. Of what `--list` prints `rt ci` makes sure.
 """
+import json
 import pathlib
 import re
 import resource
@@ -11,72 +11,78 @@ import subprocess
 import tempfile
 
 TOP = pathlib.Path(__file__).resolve().parent.parent.parent
-CRATE = TOP / "crates" / "demo_engine"
-PROVED = CRATE / "out" / "demo_engine"
-EXAMPLE = TOP / "examples" / "cases" / "engine.report"
-LINE = re.compile(r"(\[engine:demo\]\S*\[(?:test|row):([a-z]+|#\d)\]) +\|(\.*)(([0-3])\5*)(\.*)\|")
-TESTS = ["gift", "loan", "letter", "parcel", "lease", "alone", "sum", "eve", "#1", "#2"]
+PROVED = TOP / "crates" / "demo_engine" / "out" / "demo_engine"
+DATA = re.compile(r'id="data">(.*)</script>')
+POST = "no post at attempt 1"
+FAULTS = {
+    "[class:Post]/[test:letter]": POST,
+    "[class:Post]/[test:parcel]": POST,
+    "[class:Office]/[test:lease]": "close: the lease was lost",
+    "[class:Audit]/[test:eve]": "found 0, wanted 1",
+}
+TESTS = [
+    "[class:Accounts]/[test:gift]", "[class:Accounts]/[test:loan]", *list(FAULTS)[:3], "[class:Office]/[test:alone]", "[class:Audit]/[test:sum]",
+    "[class:Audit]/[test:eve]", "[class:Audit]/[test:paid]/[case:#1]", "[class:Audit]/[test:paid]/[case:#2]",
+]  # fmt: skip
 
 
-def lines_of(path):
-    return path.read_text(encoding="utf-8").splitlines()
-
-
-def shown_picture():
-    """The lines of the picture in the comment of src/main.rt."""
-    lines = [it.removeprefix("//! ") for it in lines_of(CRATE / "src" / "main.rt")]
-    return lines[lines.index("```text") + 1 : lines.index("```")]
-
-
-def run(program, *words, may_write=True):
-    """What the program prints, its exit status, and what it leaves in the folder for temporary files. Where it may not write, each write to a file fails."""
+def run(program, *which, may_write=True):
+    """What is reported of each of these tests, the page's data, the exit status, and what is left in the folder for temporary files. Where it may not write, each write to a file fails."""
     limits = [] if may_write else [(resource.RLIMIT_FSIZE, (0, 0))]
-    with tempfile.TemporaryDirectory(prefix="engine-example-") as folder:
+    words = [*which, "--lanes", "4", "--report", "json"]
+    with tempfile.TemporaryDirectory(prefix="engine-example-") as folder, tempfile.TemporaryDirectory() as other:
+        page = pathlib.Path(other) / "page.html"
         ran = subprocess.run(
-            [program, *words], env={"TMPDIR": folder}, capture_output=True, text=True, timeout=120, restore_signals=may_write,
-            preexec_fn=lambda: [resource.setrlimit(*it) for it in limits],
+            [program, *words, *(["--html", page] if may_write else [])], env={"TMPDIR": folder}, capture_output=True, text=True, timeout=120,
+            restore_signals=may_write, preexec_fn=lambda: [resource.setrlimit(*it) for it in limits],
         )  # fmt: skip
         left = list(pathlib.Path(folder).iterdir())
-    return ran.stdout.splitlines(), ran.returncode, left
+        shown = json.loads(DATA.search(page.read_text(encoding="utf-8"))[1]) if may_write else {}
+    rows = [json.loads(it) for it in ran.stdout.splitlines() if it.startswith("{")]
+    nodes = {it["id"].removeprefix("[engine:demo]/"): it for it in rows if it.get("test")}
+    return nodes, shown, ran.returncode, left
 
 
-def spans_in(lines):
-    """The first and the last column of each test of a picture; none where a line has another form."""
-    found = [LINE.fullmatch(it) for it in lines]
-    if None in found or {len(it[3] + it[4] + it[6]) for it in found} != {60}:
-        return {}
-    return {it[2]: range(len(it[3]), len(it[3] + it[4])) for it in found}
+def spans_of(shown):
+    """When each test of a page ran, by its id below the engine."""
+
+    def id_of(place):
+        parent, name, *_ = shown["nodes"][place]
+        return name if parent in (None, 0) else f"{id_of(parent)}/{name}"
+
+    return {id_of(node): (begun, ended) for node, _, begun, ended, _ in shown["attempts"] if shown["nodes"][node][2]}
 
 
 def are_apart(spans, one, other):
-    """Whether at most one column has both: where one ends and the other begins."""
-    return len(set(spans[one]) & set(spans[other])) <= 1
+    return spans[one][1] <= spans[other][0] or spans[other][1] <= spans[one][0]
+
+
+def value_of(shown, name):
+    """The rows of the values that stand in the context of a node of this name."""
+    return [it for it in shown["values"] if shown["nodes"][it[1]][1] == name]
 
 
 def main(given, _words):
     program = given if pathlib.Path(given).name == PROVED.name else PROVED
-    report = lines_of(CRATE / "stdout")
-    rows = TESTS[8:]
-    count = len(TESTS)
-    plain, drawn_run, failing = run(program), run(program, "--lanes-over-time"), run(program, may_write=False)
-    drawn = drawn_run[0]
-    picture = drawn[len(report) - 1 : -1]
-    spans = spans_in(picture)
-    drawn_all = list(spans) == TESTS
-    failed_tests = [it for it in failing[0] if "[test:" in it and " failed closed 0: " in it]
+    nodes, shown, status, left = run(program)
+    failing, _, failing_status, failing_left = run(program, may_write=False)
+    # Alone they have a lane each, so nothing but the lock keeps them apart.
+    spans, of_accounts = spans_of(shown), spans_of(run(program, "Accounts")[1])
+    [database], [post], [lease] = (value_of(shown, it) for it in ("[engine:demo]", "[class:Post]", "[test:lease]"))
+    ran_failing = [it for it in failing.values() if it["status"] == "failed"]
     checks = {
-        "its report is that of the crate": plain[0] == report,
-        "and the one of examples/": plain[0] == lines_of(EXAMPLE),
-        "its exit status is 1, since tests fail": plain[1] == drawn_run[1] == failing[1] == 1,
-        "nothing is left of its folder": plain[2] == drawn_run[2] == failing[2] == [],
-        "the picture stands before the last line": drawn[: len(report) - 1] + drawn[-1:] == report,
-        "the picture has a line for each test": drawn_all and len(picture) == count,
-        "so has that of main.rt": list(spans_in(shown_picture())) == TESTS,
-        "two tests that have one lock are apart": drawn_all and are_apart(spans, "gift", "loan"),
-        "the isolated test is alone": drawn_all and all(it == "alone" or are_apart(spans, it, "alone") for it in TESTS),
-        "the audit comes last": drawn_all and all(spans[it].stop <= spans[last].start + 1 for last in ("sum", "eve", *rows) for it in TESTS[:6]),
-        "each test fails by one fault where the factory does, and no row comes": len(failed_tests) == count - len(rows) and len({it.split(": ", 1)[1] for it in failed_tests}) == 1,
-        "no value is made then": failing[0][-2:] == ["computed 0 found 0 closed 0 close faults 0", "the folder is gone: true"],
+        "its tests are those that have to come": list(nodes) == TESTS == [it for it in TESTS if it in spans],
+        "those fail that have to, each with its fault": {it: row["fault"] for it, row in nodes.items() if row["status"] == "failed"} == FAULTS,
+        "its exit status is 1, since tests fail": status == failing_status == 1,
+        "nothing is left of its folder": left == failing_left == [],
+        "two tests that have one lock are apart": are_apart(of_accounts, TESTS[0], TESTS[1]),
+        "the isolated test is alone": all(it == TESTS[5] or are_apart(spans, it, TESTS[5]) for it in TESTS),
+        "the audit comes last": all(spans[it][1] <= spans[last][0] for last in TESTS[6:] for it in TESTS[:6]),
+        "the database is made once, found by all others and closed": database[7] == len(TESTS) - 1 and database[8] is not None and database[11] is None,
+        "the post is told as failed, and its fault as found once": post[6:9] == [POST, 1, None],
+        "the lease is told with the fault of its close": lease[11] == "the lease was lost",
+        "each test fails by one fault where the factory does, and no case comes": list(failing) == TESTS[:8] and len(ran_failing) == 8 and len({it["fault"] for it in ran_failing}) == 1,
+        "no value is made then": all(it["computed"] == it["closed"] == 0 for it in failing.values()),
     }
     for what, holds in checks.items():
         print(f"engine example: {what}: {'yes' if holds else 'NO'}")

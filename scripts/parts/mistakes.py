@@ -18,6 +18,8 @@ NAMES = ", ".join(f'"none k{number}"' for number in range(65))
 
 FULL = "the plan: its steps name 65 different keys, and there are places for 64. Write keys = 65 at the top of the plan"
 
+NO_KEY = "invalid key, expected letters, numbers, `-`, `_` or a quoted key"
+
 LABELS = "".join(f'[[key]]\nlabel = "k{number}"\n' for number in range(65))
 
 # Plans that are made, with the lines that have to come out and further words.
@@ -27,7 +29,26 @@ MADE = [
     (
         "bytes 0",
         b"\0" * 9,
-        ["plan: P2", "the plan: it is no TOML in line 1: invalid key, expected letters, numbers, `-`, `_` or a quoted key"],
+        ["plan: P2", f"the plan: it is no TOML in line 1, column 1: {NO_KEY}: the character NUL stands in this line"],
+    ),
+    (
+        "line ends of carriage returns alone",
+        ROOT.replace("\n", "\r"),
+        ["plan: P2", f"the plan: it is no TOML in line 1, column 9: {NO_KEY}: a carriage return stands alone in it, and a line ends with a line feed"],
+    ),
+    (
+        "two files with byte order marks in one",
+        "\ufeff" + ROOT + "\ufeff" + ROOT.replace("x", "y"),
+        ["plan: P2", f"the plan: it is no TOML in line 3, column 1: {NO_KEY}: a byte order mark stands in this line, as between two files that were joined"],
+    ),
+    (
+        "a space that does not break",
+        ROOT + 'test = ["want\u00a0db up"]\n',
+        [
+            "plan: P8 node 0",
+            'node 0: step 0 of its test, "want\\u{a0}db up", has a white character that is no space, and is none of the steps. '
+            'The steps are put, put!, want, none, remove, compute, compute!, computefail, fail, abort ("[engine:x]", line 3)',
+        ],
     ),
     (
         "a node too many",

@@ -4,6 +4,7 @@ The runs are those of crates/trial_engine and of plans: of one alone where its p
 """
 import functools
 import html.parser
+import itertools
 import json
 import os
 import pathlib
@@ -106,6 +107,7 @@ def of_all(program):
     yield "its close begins once it was found last", values["Callbacks]"][5] < values["Callbacks]"][9] <= values["Callbacks]"][10]
     yield "a factory that fails is told", values["Unmade]"][6] == "nothing to be had" and values["Unmade]"][8:] == [None] * 4
     yield "how often a value was found is told", values["Callbacks]"][7] == 11
+    yield "and how often a fault that was kept", values["Unmade]"][7] == 1
 
 
 def of_waits(program):
@@ -159,14 +161,14 @@ def in_browser(program):
 
 
 def main(program, _words):
-    is_trial, cases = pathlib.Path(program).name == "trial_engine", []
+    is_trial, parts = pathlib.Path(program).name == "trial_engine", []
     if not is_trial:
-        cases += of_plans(program)
+        parts.append(of_plans(program))
     if is_trial or pathlib.Path(program) == TOP / "crates/extrun/out/extrun":
         trial = program if is_trial else PROVED
-        cases += [*of_all(trial), *of_waits(trial), *of_attempts(trial), *in_browser(trial)]
+        parts += [of_all(trial), of_waits(trial), of_attempts(trial), in_browser(trial)]
     passed = failed = 0
-    for case, is_right in cases:
+    for case, is_right in itertools.chain.from_iterable(parts):
         passed, failed = passed + is_right, failed + (not is_right)
-        print(f"page, {case}: " + ("as it has to be" if is_right else "NOT as it has to be"))
+        print(f"page, {case}: " + ("as it has to be" if is_right else "NOT as it has to be"), flush=True)
     return passed, failed

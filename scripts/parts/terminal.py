@@ -1,7 +1,8 @@
 """Runs the program at terminals of its own: what it says there beyond what it says in a pipe, and that nothing raw reaches them.
 
-What has to come out is written here, by docs/PLANS.md. Prints a line for each case.
+What has to come out is written here, by docs/PLANS.md, and in examples/sessions, which the word --write writes. Prints a line for each case.
 """
+import json
 import os
 import pathlib
 import pty
@@ -14,31 +15,39 @@ import unicodedata
 
 TOP = pathlib.Path(__file__).resolve().parent.parent.parent
 README = TOP / "README.md"
+SESSIONS = TOP / "examples" / "sessions"
+
+# What the sessions show. A folder stands in the name of a plan.
+SESSION = [
+    "run examples/server.toml",
+    "run examples/missing.toml",
+    "run examples/refused.toml",
+    "check --lint examples/cases/lint.toml",
+    "check --all examples/cases/explained/all_nodes.toml",
+]
 
 ROOT = '[[node]]\nid = "[engine:x]"\n'
 
 # A plan with each status, and with control characters in an id and in a fault.
 PLAN = (
     ROOT
-    + '[[node]]\nid = "[engine:x]/[test:a]"\ntest = ["put a x"]\n'
+    + '[[node]]\nid = "[engine:x]/[test:a]"\ntest = ["put! b x up 1"]\n'
     + '[[node]]\nid = "[engine:x]/[test:b]"\ntest = ["want a x"]\n'
     + '[[node]]\nid = "[engine:x]/[test:c]"\ntest = ["abort later"]\n'
-    + '[[node]]\nid = "[engine:x]/[class:D]"\nbefore_all = [["fail \\u001b[2J\\tand\\nthen\\u009b"]]\n'
+    + '[[node]]\nid = "[engine:x]/[class:D]"\nbefore_all = [["fail \\u001b[2J\\tand\\nthen\\u009b\\u202e"]]\n'
     + '[[node]]\nid = "[engine:x]/[class:D]/[test:\\u0007d]"\ntest = []\n'
 )
 
 LINES = [
-    ("[engine:x]", "successful", "closed 0"),
-    ("[engine:x]/[test:a]", "successful", "closed 0"),
-    ("[engine:x]/[test:b]", "failed", "closed 0: want a x: none"),
-    ("[engine:x]/[test:c]", "aborted", "closed 0: later"),
-    ("[engine:x]/[class:D]", "failed", "closed 0: \\u{1b}[2J\\tand\\nthen\\u{9b}"),
-    ("[engine:x]/[class:D]/[test:\\u{7}d]", "skipped", "closed 0"),
+    ("[engine:x]", "successful", " closed 1"),
+    ("[engine:x]/[test:a]", "successful", ""),
+    ("[engine:x]/[test:b]", "failed", ": want a x: none"),
+    ("[engine:x]/[test:c]", "aborted", ": later"),
+    ("[engine:x]/[class:D]", "failed", ": \\u{1b}[2J\\tand\\nthen\\u{9b}\\u{202e}"),
+    ("[engine:x]/[class:D]/[test:\\u{7}d]", "skipped", ""),
 ]
 
-TOTALS = "tests 4 successful 1 aborted 1 failed 1 skipped 1\ncontainers failed 1\ncomputed 0 found 0 closed 0 close faults 0\n"
-
-COLORS = {"successful": "32", "aborted": "33", "failed": "31", "skipped": "2"}
+COLORS = {"successful": "32", "aborted": "33", "failed": "31", "skipped": "2"}  # in the order of the totals
 
 # The line of the time behind the report.
 TIME = re.compile(r"^ran in (\d+\.\d{3}) s\n\Z", re.M)
@@ -47,30 +56,41 @@ REFUSED = ROOT + '[[node]]\nid = "[engine:x]/[test:a]"\ntest = [\n  "put a x",\n
 
 LINE = "plan: P8 node 1\n"
 
-WHY = 'node 1: step 1 of its test, "pot a x", is none of the steps: did you mean "put"? ("[engine:x]/[test:a]", line 7)\n'
-
-
-# Two tests that race, and a text that no step stores, with control characters in all that is told of them.
-RACING = ROOT + "".join(
-    f'[[node]]\nid = "[engine:x]/[test:\\u001b{name}]"\nmode = "concurrent"\ntest = ["put \\u0007a x up 1", "want b \\u009b{name}"]\n' for name in "mn"
+WHY = (
+    'node 1: step 1 of its test, "pot a x", is none of the steps: did you mean "put"? '
+    'The steps are put, put!, want, none, remove, compute, compute!, computefail, fail, abort ("[engine:x]/[test:a]", line 7)\n'
 )
 
 
+# Two tests that race, and a text that no step stores, with characters in all that is told of them that give orders to a terminal.
+RACING = ROOT + "".join(
+    f'[[node]]\nid = "[engine:x]/[test:\\u001b\\u2066{name}]"\nmode = "concurrent"\ntest = ["put \\u0007a x up 1", "want b \\u009b{name}"]\n' for name in "mn"
+)
+
+
+def is_order(character):
+    """Whether a terminal takes a character as an order: a control character, or one that turns the direction of a text."""
+    return unicodedata.category(character) == "Cc" or unicodedata.bidirectional(character) in ("LRE", "RLE", "PDF", "LRO", "RLO", "LRI", "RLI", "FSI", "PDI")
+
+
 def escaped(text):
-    """A text as a terminal is shown it: control characters are escaped, but for line feeds."""
+    """A text as a terminal is shown it: what it takes as an order is escaped, but for line feeds."""
     names = {"\n": "\n", "\t": "\\t", "\r": "\\r"}
-    return "".join(it if unicodedata.category(it) != "Cc" else names.get(it, f"\\u{{{ord(it):x}}}") for it in text)
+    return "".join(names.get(it, f"\\u{{{ord(it):x}}}") if is_order(it) else it for it in text)
 
 
 def for_people(colored):
     """The report of the plan at a terminal, without the line of its time."""
 
-    def line(row):
-        id, status, rest = row
-        return f"{id} \x1b[{COLORS[status]}m{status}\x1b[0m {rest}\n" if colored else f"{id} {status} {rest}\n"
+    def shown(status):
+        return f"\x1b[{COLORS[status]}m{status}\x1b[0m" if colored else status
 
-    again = [row for row in LINES if row[1] in ("failed", "aborted")]
-    return "".join(map(line, LINES)) + TOTALS + "\n" + "".join(map(line, again))
+    def lines(rows):
+        return "".join(f"{id} {shown(status)}{rest}\n" for id, status, rest in rows)
+
+    faults = [row for row in LINES if row[1] in ("failed", "aborted")]
+    totals = "tests 4" + "".join(f" {shown(status)} 1" for status in COLORS) + f"\ncontainers {shown('failed')} 1\n"
+    return lines(row for row in LINES if row not in faults) + "\n" + lines(faults) + "\n" + totals
 
 
 def read_all(end, told):
@@ -142,7 +162,7 @@ def reports(program):
             if colored is None:
                 form = [word for word in words if word not in ("--color", "always", "never", "auto")]
                 wanted = ran(program, ["run", *store, *form], PLAN, set())[1]
-                wanted = escaped(wanted) if 1 in terminals else wanted
+                wanted = escaped(wanted) if 1 in terminals and "json" not in words else wanted
                 right = (report, errors) == (wanted, "") and "ran in" not in report
             else:
                 right = TIME.sub("", report) == for_people(colored) and bool(TIME.search(report)) and errors == ""
@@ -225,12 +245,12 @@ def durations(program):
 
 
 def escapes(program):
-    """All that goes to a terminal is that of a pipe, with its control characters escaped."""
+    """All that goes to a terminal is that of a pipe, with what the terminal takes as an order escaped. What is JSON is that of a pipe, and can be read, and reads as the plan
+    has it."""
     cases = [
         (["run", "--store", "plain", "--tree"], PLAN),
         (["run", "--store", "plain", "--report", "text"], PLAN),
         (["run", "--store", "plain", "--tree", "--failures"], PLAN),
-        (["run", "--store", "plain", "--report", "json", "--failures"], PLAN),
         (["check", "--tree"], RACING),
         (["check", "--races"], RACING),
         (["check", "--lint"], RACING),
@@ -244,6 +264,16 @@ def escapes(program):
             found = ran(program, words, plan, terminals)
             right = found == (status, *wanted) and escaped("".join(piped)) != "".join(piped)
             yield f"{' '.join(words)!a} at {sorted(terminals)}", right, repr(found)
+    for words, plan in [
+        (["run", "--store", "plain", "--report", "json", "--failures"], PLAN),
+        (["check", "--races", "--report", "json"], RACING),
+    ]:
+        status, *piped = ran(program, words, plan, set())
+        found = ran(program, words, plan, {1})
+        texts = "".join(piped)
+        read = json.dumps([json.loads(line) for line in texts.splitlines()], ensure_ascii=False)
+        right = found == (status, *piped) and not any(map(is_order, texts.replace("\n", ""))) and any(map(is_order, read))
+        yield f"{' '.join(words)} at [1]", right, repr(found)
 
 
 def readme(program):
@@ -257,9 +287,30 @@ def readme(program):
     yield "README.md shows two plans", len(shown) == 2, str(shown)
 
 
-def main(program, _words):
+def session(program, columns):
+    """What a terminal of so many columns shows of some commands, without its colours: they are of the terminal's own palette, light or dark."""
+    shown = ""
+    for words in SESSION:
+        *command, plan = words.split()
+        _, report, errors = ran(program, [*command, TOP / plan if "/" in plan else plan], "", {1, 2}, {"COLUMNS": str(columns)})
+        lines = TIME.sub("ran in T s\n", report + errors).splitlines()
+        plain = [re.sub("\x1b\\[[0-9]*m", "", line) for line in lines]
+        shown += f"$ extrun {words}\n" + "".join(line[at : at + columns] + "\n" for line in plain for at in range(0, max(len(line), 1), columns))
+    return shown
+
+
+def sessions(program):
+    for columns in (40, 80):
+        shown = session(program, columns)
+        yield f"of {columns} columns", shown == (SESSIONS / f"extrun-{columns}.txt").read_text(encoding="utf-8"), shown
+
+
+def main(program, words):
+    if words == ["--write"]:
+        for columns in (40, 80):
+            (SESSIONS / f"extrun-{columns}.txt").write_text(session(program, columns), encoding="utf-8")
     passed = failed = 0
-    for part in (reports, escapes, explanations, unread, durations, readme):
+    for part in (sessions, reports, escapes, explanations, unread, durations, readme):
         for name, right, told in part(program):
             passed, failed = passed + right, failed + (not right)
             print(f"terminal {name}: " + ("as it has to be" if right else f"NOT as it has to be: {told!r}"))

@@ -18,6 +18,14 @@ use crate::value::ExtValue;
 use ext_store::Limits;
 use std::alloc::Global;
 
+/// The library's version, of which the header has the same number: that of 1.2.3 would be 10203.
+#[unsafe(no_mangle)]
+pub extern "C" fn ext_version() -> u32
+    ensures { result ≡ 100 }
+{
+    100
+}
+
 /// Opens a store of the contexts whose ids are the texts, with a lane for each slot. All slots must
 /// be empty. The lane of the last slot closes contexts. Takes memory.
 ///

@@ -40,14 +40,14 @@ pub record ComputesAt (plan : PlanText) (path : List ℕ) (step : StepText) (con
   pub at : start_of (drop act.up path) ≡ context
   pub named : key_of_step plan.keys act.key ≡ key
 
--- a callback before all children of one of these nodes does so, and no step of the plan removes the key
+-- a callback before all children of one of these nodes does so, and nothing there or below removes the key in the contexts of its path
 pub record IsComputedIn (plan : PlanText) (nodes : List ℕ) (context : ℕ) (key : KeyValue) : Type 0 where
   pub node : ℕ
   pub among : Contains nodes node
   pub step : StepText
   pub held : Contains (steps_before plan node) step
   pub computes : ComputesAt plan (plan_path plan node) step context key
-  pub kept : is_removed plan key ≡ false
+  pub kept : is_removed plan node key ≡ false
 
 -- none of these places is open
 abbrev pub NoneOpenAbove : PlanText → List ℕ → Open → Type 0

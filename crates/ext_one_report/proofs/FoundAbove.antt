@@ -23,7 +23,7 @@ use Rattle.ext_plan.specs.declared.word.Word.TheVariants as words
 use Rattle.ext_plan.proofs.KeyLists.{not_contained, not_there, key_number_within}
 use Rattle.ext_races.specs.Acts.{ActText, act_of}
 use Rattle.ext_races.specs.MadeSteps.{MadeText, calls_after, calls_before, calls_of, plan_path, steps_before, steps_made}
-use Rattle.ext_races.specs.Touches.{ComputeText, TouchText, computed_above, computes_key, first_compute, found_above, is_removed, key_of_act, key_of_made, keys_named, look_at, or_above, reach, standing, touch_first, touch_of, touches_above, touches_along, touches_made, touches_of, touches_of_act, text_if}
+use Rattle.ext_races.specs.Touches.{ComputeText, TouchText, computed_above, computed_by, computes_key, first_compute, found_above, is_removed, key_of_act, key_of_made, keys_named, look_at, or_above, reach, standing, touch_first, touch_of, touches_above, touches_along, touches_made, touches_of, touches_of_act, text_if}
 use Rattle.ext_races.proofs.Lists.{contains-flat_map_back, contains-map_back, contains_cases, contains_first, contains_later, contains_nothing}
 use Rattle.ext_races.proofs.Paths.{path_is}
 use Rattle.ext_races.proofs.Within.{nodes_within}
@@ -35,7 +35,7 @@ use Rattle.ext_one_report.proofs.KeysNamed.{there_all}
 pub use Rattle.ext_one_report.proofs.Matching.{one_of_place as one_key}
 use Rattle.ext_one_report.proofs.WordCases.{computes_all, of_computes}
 
--- a callback before all children of a node above the touch's node computes at its place what it finds, and no step of the plan removes the key
+-- a callback before all children of a node above the touch's node computes at its place what it finds, and nothing removes it
 pub record IsFoundAbove (plan : PlanText) (t : TouchText) : Type 0 where
   pub key : KeyValue
   pub number : number_of_key (keys_named plan) key ≡ t.key
@@ -147,7 +147,6 @@ look_cases node key act (Some found) context = elim (cases_Bool (context == foun
 pub record IsFoundBy (plan : PlanText) (made : MadeText) (act : ActText) (found : ComputeText) : Type 0 where
   pub still : changes act.word ≡ false
   pub none : (step : StepText) → Contains made.before step → computes_key plan.keys (key_of_step plan.keys act.key) (act_of step) ≡ false
-  pub kept : is_removed plan (key_of_step plan.keys act.key) ≡ false
   pub above : computed_above plan (key_of_step plan.keys act.key) (drop 1 (plan_path plan made.node)) ≡ Some found
 
 pub found_parts : (plan : PlanText) (made : MadeText) (act : ActText) (found : ComputeText) → found_by plan made act ≡ Some found → IsFoundBy plan made act found
@@ -156,12 +155,10 @@ found_parts plan made act found e =
     let p : StepText → Bool = λ step. computes_key plan.keys key (act_of step) in
     let first = unless_some (changes act.word || list_any p made.before) (standing plan made.node key) found e in
     let own = or_parts (changes act.word) (list_any p made.before) first.0 in
-    let stands = unless_some (is_removed plan key) (computed_above plan key (drop 1 (plan_path plan made.node))) found first.1 in
     record {
       still = own.0;
       none = λ step there. false_from_ne_true (p step) (λ computes. true≢false (sym (list_any-from_Any p made.before (there.0, step, there.1, there.2, computes)) ∙ own.1));
-      kept = stands.0;
-      above = stands.1;
+      above = first.1;
     }
 
 -- the act computes this
@@ -205,18 +202,20 @@ above_cases None above found e = inr e
 above_cases (Some one) above found e = inl e
 
 module _ (plan : PlanText) (read : IsReadPlan plan) (key : KeyValue) (found : ComputeText) where
-  -- a callback before all children of a node of the path does
+  -- a callback before all children of a node of the path does, and it is not removed
   abbrev IsNodeOf : List ℕ → Type 0
-  IsNodeOf nodes = (n : ℕ) × Contains nodes n × (first_compute plan.keys key (plan_path plan n) (map act_of (steps_before plan n)) ≡ Some found)
+  IsNodeOf nodes = (n : ℕ) × Contains nodes n × (is_removed plan n key ≡ false) × (first_compute plan.keys key (plan_path plan n) (map act_of (steps_before plan n)) ≡ Some found)
 
   node_found : (k : ℕ) (walk : List ℕ) → IsWalk (ids_of_nodes plan.nodes) k walk → computed_above plan key walk ≡ Some found → IsNodeOf walk
   node_found k [] root e = absurd (cc e)
   node_found k (n ∷ above) (is, walks) e =
       let ids = ids_of_nodes plan.nodes in
       let along : n ∷ above ≡ plan_path plan n = path_is ids read.runnable.tree n (n ∷ above) is.parent_within (refl, walks) in
-      elim (above_cases (first_compute plan.keys key (n ∷ above) (map act_of (steps_before plan n))) (computed_above plan key above) found e) [
-        | inl here ↦ (n, contains_first n above, subst (λ path. first_compute plan.keys key path (map act_of (steps_before plan n)) ≡ Some found) along here)
-        | inr later ↦ let rest = node_found n above walks later in (rest.0, contains_later n rest.0 above rest.1, rest.2)
+      elim (above_cases (computed_by plan key n (n ∷ above)) (computed_above plan key above) found e) [
+        | inl here ↦
+            let kept = unless_some (is_removed plan n key) (first_compute plan.keys key (n ∷ above) (map act_of (steps_before plan n))) found here in
+            (n, contains_first n above, kept.0, subst (λ path. first_compute plan.keys key path (map act_of (steps_before plan n)) ≡ Some found) along kept.1)
+        | inr later ↦ let rest = node_found n above walks later in (rest.0, contains_later n rest.0 above rest.1, rest.2, rest.3)
       ]
 
   node_above : (k : ℕ) (path : List ℕ) → IsPathOf (ids_of_nodes plan.nodes) k path → computed_above plan key (drop 1 path) ≡ Some found → IsNodeOf (drop 1 path)
@@ -237,7 +236,7 @@ module _ (plan : PlanText) (read : IsReadPlan plan) where
       let key = key_of_step plan.keys act.key in
       let path = near_path made.node less in
       let one = node_above plan read key found made.node (plan_path plan made.node) path is.above in
-      let compute = first_found plan.keys key (plan_path plan one.0) (map act_of (steps_before plan one.0)) found one.2 in
+      let compute = first_found plan.keys key (plan_path plan one.0) (map act_of (steps_before plan one.0)) found one.3 in
       let step = contains-map_back act_of (steps_before plan one.0) (Some compute.act) compute.there in
       let call = contains-flat_map_back (steps_of_call plan) (calls_before plan one.0) step.0 step.1 in
       let near : one.0 < length ids = path_holds ids read.runnable.tree made.node one.0 (plan_path plan made.node) path (All-contains (Contains (plan_path plan made.node)) (drop 1 (plan_path plan made.node)) one.0 (All-drop (Contains (plan_path plan made.node)) 1 (plan_path plan made.node) (All-contains_itself (plan_path plan made.node))) one.1) in
@@ -259,7 +258,7 @@ module _ (plan : PlanText) (read : IsReadPlan plan) where
             step = step.0;
             held = step.1;
             computes = record { act = compute.act; is = step.2; gives = compute.gives; at = compute.at ∙ sym at; named = compute.named };
-            kept = is.kept;
+            kept = one.2;
           };
           touch = touch_of one.0 (number_of plan compute.act) compute.act true (start_of (drop compute.act.up (plan_path plan one.0)));
           made = start_made plan one.0 compute.act (is_made plan one.0 call.0 (step_of compute.act) within among step_there) changing stays;

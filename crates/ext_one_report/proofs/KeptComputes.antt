@@ -3,7 +3,7 @@
 use Rattle.std.proofs.Common.{◌≡◌, ◌<◌, ◌⊎◌, ℕ, zero, suc, inl, inr, Bool, true, false, true≢false, not, List, [], ◌∷◌, drop, length, Option, None, Some, is_some, refl, ap, sym, subst, ◌∙◌, arith}
 use Rattle.std.specs.Prelude.{All, Contains, ◌&&◌}
 use Rattle.std.proofs.lemmas.List.{length-drop}
-use Rattle.std.proofs.lemmas.List.Elements.{All-weaker}
+use Rattle.std.proofs.lemmas.List.Elements.{All-contains_itself, All-head, All-tail, All-weaker}
 use Rattle.ext_history.proofs.Lists.{bools, contains_cons, contains_later, contains_none}
 use Rattle.ext_model.specs.declared.event.Act.TheVariants.{Claim, Fill, Abandon}
 use Rattle.ext_model.specs.declared.look.Look.{Look}
@@ -43,13 +43,13 @@ use Rattle.ext_one_report.proofs.KeptSteps.{Keeps, Spares, compute_kept, steps_k
 
 -- ---- a path with something on it
 
-pub clear_kept : (key : KeyValue) (s t : ValueState) → Keeps key s t → (path : List ℕ) → all_clear s path key ≡ false → all_clear t path key ≡ false
-clear_kept key s t keeps [] off = absurd (true≢false off)
-clear_kept key s t keeps (context ∷ path) off = elim (bools (is_some (plain_slot s context key))) [
-  | inl some ↦ ap (λ b. not b && all_clear t path key) (keeps context some)
+pub clear_kept : (Held : ℕ → Type 0) (key : KeyValue) (s t : ValueState) → Keeps Held key s t → (path : List ℕ) → All Held path → all_clear s path key ≡ false → all_clear t path key ≡ false
+clear_kept Held key s t keeps [] held off = absurd (true≢false off)
+clear_kept Held key s t keeps (context ∷ path) held off = elim (bools (is_some (plain_slot s context key))) [
+  | inl some ↦ ap (λ b. not b && all_clear t path key) (keeps context (All-head Held context path held) some)
   | inr none ↦
       let above : all_clear s path key ≡ false = sym (ap (λ b. not b && all_clear s path key) none) ∙ off in
-      and_off (not (is_some (plain_slot t context key))) (all_clear t path key) (clear_kept key s t keeps path above)
+      and_off (not (is_some (plain_slot t context key))) (all_clear t path key) (clear_kept Held key s t keeps path (All-tail Held context path held) above)
 ]
   where
     and_off : (a b : Bool) → b ≡ false → (a && b) ≡ false
@@ -100,7 +100,7 @@ module _ (key : KeyValue) (name label path : List ℕ) (value : ValueText) where
           let none : All (λ c. under s.store its_number c ≡ None) path =
           All-weaker (λ c. plain_slot s c key ≡ None) (λ c. under s.store its_number c ≡ None) (λ c is. sym (plain_there s c key there) ∙ is) path (clear_is s path key clear) in
           inr (absent_left (found_along its_number path s) (empty_path (under s.store its_number) path none) good)
-      | inr off ↦ inl (clear_kept key s (compute_numbered enough name label path value its_number s).state (compute_kept key s its_place name label value (found_along its_number path s)) path off)
+      | inr off ↦ inl (clear_kept (Contains path) key s (compute_numbered enough name label path value its_number s).state (compute_kept (Contains path) key s its_place name label value (found_along its_number path s)) path (All-contains_itself path) off)
     ]
 
   value_left : (s : ValueState) → (let end = numbered_by enough name label key (compute_numbered enough name label path value) s in is_successful end.verdict ≡ true → Left key path end.state)
@@ -153,9 +153,9 @@ gone_on (failed text) first go_on is good = absurd (true≢false (sym good ∙ a
 abbrev pub Leaves : List KeyText → List ℕ → KeyValue → List ℕ → StepText → Type 0
 Leaves declared path key along step = (s : ValueState) → is_successful (next_step declared path step s).verdict ≡ true → all_clear (next_step declared path step s).state along key ≡ false
 
-module _ (key : KeyValue) (declared : List KeyText) (path along : List ℕ) where
+module _ (Held : ℕ → Type 0) (key : KeyValue) (declared : List KeyText) (path along : List ℕ) (held : All Held along) where
   -- so it does behind a call with that step that succeeds
-  pub steps_left : (steps : List StepText) (step : StepText) (s : ValueState) → ((other : StepText) → Contains steps other → Spares declared key other) → Contains steps step → Leaves declared path key along step
+  pub steps_left : (steps : List StepText) (step : StepText) (s : ValueState) → ((other : StepText) → Contains steps other → Spares Held declared key path other) → Contains steps step → Leaves declared path key along step
       → is_successful (steps_run declared path steps s).verdict ≡ true → all_clear (steps_run declared path steps s).state along key ≡ false
   steps_left [] step s spare there leaves good = absurd (contains_none step there)
   steps_left (first ∷ more) step s spare there leaves good =
@@ -163,11 +163,11 @@ module _ (key : KeyValue) (declared : List KeyText) (path along : List ℕ) wher
       let whole = steps_run-cons declared path first more s in
       let went = gone_on one.verdict one (steps_run declared path more) refl (ap (λ (end : StepEnd). is_successful end.verdict) (sym whole) ∙ good) in
       let all : steps_run declared path (first ∷ more) s ≡ and_then one (steps_run declared path more one.state) = whole ∙ went.1 in
-      let spare_more : (other : StepText) → Contains more other → Spares declared key other = λ other later. spare other (contains_later first more other later) in
+      let spare_more : (other : StepText) → Contains more other → Spares Held declared key path other = λ other later. spare other (contains_later first more other later) in
       let good_more : is_successful (steps_run declared path more one.state).verdict ≡ true = ap (λ (end : StepEnd). is_successful end.verdict) (sym all) ∙ good in
       subst (λ (end : StepEnd). all_clear end.state along key ≡ false) (sym all) (elim (contains_cons first more step there) [
         | inl same ↦
-            clear_kept key one.state (steps_run declared path more one.state).state (steps_keep key declared path more one.state spare_more) along
+            clear_kept Held key one.state (steps_run declared path more one.state).state (steps_keep Held key declared path more one.state spare_more) along held
             (subst (λ other. Leaves declared path key along other) (sym same) leaves s went.0)
         | inr later ↦ steps_left more step one.state spare_more later leaves good_more
       ])

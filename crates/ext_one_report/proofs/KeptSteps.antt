@@ -1,6 +1,6 @@
--- In a plain run each step that does not remove a key leaves something wherever something stood under it, and so does the end of each context.
+-- In a plain run each step that does not remove a key in some contexts leaves something there wherever something stood under it, and so does the end of each context.
 -- Javadoc `ExtensionContext.Store`; what a step does stands in [ext_plan_plain StepRuns].
-use Rattle.std.proofs.Common.{◌≡◌, ℕ, zero, suc, inl, inr, Bool, true, false, true≢false, List, [], ◌∷◌, Option, None, Some, is_some, refl, ap, sym, subst, ◌∙◌}
+use Rattle.std.proofs.Common.{◌≡◌, ℕ, zero, suc, inl, inr, Bool, true, false, true≢false, List, [], ◌∷◌, drop, Option, None, Some, is_some, refl, ap, sym, subst, ◌∙◌}
 use Rattle.std.specs.Prelude.{Contains, ◌&&◌, if◌then◌else◌}
 use Rattle.ext_history.proofs.Lists.{bools, contains_here, contains_later}
 use Rattle.ext_model.specs.declared.event.Act.{Act}
@@ -28,7 +28,7 @@ use Rattle.ext_plan.specs.StoreKeys.{is_there, key_of_step, number_of_key}
 use Rattle.ext_plan.specs.Values.{ValueText}
 use Rattle.ext_plan.specs.Verdicts.{none_verdict, want_verdict}
 use Rattle.ext_plan.proofs.KeyLists.{key_number_last}
-use Rattle.ext_races.specs.Acts.{act_of}
+use Rattle.ext_races.specs.Acts.{ActText, act_of}
 use Rattle.ext_races.specs.Touches.{removes_key}
 use Rattle.ext_plan_plain.specs.ValueStates.{Memory, Numbering, ValueState, after_act, enough, found_later, full, keep_value, known, next, next_found, next_number, no_key, no_number, no_place, no_value, no_words, numbering_of, reply_to, why_refused, with_number}
 use Rattle.ext_plan_plain.specs.ContextEnds.{seal_keys}
@@ -63,49 +63,51 @@ some_there s context key some = elim (bools (is_there s.keys key)) [
   | inr none ↦ absurd (true≢false (sym some ∙ ap is_some (plain_none s context key none)))
 ]
 
--- in each context something stands under the key in the later state, where it did in the one before
-abbrev pub Keeps : KeyValue → ValueState → ValueState → Type 0
-Keeps key s t = (context : ℕ) → is_some (plain_slot s context key) ≡ true → is_some (plain_slot t context key) ≡ true
+-- in each of these contexts something stands under the key in the later state, where it did in the one before
+abbrev pub Keeps : (ℕ → Type 0) → KeyValue → ValueState → ValueState → Type 0
+Keeps Held key s t = (context : ℕ) → Held context → is_some (plain_slot s context key) ≡ true → is_some (plain_slot t context key) ≡ true
 
-module _ (key : KeyValue) where
-  pub keeps_then : (s t u : ValueState) → Keeps key s t → Keeps key t u → Keeps key s u
-  keeps_then s t u first second = λ context some. second context (first context some)
+module _ (Held : ℕ → Type 0) (key : KeyValue) where
+  pub keeps_then : (s t u : ValueState) → Keeps Held key s t → Keeps Held key t u → Keeps Held key s u
+  keeps_then s t u first second = λ context held some. second context held (first context held some)
 
-  slots_keep : (s t : ValueState) → t.keys ≡ s.keys → ((context : ℕ) → is_there s.keys key ≡ true → is_some (s.store.slots (context, number_of_key s.keys key)) ≡ true → is_some (t.store.slots (context, number_of_key s.keys key)) ≡ true)
-      → Keeps key s t
-  slots_keep s t keys each = λ context some.
+  slots_keep : (s t : ValueState) → t.keys ≡ s.keys → ((context : ℕ) → Held context → is_there s.keys key ≡ true → is_some (s.store.slots (context, number_of_key s.keys key)) ≡ true → is_some (t.store.slots (context, number_of_key s.keys key)) ≡ true)
+      → Keeps Held key s t
+  slots_keep s t keys each = λ context held some.
       let there = some_there s context key some in
       let stood : is_some (s.store.slots (context, number_of_key s.keys key)) ≡ true = ap is_some (sym (plain_there s context key there)) ∙ some in
       let now : plain_slot t context key ≡ t.store.slots (context, number_of_key t.keys key) = plain_there t context key (ap (λ ks. is_there ks key) keys ∙ there) in
-      ap is_some now ∙ (ap (λ ks. is_some (t.store.slots (context, number_of_key ks key))) keys ∙ each context there stood)
+      ap is_some now ∙ (ap (λ ks. is_some (t.store.slots (context, number_of_key ks key))) keys ∙ each context held there stood)
 
-  act_keeps : (act : Act Place) (s : ValueState) → FillsStill act → Keeps key s (after_act act s)
-  act_keeps act s fills = slots_keep s (after_act act s) refl (λ context there some. some_by (reply_to act s) s.store act (context, number_of_key s.keys key) fills some)
+  act_keeps : (act : Act Place) (s : ValueState) → FillsStill act → Keeps Held key s (after_act act s)
+  act_keeps act s fills = slots_keep s (after_act act s) refl (λ context held there some. some_by (reply_to act s) s.store act (context, number_of_key s.keys key) fills some)
 
-  value_keeps : (value : ValueText) (s : ValueState) → Keeps key s (keep_value value s)
-  value_keeps value s = slots_keep s (keep_value value s) refl (λ context there some. some_by (reply_to (next_number s) s) s.store (next_number s) (context, number_of_key s.keys key) (λ x is. is) some)
+  value_keeps : (value : ValueText) (s : ValueState) → Keeps Held key s (keep_value value s)
+  value_keeps value s = slots_keep s (keep_value value s) refl (λ context held there some. some_by (reply_to (next_number s) s) s.store (next_number s) (context, number_of_key s.keys key) (λ x is. is) some)
 
   -- a claim that is given up
-  undone_keeps : (place : Place) (s : ValueState) → why_refused (Claim place) s ≡ None → Keeps key s (after_act (Abandon place) (after_act (Claim place) s))
+  undone_keeps : (place : Place) (s : ValueState) → why_refused (Claim place) s ≡ None → Keeps Held key s (after_act (Abandon place) (after_act (Claim place) s))
   undone_keeps place s won =
       let same = abandon_undoes_claim s.numbers s.store any_lane place (was_empty (s.store.slots place) won) in
-      slots_keep s (after_act (Abandon place) (after_act (Claim place) s)) refl (λ context there some. ap (λ (st : State Place). is_some (st.slots (context, number_of_key s.keys key))) same ∙ some)
+      slots_keep s (after_act (Abandon place) (after_act (Claim place) s)) refl (λ context held there some. ap (λ (st : State Place). is_some (st.slots (context, number_of_key s.keys key))) same ∙ some)
 
-  -- another key is removed
-  remove_keeps : (context number : ℕ) (other : KeyValue) (s : ValueState) → is_there s.keys other ≡ true → number ≡ number_of_key s.keys other → key_eq other key ≡ false → Keeps key s (after_act (Remove (context, number)) s)
-  remove_keeps context number other s also is differ = slots_keep s (after_act (Remove (context, number)) s) refl (λ at there some. ap is_some (others_stay s.numbers s.store any_lane (Remove (context, number)) (at, number_of_key s.keys key) (apart at there)) ∙ some)
+  -- another key is removed, or one elsewhere
+  remove_keeps : (context number : ℕ) (other : KeyValue) (s : ValueState) → is_there s.keys other ≡ true → number ≡ number_of_key s.keys other → (Held context → key_eq other key ≡ false) → Keeps Held key s (after_act (Remove (context, number)) s)
+  remove_keeps context number other s also is differ = slots_keep s (after_act (Remove (context, number)) s) refl (λ at held there some. ap is_some (others_stay s.numbers s.store any_lane (Remove (context, number)) (at, number_of_key s.keys key) (apart at held there)) ∙ some)
     where
-      apart : (at : ℕ) → is_there s.keys key ≡ true → same_place (context, number) (at, number_of_key s.keys key) ≡ false
-      apart at there = elim (bools (same_place (context, number) (at, number_of_key s.keys key))) [
+      apart : (at : ℕ) → Held at → is_there s.keys key ≡ true → same_place (context, number) (at, number_of_key s.keys key) ≡ false
+      apart at held there = elim (bools (same_place (context, number) (at, number_of_key s.keys key))) [
         | inl same ↦
-            let one : number ≡ number_of_key s.keys key = ap (λ (p : Place). p.1) (same_place_is (context, number) (at, number_of_key s.keys key) same) in
-            absurd (true≢false (sym ((keys_Decides other key).1 (one_of_place s.keys other key also there (sym is ∙ one))) ∙ differ))
+            let both = same_place_is (context, number) (at, number_of_key s.keys key) same in
+            let one : number ≡ number_of_key s.keys key = ap (λ (p : Place). p.1) both in
+            let here : at ≡ context = sym (ap (λ (p : Place). p.0) both) in
+            absurd (true≢false (sym ((keys_Decides other key).1 (one_of_place s.keys other key also there (sym is ∙ one))) ∙ differ (subst Held here held)))
         | inr off ↦ off
       ]
 
   -- a key gets its number
-  named_keeps : (first : KeyValue) (s : ValueState) → Keeps key s (with_number first s)
-  named_keeps first s = λ context some.
+  named_keeps : (first : KeyValue) (s : ValueState) → Keeps Held key s (with_number first s)
+  named_keeps first s = λ context held some.
       let there = some_there s context key some in
       ap is_some (plain_there (with_number first s) context key (there_more s.keys key first there)
       ∙ (ap (λ n. s.store.slots (context, n)) (place_stays s.keys (first ∷ []) key there) ∙ sym (plain_there s context key there)))
@@ -113,11 +115,11 @@ module _ (key : KeyValue) where
 
 -- ---- a step that does not remove the key
 
-module _ (key : KeyValue) (s : ValueState) where
+module _ (Held : ℕ → Type 0) (key : KeyValue) (s : ValueState) where
   abbrev pub Kept : StepEnd → Type 0
-  Kept end = Keeps key s end.state
+  Kept end = Keeps Held key s end.state
 
-  or_kept : (name label : List ℕ) (why : Option Reason) (t : ValueState) (goes : StepEnd) → Keeps key s t → (why ≡ None → Kept goes) → Kept (or_refused name label why t goes)
+  or_kept : (name label : List ℕ) (why : Option Reason) (t : ValueState) (goes : StepEnd) → Keeps Held key s t → (why ≡ None → Kept goes) → Kept (or_refused name label why t goes)
   or_kept name label None t goes still goes_on = goes_on refl
   or_kept name label (Some why) t goes still goes_on = still
 
@@ -144,14 +146,14 @@ module _ (key : KeyValue) (s : ValueState) where
   absent_kept (look.Busy at) absent other p q = q
   absent_kept (look.Closed at) absent other p q = q
 
-  abbrev itself : Keeps key s s
-  itself = λ context some. some
+  abbrev itself : Keeps Held key s s
+  itself = λ context held some. some
 
   put_kept_so : (found : Memory) (name label : List ℕ) (place : Place) → Kept (put_in found name label place s)
   put_kept_so found name label place =
       let lacks = ended no_memory s in
       let stored = put_kept name label place s in
-      let put : Kept stored = act_keeps key (Put place s.store.drawn) s (λ x is. refl) in
+      let put : Kept stored = act_keeps Held key (Put place s.store.drawn) s (λ x is. refl) in
       said_kept found (if lacks_place found then if_empty (s.store.slots place) lacks stored else stored)
       (either_kept (lacks_place found) (if_empty (s.store.slots place) lacks stored) stored (empty_kept (s.store.slots place) lacks stored itself put) put)
 
@@ -160,15 +162,15 @@ module _ (key : KeyValue) (s : ValueState) where
     abbrev claimed : ValueState
     claimed = after_act (Claim place) s
 
-    stored_keeps : (value : ValueText) (act : Act Place) → FillsStill act → Keeps key s (after_act act (keep_value value claimed))
+    stored_keeps : (value : ValueText) (act : Act Place) → FillsStill act → Keeps Held key s (after_act act (keep_value value claimed))
     stored_keeps value act fills =
         let kept = keep_value value claimed in
-        keeps_then key s claimed (after_act act kept) (act_keeps key (Claim place) s (λ x is. refl))
-        (keeps_then key claimed kept (after_act act kept) (value_keeps key value claimed) (act_keeps key act kept fills))
+        keeps_then Held key s claimed (after_act act kept) (act_keeps Held key (Claim place) s (λ x is. refl))
+        (keeps_then Held key claimed kept (after_act act kept) (value_keeps Held key value claimed) (act_keeps Held key act kept fills))
 
     gave_kept : (name label : List ℕ) (value : ValueText) → why_refused (Claim place) s ≡ None → Kept (factory_gave name label place value claimed)
     gave_kept name label value won =
-        or_kept name label (why_refused (next_number claimed) claimed) (after_act (Abandon place) claimed) _ (undone_keeps key place s won)
+        or_kept name label (why_refused (next_number claimed) claimed) (after_act (Abandon place) claimed) _ (undone_keeps Held key place s won)
         (λ room. stored_keeps value (Fill place (keep_value value claimed).store.drawn) (λ x is. refl))
 
     failed_kept : (name label text : List ℕ) → why_refused (Claim place) s ≡ None → Kept (factory_failed name label place text claimed)
@@ -177,7 +179,7 @@ module _ (key : KeyValue) (s : ValueState) where
         let kept = keep_value value claimed in
         let gone = after_act (Abandon place) claimed in
         let stored = ended successful (after_act (Fail place kept.store.drawn) kept) in
-        let away : Keeps key s gone = undone_keeps key place s won in
+        let away : Keeps Held key s gone = undone_keeps Held key place s won in
         either_kept claimed.keep_faults (or_refused name label (why_refused (next_number claimed) claimed) gone stored) (ended successful gone)
         (or_kept name label (why_refused (next_number claimed) claimed) gone stored away (λ room. stored_keeps value (Fail place kept.store.drawn) (λ x is. refl))) away
 
@@ -200,7 +202,7 @@ module _ (key : KeyValue) (s : ValueState) where
 
     -- without memory
     lost_kept : (name label : List ℕ) → Kept (claim_and name label place (λ t. ended no_memory (after_act (Abandon place) t)) s)
-    lost_kept name label = claim_kept name label (λ t. ended no_memory (after_act (Abandon place) t)) (undone_keeps key place s)
+    lost_kept name label = claim_kept name label (λ t. ended no_memory (after_act (Abandon place) t)) (undone_keeps Held key place s)
 
     unplaced_kept : (name label : List ℕ) → Kept (or_refused name label (why_refused (Claim place) s) s (ended no_memory s))
     unplaced_kept name label = or_kept name label (why_refused (Claim place) s) s (ended no_memory s) itself (λ won. itself)
@@ -225,29 +227,29 @@ module _ (key : KeyValue) (s : ValueState) where
     fail_by_kept no_words name label text found = fail_kept name label text found
 
   number_kept : (found : Memory) (name label : List ℕ) (other : KeyValue) (goes : ℕ → ValueState → StepEnd) (numbering : Numbering) → numbering_of s.places s.keys other ≡ numbering
-      → ((number : ℕ) (t : ValueState) → is_there t.keys other ≡ true → number ≡ number_of_key t.keys other → Keeps key t (goes number t).state) → Kept (number_by found name label other goes s numbering)
+      → ((number : ℕ) (t : ValueState) → is_there t.keys other ≡ true → number ≡ number_of_key t.keys other → Keeps Held key t (goes number t).state) → Kept (number_by found name label other goes s numbering)
   number_kept found name label other goes (known number) is each = let has = known_is s.places s.keys other number is in each number s has.there has.place
   number_kept found name label other goes (next number) is each =
       let new = next_is s.places s.keys other number is in
       let t = with_number other s in
       either_kept (lacks_number found) (ended no_memory s) (goes number t) itself
-      (keeps_then key s t (goes number t).state (named_keeps key other s) (each number t (there_then s.keys other new.there) (new.place ∙ sym (key_number_last s.keys other new.there))))
+      (keeps_then Held key s t (goes number t).state (named_keeps Held key other s) (each number t (there_then s.keys other new.there) (new.place ∙ sym (key_number_last s.keys other new.there))))
   number_kept found name label other goes full is each = said_kept found _ itself
 
   refused_kept : (found : Memory) (name label : List ℕ) (why : Option Reason) (goes : StepEnd) → Kept goes → Kept (kept_or_refused found name label why s goes)
   refused_kept found name label None goes is = is
   refused_kept found name label (Some why) goes is = said_kept found _ itself
 
-  first_so : (found : Memory) (name label : List ℕ) (value : Option ValueText) (goes : ValueState → StepEnd) → ((t : ValueState) → Keeps key t (goes t).state) → Kept (first_kept found name label value goes s)
+  first_so : (found : Memory) (name label : List ℕ) (value : Option ValueText) (goes : ValueState → StepEnd) → ((t : ValueState) → Keeps Held key t (goes t).state) → Kept (first_kept found name label value goes s)
   first_so found name label None goes each = each s
   first_so found name label (Some value) goes each =
       let kept = keep_value value s in
       let stored = goes kept in
       either_kept (lacks_value found) (ended no_memory s) (kept_or_refused found name label (why_refused (next_number s) s) s stored) itself
-      (refused_kept found name label (why_refused (next_number s) s) stored (keeps_then key s kept stored.state (value_keeps key value s) (each kept)))
+      (refused_kept found name label (why_refused (next_number s) s) stored (keeps_then Held key s kept stored.state (value_keeps Held key value s) (each kept)))
 
   -- once its key has its number
-  acts_kept : (declared : List KeyText) (found : Memory) (word : Word) (key_text : StepKeyText) (call : CallText) (text : List ℕ) (up number : ℕ) → call.key ≡ key_of_step declared key_text → removes_key declared key (act_of (keyed word key_text text up)) ≡ false
+  acts_kept : (declared : List KeyText) (found : Memory) (word : Word) (key_text : StepKeyText) (call : CallText) (text : List ℕ) (up number : ℕ) → call.key ≡ key_of_step declared key_text → (removes_key declared key (act_of (keyed word key_text text up)) ≡ true → Held (start_of call.path) → ⊥)
       → is_there s.keys call.key ≡ true → number ≡ number_of_key s.keys call.key → Kept (acts_by found word call text number s)
   acts_kept declared found words.Put key_text call text up number same spares there is = put_kept_so found call.name call.label (start_of call.path, number)
   acts_kept declared found words.PutCloseable key_text call text up number same spares there is = put_kept_so found call.name call.label (start_of call.path, number)
@@ -255,7 +257,10 @@ module _ (key : KeyValue) (s : ValueState) where
   acts_kept declared found words.None key_text call text up number same spares there is = said_kept found (ended (none_verdict call.name call.label (seen_by s.values (found_along number call.path s))) s) itself
   acts_kept declared found words.Remove key_text call text up number same spares there is =
       said_kept found (act_ends call.name call.label (Remove (start_of call.path, number)) s)
-      (remove_keeps key (start_of call.path) number call.key s there is (ap (λ k. key_eq k key) same ∙ spares))
+      (remove_keeps Held key (start_of call.path) number call.key s there is (λ held. elim (bools (key_eq call.key key)) [
+        | inl on ↦ absurd (spares (ap (λ k. key_eq k key) (sym same) ∙ on) held)
+        | inr off ↦ off
+      ]))
   acts_kept declared found words.Compute key_text call text up number same spares there is =
       compute_by_kept (start_of call.path, number) found call.name call.label (record { text = text; closeable = false }) (found_along number call.path s)
   acts_kept declared found words.ComputeCloseable key_text call text up number same spares there is =
@@ -263,40 +268,45 @@ module _ (key : KeyValue) (s : ValueState) where
   acts_kept declared found words.ComputeFail key_text call text up number same spares there is =
       fail_by_kept (start_of call.path, number) found call.name call.label text (found_along number call.path s)
 
--- the step does not remove the key
-abbrev pub Spares : List KeyText → KeyValue → StepText → Type 0
-Spares declared key step = removes_key declared key (act_of step) ≡ false
+-- where a step of a node with this path acts
+abbrev pub acts_at : List ℕ → Option ActText → ℕ
+acts_at path None = 0
+acts_at path (Some act) = start_of (drop act.up path)
 
-module _ (key : KeyValue) (declared : List KeyText) (path : List ℕ) where
-  step_keeps : (found : Memory) (step : StepText) (s : ValueState) → Spares declared key step → Keeps key s (step_by declared found path step s).state
+-- the step does not remove the key in one of these contexts
+abbrev pub Spares : (ℕ → Type 0) → List KeyText → KeyValue → List ℕ → StepText → Type 0
+Spares Held declared key path step = removes_key declared key (act_of step) ≡ true → Held (acts_at path (act_of step)) → ⊥
+
+module _ (Held : ℕ → Type 0) (key : KeyValue) (declared : List KeyText) (path : List ℕ) where
+  step_keeps : (found : Memory) (step : StepText) (s : ValueState) → Spares Held declared key path step → Keeps Held key s (step_by declared found path step s).state
   step_keeps found (keyed word key_text text up) s spares =
       let call = call_of declared path (word_text word) key_text up in
       let acts : ℕ → ValueState → StepEnd = acts_by found word call text in
-      either_kept key s (lacks_key found && is_made declared key_text) (ended no_memory s) (call_by found word call text s) (itself key s)
-      (first_so key s found call.name call.label (value_first word text) (numbered_by found call.name call.label call.key acts)
-      (λ t. number_kept key t found call.name call.label call.key acts (numbering_of t.places t.keys call.key) refl
-      (λ number u there is. acts_kept key u declared found word key_text call text up number refl spares there is)))
-  step_keeps found (fail text) s spares = said_kept key s found (ended (failed text) s) (itself key s)
-  step_keeps found (abort text) s spares = said_kept key s found (ended (aborted text) s) (itself key s)
+      either_kept Held key s (lacks_key found && is_made declared key_text) (ended no_memory s) (call_by found word call text s) (itself Held key s)
+      (first_so Held key s found call.name call.label (value_first word text) (numbered_by found call.name call.label call.key acts)
+      (λ t. number_kept Held key t found call.name call.label call.key acts (numbering_of t.places t.keys call.key) refl
+      (λ number u there is. acts_kept Held key u declared found word key_text call text up number refl spares there is)))
+  step_keeps found (fail text) s spares = said_kept Held key s found (ended (failed text) s) (itself Held key s)
+  step_keeps found (abort text) s spares = said_kept Held key s found (ended (aborted text) s) (itself Held key s)
 
-  next_keeps : (step : StepText) (s : ValueState) → Spares declared key step → Keeps key s (next_step declared path step s).state
+  next_keeps : (step : StepText) (s : ValueState) → Spares Held declared key path step → Keeps Held key s (next_step declared path step s).state
   next_keeps step s spares = step_keeps (next_found s.memory) step (record s { memory = found_later s.memory }) spares
 
-  ended_kept : (s : ValueState) (v : VerdictText) (first : StepEnd) (go_on : ValueState → StepEnd) → Keeps key s first.state → ((t : ValueState) → Keeps key t (go_on t).state) → Keeps key s (unless_ended v first go_on).state
-  ended_kept s successful first go_on one rest = keeps_then key s first.state (go_on first.state).state one (rest first.state)
+  ended_kept : (s : ValueState) (v : VerdictText) (first : StepEnd) (go_on : ValueState → StepEnd) → Keeps Held key s first.state → ((t : ValueState) → Keeps Held key t (go_on t).state) → Keeps Held key s (unless_ended v first go_on).state
+  ended_kept s successful first go_on one rest = keeps_then Held key s first.state (go_on first.state).state one (rest first.state)
   ended_kept s (aborted text) first go_on one rest = one
   ended_kept s (failed text) first go_on one rest = one
 
-  pub steps_keep : (steps : List StepText) (s : ValueState) → ((step : StepText) → Contains steps step → Spares declared key step) → Keeps key s (steps_run declared path steps s).state
-  steps_keep [] s spare = subst (λ (end : StepEnd). Keeps key s end.state) (sym (steps_run-nil declared path s)) (itself key s)
+  pub steps_keep : (steps : List StepText) (s : ValueState) → ((step : StepText) → Contains steps step → Spares Held declared key path step) → Keeps Held key s (steps_run declared path steps s).state
+  steps_keep [] s spare = subst (λ (end : StepEnd). Keeps Held key s end.state) (sym (steps_run-nil declared path s)) (itself Held key s)
   steps_keep (step ∷ more) s spare =
-      subst (λ (end : StepEnd). Keeps key s end.state) (sym (steps_run-cons declared path step more s))
+      subst (λ (end : StepEnd). Keeps Held key s end.state) (sym (steps_run-cons declared path step more s))
       (ended_kept s (next_step declared path step s).verdict (next_step declared path step s) (steps_run declared path more) (next_keeps step s (spare step (contains_here step more)))
       (λ t. steps_keep more t (λ other there. spare other (contains_later step more other there))))
 
-pub seals_keep : (key : KeyValue) (count at : ℕ) (s : ValueState) → Keeps key s (seal_keys count at s)
+pub seals_keep : (Held : ℕ → Type 0) (key : KeyValue) (count at : ℕ) (s : ValueState) → Keeps Held key s (seal_keys count at s)
 unfolding seal_keys
-seals_keep key zero at s = λ context some. some
-seals_keep key (suc number) at s =
+seals_keep Held key zero at s = λ context held some. some
+seals_keep Held key (suc number) at s =
     let before = seal_keys number at s in
-    keeps_then key s before (after_act (Seal (at, number)) before) (seals_keep key number at s) (act_keeps key (Seal (at, number)) before (λ x is. refl))
+    keeps_then Held key s before (after_act (Seal (at, number)) before) (seals_keep Held key number at s) (act_keeps Held key (Seal (at, number)) before (λ x is. refl))

@@ -1,5 +1,5 @@
 -- Each run that lacks nothing, of a plan whose nodes may compute the same beside one another, tells near what the plain run does; and exactly that where they keep apart.
-use Rattle.ext_one_report.proofs.Open.{Open, values_of}
+use Rattle.ext_one_report.proofs.Open.{Open}
 use Rattle.std.proofs.Common.{◌≡◌, inl, inr, ◌⊎◌, ℕ, ◌<◌, true, List, [], ◌∷◌, length, drop, get_or, map, Some, None, refl, ap, sym, subst, ◌∙◌, arith, zero-add}
 use Rattle.std.specs.Prelude.{Contains, is_some, option_map, slice_get}
 use Rattle.std.specs.List.{sum_by}
@@ -26,7 +26,7 @@ use Rattle.ext_one_report.proofs.MatchingWords.{RunView}
 use Rattle.ext_one_report.proofs.Covered.{changed_in, touched_in}
 use Rattle.ext_one_report.proofs.CoveredPlans.{plans_are_covered}
 use Rattle.ext_one_report.specs.Shares.{SharedValues, SharesNothing, shares_in, AreNearResults}
-use Rattle.ext_one_report.proofs.Shared.{AreShared, given_in}
+use Rattle.ext_one_report.proofs.Shared.{AreShared, given_in, SharesAbove}
 use Rattle.ext_one_report.specs.FullRuns.{LacksNothing}
 use Rattle.ext_one_report.proofs.Fills.{computed_at, computed_of, computed_told}
 use Rattle.ext_one_report.proofs.FillsCounts.{computed_is, none_filled_apart, of_first, told_first, told_is_total}
@@ -34,7 +34,7 @@ use Rattle.ext_one_report.proofs.FullRuns.{setting_in}
 use Rattle.ext_one_report.specs.OneReport.{AreNearReports, NearReport, OneReport}
 use Rattle.ext_races.specs.MadeSteps.{plan_path}
 use Rattle.ext_races.specs.OneReports.{HasNearReport}
-use Rattle.ext_one_report.proofs.SharedNodesWords.{AllResultsNear, BeginsNear, EndsNear, IsSharedBasis}
+use Rattle.ext_one_report.proofs.SharedNodesWords.{AllResultsNear, BeginsNear, EndsNear, IsSharedBasis, AreNearWhere}
 use Rattle.ext_one_report.proofs.Bases.{at_places, changed, enough_results, holds_once, its, numbers_left, only, opens_level}
 use Rattle.ext_one_report.proofs.ComputedAbove.{IsClosedAbove}
 use Rattle.ext_one_report.proofs.LanesAlone.{view_moves}
@@ -42,7 +42,7 @@ use Rattle.ext_one_report.proofs.NodeTrees.{its_path}
 use Rattle.ext_one_report.proofs.Numbers.{enough_end, enough_opening}
 use Rattle.ext_one_report.proofs.Results.{length_results, length_skipped, same_by_places, skipped_at, stands_or_not}
 use Rattle.ext_one_report.proofs.Whole.{each_once, is_view, lanes_apart, lanes_in, one_each, run_in_view}
-use Rattle.ext_one_report.proofs.SharedApart.{apart_shares_nothing, apart_shares_values, values_are_shared}
+use Rattle.ext_one_report.proofs.SharedApart.{apart_shares_nothing, apart_shares_values, values_are_above}
 use Rattle.ext_one_report.proofs.SharedNodesEnds.{nodes_end_near}
 use Rattle.ext_one_report.proofs.SharedPlans.{plans_are_shared}
 
@@ -51,13 +51,13 @@ abbrev none_open : Open
 none_open context key = None
 
 module _ (nodes : List NodeText) (suite : SuiteView) (ran : List Ran) (results : List (ResultOf Fault)) (after : List NodeOutcome)
-    (tests : (node : ℕ) → suite.is_test node ≡ is_some (test_in (slice_get nodes node))) (one : IsOneEach suite (λ node answer. answer ≡ true) (length nodes) ran results) (shares : ℕ → Open)
-    (told : AllResultsNear shares ran (skipped_from 0 nodes) after) (once : Once (nodes_of ran)) (as_many : computed_of ran ≡ computed_told ran after) where
+    (tests : (node : ℕ) → suite.is_test node ≡ is_some (test_in (slice_get nodes node))) (one : IsOneEach suite (λ node answer. answer ≡ true) (length nodes) ran results) (Exact : ℕ → Type 0)
+    (shares : ℕ → SharedValues) (exact : (node : ℕ) → SharesNothing (shares node) → Exact node) (told : AllResultsNear Exact ran (skipped_from 0 nodes) after) (once : Once (nodes_of ran)) (as_many : computed_of ran ≡ computed_told ran after) where
   itself : (shared : SharedValues) (a b : NodeOutcome) → a ≡ b → AreNearResults shared a b
   itself shared a b same = subst (λ x. AreNearResults shared a x) same (record { same = refl; counts = refl; exact = λ nothing. refl })
 
   at : (k : ℕ) (here there : NodeOutcome) → k < length nodes → HasRun ran k ⊎ (¬ HasRun ran k) → option_map (map_fault fault_text) (slice_get results k) ≡ Some here → slice_get after k ≡ Some there
-      → AreNearResults (values_of (shares k)) here there
+      → AreNearResults (shares k) here there
   at k here there within (inl has) is is' =
       let r = contains-from_map (λ (x : Ran). x.result.node) ran k has in
       let t = told.each r.0 r.1 in
@@ -65,13 +65,15 @@ module _ (nodes : List NodeText) (suite : SuiteView) (ran : List Ran) (results :
       let theirs : Some t.0 ≡ Some there = sym (ap (λ n. slice_get after n) (sym r.2) ∙ t.1) ∙ is' in
       let here_is : map_fault fault_text r.0.result ≡ here = cc mine in
       let there_is : t.0 ≡ there = cc theirs in
-      subst (λ n. AreNearResults (values_of (shares n)) here there) r.2
-      (subst (λ x. AreNearResults (values_of (shares r.0.result.node)) x there) here_is (subst (λ x. AreNearResults (values_of (shares r.0.result.node)) (map_fault fault_text r.0.result) x) there_is t.2))
+      let near : AreNearWhere (Exact k) here there =
+      subst (λ n. AreNearWhere (Exact n) here there) r.2
+      (subst (λ x. AreNearWhere (Exact r.0.result.node) x there) here_is (subst (λ x. AreNearWhere (Exact r.0.result.node) (map_fault fault_text r.0.result) x) there_is t.2)) in
+      record { same = near.same; counts = near.counts; exact = λ nothing. near.exact (exact k nothing) }
   at k here there within (inr none) is is' =
       let mine : Some (skipped_result k (is_some (test_in (slice_get nodes k)))) ≡ Some here = sym (ap (λ o. option_map (map_fault fault_text) o) (one.of_skipped k within none) ∙ ap (λ b. Some (skipped_result k b)) (tests k)) ∙ is in
       let theirs : Some (skipped_result k (is_some (test_in (slice_get nodes k)))) ≡ Some there =
       sym (told.others k none ∙ skipped_at nodes 0 k within ∙ ap (λ n. Some (skipped_result n (is_some (test_in (slice_get nodes k))))) (zero-add k)) ∙ is' in
-      itself (values_of (shares k)) here there (cc (sym mine ∙ theirs))
+      itself (shares k) here there (cc (sym mine ∙ theirs))
 
   -- ---- how many values all nodes computed
 
@@ -114,7 +116,7 @@ module _ (nodes : List NodeText) (suite : SuiteView) (ran : List Ran) (results :
       told.others k none ∙ skipped_at nodes 0 k (omega (arith, less, count)) ∙ ap (λ n. Some (skipped_result n (is_some (test_in (slice_get nodes k))))) (zero-add k) in
       computed_is after k (skipped_result k (is_some (test_in (slice_get nodes k)))) skipped))))
 
-  pub near_reports : AreNearReports (λ node. values_of (shares node)) (map (map_fault fault_text) results) after
+  pub near_reports : AreNearReports shares (map (map_fault fault_text) results) after
   near_reports = record {
     count = length-map results (map_fault fault_text) ∙ length_results nodes suite ran results one ∙ sym told.count;
     computed = totals;
@@ -186,10 +188,10 @@ module _ (plan : PlanText) (lanes : ℕ) (results : List (ResultOf Fault)) (read
       nodes_end_near plan mine run.locks run.shared.history (touched_in plan) (changed_in plan) cells_changed shares 16 (length plan.nodes) 0 (0 ∷ []) none_open run.first run.ran run.after (enough_opening plan) basis (refl, refl)
       (omega arith) (run_in_view plan lanes results run full) begins (numbers_left plan lanes results read run full has.numbers)
 
-  pub told_near : AreNearReports (λ node. values_of (shares node)) (map (map_fault fault_text) results) (plain_run plan)
-  told_near =
-      subst (AreNearReports (λ node. values_of (shares node)) (map (map_fault fault_text) results)) (enough_results plan lanes results read run full has.numbers)
-      (near_reports plan.nodes (suite_of plan) run.ran results (enough_end plan).results (λ node. refl) (one_each plan lanes results run full read) shares ends.told
+  pub told_near : (values : ℕ → SharedValues) → ((node : ℕ) → SharesNothing (values node) → SharesAbove plan shares node) → AreNearReports values (map (map_fault fault_text) results) (plain_run plan)
+  told_near values exact =
+      subst (AreNearReports values (map (map_fault fault_text) results)) (enough_results plan lanes results read run full has.numbers)
+      (near_reports plan.nodes (suite_of plan) run.ran results (enough_end plan).results (λ node. refl) (one_each plan lanes results run full read) (SharesAbove plan shares) values exact ends.told
       (each_once plan lanes results run full read) (none_filled_apart _ none_open _ _ _ _ (λ context key. refl) ends.fills))
 
 -- reports that are near are the same where no node shares a value
@@ -208,8 +210,8 @@ same_reports shares here there nothing near = same_by_places here there near.cou
 
 pub near_report : NearReport
 near_report plan lanes results read has run full =
-    subst (λ (shares : ℕ → SharedValues). AreNearReports shares (map (map_fault fault_text) results) (plain_run plan)) (λ i node. values_are_shared plan node i)
-    (told_near plan lanes results read has run full (given_in plan) (plans_are_shared plan (its plan lanes results read run full) read has.alike run.store_is.tree))
+    told_near plan lanes results read has run full (given_in plan) (plans_are_shared plan (its plan lanes results read run full) read has.alike run.store_is.tree) (shares_in plan)
+    (values_are_above plan read has.alike)
 
 -- So plans whose nodes keep apart have one report, as those whose nodes share values have near ones: no node of them shares a value
 pub one_report : OneReport

@@ -1,8 +1,8 @@
 -- Which places nodes share with nodes beside them, where all of them compute the same value or fail alike: of a plan in which nodes that may run beside one another touch a place that one of
 -- them may change only so.
 -- Javadoc `ExtensionContext.Store`, `getOrComputeIfAbsent`; what a step touches, and when two touches agree, are definitions of [ext_races].
-use Rattle.std.specs.Prelude.{ℕ, ◌≡◌, ◌≢◌, ◌⊎◌, Bool, true, false, List, [], ◌∷◌, ◌++◌, drop, All, Contains, Option, Some, None, find}
-use Rattle.std.specs.List.{flat_map}
+use Rattle.std.specs.Prelude.{ℕ, ◌≡◌, ◌≢◌, ◌⊎◌, Bool, true, false, ◌&&◌, ◌||◌, List, [], ◌∷◌, ◌++◌, drop, All, Contains, Option, Some, None, find}
+use Rattle.std.specs.List.{flat_map, list_any}
 use Rattle.ext_tree.specs.Keys.{KeyValue}
 use Rattle.ext_tree.specs.Trees.{IsParentOf, IsPathOf}
 use Rattle.ext_lifecycle.specs.declared.call.Call.{Call}
@@ -14,7 +14,7 @@ use Rattle.ext_plan.specs.StepCalls.{start_of}
 use Rattle.ext_plan.specs.StoreKeys.{key_of_step}
 use Rattle.ext_plan.specs.Values.{ValueText}
 use Rattle.ext_races.specs.Touches.{TouchText, touches_made}
-use Rattle.ext_one_report.specs.Shares.{is_shared_at}
+use Rattle.ext_one_report.specs.Shares.{is_at, is_beside_at}
 use Rattle.ext_races.specs.MadeSteps.{calls_after, calls_before, calls_of, plan_path}
 use Rattle.ext_one_report.proofs.PlanCells.{changed_by}
 use Rattle.ext_one_report.proofs.MatchingWords.{Places, RunView}
@@ -40,9 +40,17 @@ abbrev pub given_of : PlanText → Option TouchText → Option Given
 given_of plan None = None
 given_of plan (Some touch) = Some (given_by plan.keep_faults touch.acts touch.text)
 
+-- the touch is of this place, by this node or one below it, and a node beside it touches the place too; one of both may change it
+abbrev pub is_open_at : PlanText → ℕ → ℕ → KeyValue → TouchText → Bool
+is_open_at plan node context key touch = is_at plan node context key touch && list_any (λ u. is_beside_at plan node context key u && (touch.changes || u.changes)) (touches_made plan)
+
 -- the places that a node shares with nodes beside it, and what is computed at each of them
 unfoldable pub given_in : PlanText → ℕ → Open
-given_in plan node context key = given_of plan (find (is_shared_at plan node context key) (touches_made plan))
+given_in plan node context key = given_of plan (find (is_open_at plan node context key) (touches_made plan))
+
+-- each place at which the node shares a value is one at which a node above it computes
+abbrev pub SharesAbove : PlanText → (ℕ → Open) → ℕ → Type 0
+SharesAbove plan shares node = (context : ℕ) (key : KeyValue) (v : ValueText) → shares node context key ≡ Some (of_value v) → IsComputedIn plan (drop 1 (plan_path plan node)) context key
 
 -- `shares` has the places at which each node, or a node below it, computes what a node beside it computes too
 module _ (plan : PlanText) (run : RunView) (touched changes : ℕ → Places) (shares : ℕ → Open) where

@@ -20,7 +20,7 @@ use Rattle.ext_races.proofs.Equalities.{word_is}
 use Rattle.ext_races.proofs.Lists.{contains_first, contains_later}
 use Rattle.ext_races.proofs.Sides.{nodes_found, nodes_tested}
 use Rattle.ext_races.proofs.TouchNodes.{touch_within}
-use Rattle.ext_one_report.specs.Shares.{is_at, is_beside_at, is_shared_at}
+use Rattle.ext_one_report.specs.Shares.{is_at, is_beside_at}
 use Rattle.ext_races.specs.OneReports.{SharesValues}
 use Rattle.ext_one_report.specs.Within.{is_within}
 use Rattle.ext_one_report.proofs.ComputedAbove.{IsComputedIn}
@@ -28,12 +28,12 @@ use Rattle.ext_one_report.proofs.CoveredPaths.{path_holds, path_there}
 use Rattle.ext_one_report.proofs.CoveredPlans.{IsTouchedBelow, within_found}
 use Rattle.ext_one_report.proofs.FoundAbove.{IsFoundAbove, how_it_acts, key_there, one_key}
 use Rattle.ext_one_report.proofs.Open.{Given, given_by}
-use Rattle.ext_one_report.proofs.Shared.{given_in, given_of}
+use Rattle.ext_one_report.proofs.Shared.{given_in, given_of, is_open_at}
 use Rattle.ext_one_report.proofs.SharedBeside.{AreBelow, above_both, above_cases, also_below, are_below, are_beside, turned}
 
 -- ---- the first that passes
 
-find_is : {A : Type 0} (p : A → Bool) (xs : List A) (x : A) → find p xs ≡ Some x → Contains xs x × (p x ≡ true)
+pub find_is : {A : Type 0} (p : A → Bool) (xs : List A) (x : A) → find p xs ≡ Some x → Contains xs x × (p x ≡ true)
 find_is p [] x e = absurd (cc e)
 find_is p (y ∷ xs) x e = elim (cases_Bool (p y)) [
   | inl passes ↦
@@ -43,7 +43,7 @@ find_is p (y ∷ xs) x e = elim (cases_Bool (p y)) [
   | inr fails ↦ let rest = find_is p xs x (rw fails at e) in (contains_later y x xs rest.0, rest.1)
 ]
 
-find_some : {A : Type 0} (p : A → Bool) (xs : List A) → list_any p xs ≡ true → (x : A) × (find p xs ≡ Some x)
+pub find_some : {A : Type 0} (p : A → Bool) (xs : List A) → list_any p xs ≡ true → (x : A) × (find p xs ≡ Some x)
 find_some p [] any = absurd cc
 find_some p (y ∷ xs) any = elim (cases_Bool (p y)) [
   | inl passes ↦ (y, ap (λ (b : Bool). if b then Some y else find p xs) passes)
@@ -110,7 +110,7 @@ module _ (plan : PlanText) (read : IsReadPlan plan) where
     abbrev number : ℕ
     number = number_of_key (keys_named plan) key
 
-    below_found : (t : TouchText) → Contains (touches_made plan) t → is_at plan node context key t ≡ true → IsTouchedBelow plan node context key false
+    unfoldable pub below_found : (t : TouchText) → Contains (touches_made plan) t → is_at plan node context key t ≡ true → IsTouchedBelow plan node context key false
     below_found t made is =
         let all = and_parts (is_within plan node t.node && (t.context == context)) (t.key == number) is in
         let place = and_parts (is_within plan node t.node) (t.context == context) all.0 in
@@ -123,13 +123,13 @@ module _ (plan : PlanText) (read : IsReadPlan plan) where
           changes = λ told. absurd cc;
         }
 
-    below_told : (told : Bool) → (is : IsTouchedBelow plan node context key told) → is_at plan node context key is.touch ≡ true
+    pub below_told : (told : Bool) → (is : IsTouchedBelow plan node context key told) → is_at plan node context key is.touch ≡ true
     below_told told is =
         let t = is.touch in
         and_from (is_within plan node t.node && (t.context == context)) (t.key == number) (and_from (is_within plan node t.node) (t.context == context) is.below (eq-eqb t.context context is.context_is))
         (eq-eqb t.key number is.key_is)
 
-    beside_found : (t : TouchText) → Contains (touches_made plan) t → node < length (ids_of_nodes plan.nodes) → is_beside_at plan node context key t ≡ true → IsTouchedBeside plan node context key
+    unfoldable pub beside_found : (t : TouchText) → Contains (touches_made plan) t → node < length (ids_of_nodes plan.nodes) → is_beside_at plan node context key t ≡ true → IsTouchedBeside plan node context key
     beside_found t made less is =
         let all = and_parts (nodes_beside plan node t.node && (t.context == context)) (t.key == number) is in
         let place = and_parts (nodes_beside plan node t.node) (t.context == context) all.0 in
@@ -141,7 +141,7 @@ module _ (plan : PlanText) (read : IsReadPlan plan) where
           key_is = eqb-true t.key number all.1;
         }
 
-    beside_told : (is : IsTouchedBeside plan node context key) → node < length (ids_of_nodes plan.nodes) → is_beside_at plan node context key is.touch ≡ true
+    pub beside_told : (is : IsTouchedBeside plan node context key) → node < length (ids_of_nodes plan.nodes) → is_beside_at plan node context key is.touch ≡ true
     beside_told is less =
         let t = is.touch in
         let same = same_count plan in
@@ -157,7 +157,7 @@ module _ (plan : PlanText) (read : IsReadPlan plan) where
     either_told t u (inl first) = or_left t.changes u.changes first
     either_told t u (inr second) = or_right t.changes u.changes second
 
-    shared_told : (told : Bool) → (one : IsTouchedBelow plan node context key told) → (two : IsTouchedBeside plan node context key) → EitherChanges one.touch two.touch → is_shared_at plan node context key one.touch ≡ true
+    shared_told : (told : Bool) → (one : IsTouchedBelow plan node context key told) → (two : IsTouchedBeside plan node context key) → EitherChanges one.touch two.touch → is_open_at plan node context key one.touch ≡ true
     shared_told told one two either =
         let less = above_near node one.touch one.made one.below in
         let changing : TouchText → Bool = λ u. is_beside_at plan node context key u && (one.touch.changes || u.changes) in
@@ -167,8 +167,8 @@ module _ (plan : PlanText) (read : IsReadPlan plan) where
     pub shares_found : (v : Given) → given_in plan node context key ≡ Some v → IsShared plan node context key v
     unfolding given_in below_found beside_found
     shares_found v e =
-        let one = given_touch plan (find (is_shared_at plan node context key) (touches_made plan)) v e in
-        let there = find_is (is_shared_at plan node context key) (touches_made plan) one.0 one.1 in
+        let one = given_touch plan (find (is_open_at plan node context key) (touches_made plan)) v e in
+        let there = find_is (is_open_at plan node context key) (touches_made plan) one.0 one.1 in
         let changing : TouchText → Bool = λ u. is_beside_at plan node context key u && (one.0.changes || u.changes) in
         let parts = and_parts (is_at plan node context key one.0) (list_any changing (touches_made plan)) there.1 in
         let first = below_found one.0 there.0 parts.0 in
@@ -184,7 +184,7 @@ module _ (plan : PlanText) (read : IsReadPlan plan) where
     shares_some : (told : Bool) → (one : IsTouchedBelow plan node context key told) → (two : IsTouchedBeside plan node context key) → EitherChanges one.touch two.touch → (v : Given) × (given_in plan node context key ≡ Some v)
     unfolding given_in
     shares_some told one two either =
-        let first = find_some (is_shared_at plan node context key) (touches_made plan) (told_any (is_shared_at plan node context key) one.touch one.made (shared_told told one two either)) in
+        let first = find_some (is_open_at plan node context key) (touches_made plan) (told_any (is_open_at plan node context key) one.touch one.made (shared_told told one two either)) in
         (touch_gives plan first.0, ap (given_of plan) first.1)
 
 -- ---- touches that agree
@@ -267,38 +267,45 @@ module _ (plan : PlanText) (read : IsReadPlan plan) (shares : SharesValues plan)
 
     -- ---- which is not computed above it
 
-    -- a node beside it that finds the value there finds what one beside it computes
-    computed_beside : IsFoundAbove plan is.second.touch → ¬ IsComputedIn plan (drop 1 (plan_path plan node)) context key → IsTouchedBeside plan node context key
-    computed_beside from none =
+    -- a node beside it that finds the value there finds what one beside it computes, or what is computed above both
+    record IsComputedBeside (from : IsFoundAbove plan is.second.touch) : Type 0 where
+      pub two : IsTouchedBeside plan node context key
+      pub touch_is : two.touch ≡ from.touch
+
+    beside_or_above : (from : IsFoundAbove plan is.second.touch) → IsComputedBeside from ⊎ IsComputedIn plan (drop 1 (plan_path plan node)) context key
+    beside_or_above from =
         let u = is.second in
         let beside = u.beside in
         let found = from.computed in
-        record {
-          touch = from.touch;
-          made = from.made;
-          beside = subst (AreBelow plan node) (sym from.node_is) (elim (above_cases plan read beside.other u.touch.node found.node (near plan read u.touch u.made) beside.other_below found.among) [
-            | inl below ↦ record {
-              container = beside.container;
-              child = beside.child;
-              other = beside.other;
-              child_is = beside.child_is;
-              other_is = beside.other_is;
-              below = beside.below;
-              other_below = below;
-              differ = beside.differ;
-              concurrent = beside.concurrent;
-              other_concurrent = beside.other_concurrent;
-            }
-            | inr above ↦
-                let less = above_near plan read node is.first.touch is.first.made is.first.below in
-                let there = above_both plan read beside.container beside.child beside.other node found.node beside.child_is beside.other_is less beside.below above in
-                let here : IsComputedIn plan (drop 1 (plan_path plan node)) u.touch.context from.key = record { node = found.node; among = there; step = found.step; held = found.held; computes = found.computes; kept = found.kept } in
-                let same : from.key ≡ key = one_key (keys_named plan) from.key key from.named (key_there plan u.touch u.made key u.key_is) (from.number ∙ u.key_is) in
-                absurd (none (subst (IsComputedIn plan (drop 1 (plan_path plan node)) context) same (subst (λ x. IsComputedIn plan (drop 1 (plan_path plan node)) x from.key) u.context_is here)))
-          ]);
-          context_is = from.context_is ∙ u.context_is;
-          key_is = from.key_is ∙ u.key_is;
-        }
+        elim (above_cases plan read beside.other u.touch.node found.node (near plan read u.touch u.made) beside.other_below found.among) [
+          | inl below ↦ inl (record {
+            two = record {
+              touch = from.touch;
+              made = from.made;
+              beside = subst (AreBelow plan node) (sym from.node_is) (record {
+                container = beside.container;
+                child = beside.child;
+                other = beside.other;
+                child_is = beside.child_is;
+                other_is = beside.other_is;
+                below = beside.below;
+                other_below = below;
+                differ = beside.differ;
+                concurrent = beside.concurrent;
+                other_concurrent = beside.other_concurrent;
+              });
+              context_is = from.context_is ∙ u.context_is;
+              key_is = from.key_is ∙ u.key_is;
+            };
+            touch_is = refl;
+          })
+          | inr above ↦
+              let less = above_near plan read node is.first.touch is.first.made is.first.below in
+              let there = above_both plan read beside.container beside.child beside.other node found.node beside.child_is beside.other_is less beside.below above in
+              let here : IsComputedIn plan (drop 1 (plan_path plan node)) u.touch.context from.key = record { node = found.node; among = there; step = found.step; held = found.held; computes = found.computes; kept = found.kept } in
+              let same : from.key ≡ key = one_key (keys_named plan) from.key key from.named (key_there plan u.touch u.made key u.key_is) (from.number ∙ u.key_is) in
+              inr (subst (IsComputedIn plan (drop 1 (plan_path plan node)) context) same (subst (λ x. IsComputedIn plan (drop 1 (plan_path plan node)) x from.key) u.context_is here))
+        ]
 
     -- so a node beside it changes the place, and computes this
     pub record IsChangedBeside : Type 0 where
@@ -306,23 +313,66 @@ module _ (plan : PlanText) (read : IsReadPlan plan) (shares : SharesValues plan)
       pub changes : two.touch.changes ≡ true
       pub value : touch_gives plan two.touch ≡ v
 
-    pub changed_beside : ¬ IsComputedIn plan (drop 1 (plan_path plan node)) context key → IsChangedBeside
-    unfolding computed_beside
-    changed_beside none = elim (how_it_acts plan read is.second.touch is.second.made) [
-      | inl own ↦ record { two = is.second; changes = own.0; value = second_gives.value }
+    want_computes : false ≡ true → ⊥
+    want_computes is = absurd (cc is)
+
+    pub changed_or_above : IsChangedBeside ⊎ IsComputedIn plan (drop 1 (plan_path plan node)) context key
+    changed_or_above = elim (how_it_acts plan read is.second.touch is.second.made) [
+      | inl own ↦ inl (record { two = is.second; changes = own.0; value = second_gives.value })
       | inr still ↦ elim still [
         | inl looks ↦ absurd (want_computes (sym (ap computes looks.1) ∙ second_gives.acts))
         | inr finds ↦
-            let from = finds.2 in record {
-              two = computed_beside from none;
-              changes = from.changes;
-              value = (λ i. given_by plan.keep_faults (from.acts i) (from.text i)) ∙ second_gives.value;
-            }
+            let from = finds.2 in
+            elim (beside_or_above from) [
+              | inl found ↦ inl (record {
+                two = found.two;
+                changes = ap (λ (t : TouchText). t.changes) found.touch_is ∙ from.changes;
+                value = ap (touch_gives plan) found.touch_is ∙ (λ i. given_by plan.keep_faults (from.acts i) (from.text i)) ∙ second_gives.value;
+              })
+              | inr above ↦ inr above
+            ]
       ]
     ]
-      where
-        want_computes : false ≡ true → ⊥
-        want_computes is = absurd (cc is)
+
+    pub changed_beside : ¬ IsComputedIn plan (drop 1 (plan_path plan node)) context key → IsChangedBeside
+    changed_beside none = elim changed_or_above [
+      | inl changed ↦ changed
+      | inr above ↦ absurd (none above)
+    ]
+
+    -- a node at or below it changes the place, or it is computed above
+    pub changed_below : IsTouchedBelow plan node context key true ⊎ IsComputedIn plan (drop 1 (plan_path plan node)) context key
+    changed_below = elim (how_it_acts plan read is.first.touch is.first.made) [
+      | inl own ↦ inl (record {
+        touch = is.first.touch;
+        made = is.first.made;
+        below = is.first.below;
+        context_is = is.first.context_is;
+        key_is = is.first.key_is;
+        changes = λ told. own.0;
+      })
+      | inr still ↦ elim still [
+        | inl looks ↦ absurd (want_computes (sym (ap computes looks.1) ∙ first_gives.acts))
+        | inr finds ↦
+            let t = is.first in
+            let from = finds.2 in
+            let found = from.computed in
+            elim (above_cases plan read node t.touch.node found.node (near plan read t.touch t.made) t.below found.among) [
+              | inl below ↦ inl (record {
+                touch = from.touch;
+                made = from.made;
+                below = subst (λ n. is_within plan node n ≡ true) (sym from.node_is) below;
+                context_is = from.context_is ∙ t.context_is;
+                key_is = from.key_is ∙ t.key_is;
+                changes = λ told. from.changes;
+              })
+              | inr above ↦
+                  let here : IsComputedIn plan (drop 1 (plan_path plan node)) t.touch.context from.key = record { node = found.node; among = above; step = found.step; held = found.held; computes = found.computes; kept = found.kept } in
+                  let same : from.key ≡ key = one_key (keys_named plan) from.key key from.named (key_there plan t.touch t.made key t.key_is) (from.number ∙ t.key_is) in
+                  inr (subst (IsComputedIn plan (drop 1 (plan_path plan node)) context) same (subst (λ x. IsComputedIn plan (drop 1 (plan_path plan node)) x from.key) t.context_is here))
+            ]
+      ]
+    ]
 
     -- and all at or below it compute this, or find it
     pub all_give : ¬ IsComputedIn plan (drop 1 (plan_path plan node)) context key → (told : Bool) → (one : IsTouchedBelow plan node context key told) → Gives plan one.touch v

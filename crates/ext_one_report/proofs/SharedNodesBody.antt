@@ -137,7 +137,9 @@ module _ (g : Ground) where
   child_on c parent = child_path ids g.node c g.path path_in parent
 
   pub child_stays : (c : ℕ) (o : Open) (r : RunState) → IsChild c → ClosedFor o r → ClosedFor o (step r c)
-  child_stays c o r parent closed = child_closed g.plan g.basis.read g.levels c (plan_path g.plan g.node) (c ∷ g.path) (child_on c parent) o r closed
+  child_stays c o r parent closed =
+      child_closed g.plan g.basis.read g.levels c (plan_path g.plan g.node) (c ∷ g.path) (child_on c parent)
+      (λ n there. subst (λ l. Contains l n) (sym (its_path g.plan g.basis.read.runnable.tree g.node g.path path_in)) there) o r closed
 
   pub children_stay : (xs : List ℕ) (o : Open) (r : RunState) → All IsChild xs → ClosedFor o r → ClosedFor o (after_all r xs)
   children_stay [] o r children closed = closed

@@ -26,7 +26,7 @@ use Rattle.ext_engine.specs.Meeting.{HasSeenWithin, first_seen}
 use Rattle.ext_engine.specs.Order.{IsMadeIn, LaneGoesOn}
 use Rattle.ext_engine.proofs.Acts.{Acts, same_made}
 use Rattle.ext_plan_parallel.specs.StoreCalls.{PlanLane}
-use Rattle.ext_races.specs.MadeSteps.{calls_after, calls_before, steps_before}
+use Rattle.ext_races.specs.MadeSteps.{calls_after, calls_before, steps_before, plan_path}
 use Rattle.ext_races.proofs.Lists.{all_contained}
 use Rattle.ext_plan_plain.specs.NodeCalls.{CallsEnd, call_run, make_all, make_befores, no_calls}
 use Rattle.ext_plan_plain.specs.ValueStates.{ValueState}
@@ -40,11 +40,10 @@ use Rattle.ext_one_report.proofs.OrdersBounds.{orders_kept}
 use Rattle.ext_one_report.proofs.Fills.{Fills, IsFilledBy, IsFilledIn, Spot}
 use Rattle.ext_one_report.proofs.FillsLanes.{filled_by, filled_in, none_filled}
 use Rattle.ext_one_report.proofs.FillsLaws.{fills_as, fills_none}
-use Rattle.ext_one_report.proofs.Open.{AreNear, AreOpenBeside, Given, Open, also, place_of_step, still_open, values_of}
-use Rattle.ext_one_report.specs.Shares.{SharesNothing}
+use Rattle.ext_one_report.proofs.Open.{AreNear, AreOpenBeside, Given, Open, also, place_of_step, still_open}
 use Rattle.ext_one_report.proofs.OpenCalls.{BeforesFit, CallFitsOpen, CallsNear, LeavesNear, NoneOpen, StepsFit}
 use Rattle.ext_one_report.proofs.OpenSteps.{AreBesideOpen, StandsInBoth}
-use Rattle.ext_one_report.proofs.Shared.{unshared}
+use Rattle.ext_one_report.proofs.Shared.{unshared, SharesAbove}
 use Rattle.ext_one_report.proofs.Levels.{AreLevel}
 use Rattle.ext_one_report.proofs.SharedNodesWords.{AreComputed, AreOwn}
 use Rattle.ext_one_report.proofs.Beside.{MakesFully, all_find, all_made, befores_find, befores_made, first_of_all, first_of_befores}
@@ -53,7 +52,7 @@ use Rattle.ext_one_report.proofs.NodeCalls.{each_of, step_more}
 use Rattle.ext_one_report.proofs.NodePlaces.{and_of, away, away_first, away_from, away_is, or_either, or_first, or_second, within_any}
 use Rattle.ext_one_report.proofs.NodeRooms as node_calls
 use Rattle.ext_one_report.proofs.NodeRooms.{all_room, befores_room}
-use Rattle.ext_one_report.proofs.NodeTrees.{path_apart}
+use Rattle.ext_one_report.proofs.NodeTrees.{path_apart, its_path}
 use Rattle.ext_one_report.proofs.SharedNodesBasis.{in_plan, plan_tree, run_tree}
 use Rattle.ext_one_report.proofs.SharedNodesBeside.{off_above}
 use Rattle.ext_one_report.proofs.SharedNodesBody.{Ground, IsChild, path_in}
@@ -123,6 +122,9 @@ module _ (g : Ground) where
 
     apart : NoneOpenAbove g.plan (drop 1 g.path) o
     apart = none_fewer g.plan (drop 1 g.path) w.o o since.fewer w.none_above
+
+    none_above : NoneOpenAbove g.plan (drop 1 (plan_path g.plan g.node)) o
+    none_above = subst (λ l. NoneOpenAbove g.plan (drop 1 l) o) (its_path g.plan g.basis.read.runnable.tree g.node g.path (path_in g)) apart
 
     b_in : HasSeenWithin g.h b
     b_in = All-head (HasSeenWithin g.h) b rest (subst (All (HasSeenWithin g.h)) is within)
@@ -275,7 +277,7 @@ module _ (g : Ground) where
     -- What is so after these calls, where all up to them had these outcomes, and those before them computed so many values in the plain run
     pub record Called (outcomes made : List Outcome) (had : ℕ) (end : CallsEnd) : Type 0 where
       pub near : CallsNear outcomes end
-      pub counted : SharesNothing (values_of (g.shares g.node)) → AreCounted outcomes end
+      pub counted : SharesAbove g.plan g.shares g.node → AreCounted outcomes end
       pub later : Open
       pub step : Passes g.plan g.run g.h (g.touched g.node) done o xs s later ys end.state
       pub plain : ℕ
@@ -334,7 +336,7 @@ module _ (g : Ground) where
             near = both.0;
             counted = λ nothing.
                 let end = make_befores (call_run g.plan g.path) all (no_calls s) in
-                let same = same_filled (g.shares g.node) o (still_open both.1.settled o) (IsFilledBy g.run a b) s (computed_in os) end.computed among nothing both.3 in
+                let same = same_filled g.plan g.shares g.node o (still_open both.1.settled o) (IsFilledBy g.run a b) s (computed_in os) end.computed among none_above nothing both.3 in
                 record { computed = same; found = omega (arith, same, both.0.counts) };
             later = still_open both.1.settled o;
             step = passes _ both.1 (node_calls.befores_hold g.plan g.run g.basis.read g.node g.path (path_in g) all (no_calls s) own held_here);
@@ -348,7 +350,7 @@ module _ (g : Ground) where
               subst (λ (l : List Call). NoneOpen g.plan.keys g.path (still_open both.1.settled o) (flat_map (steps_of_call g.plan) l)) (sym are_its) (both.2 successful);
         }
 
-    pub all_called : (calls : List Call) (before os : List Outcome) (e : CallsEnd) → e.state ≡ s → CallsNear before e → (SharesNothing (values_of (g.shares g.node)) → AreCounted before e) → All Own calls → calls_after g.plan g.node ≡ calls → MakesAll (MakesFully g.plan g.run g.locks g.node None) calls a os b
+    pub all_called : (calls : List Call) (before os : List Outcome) (e : CallsEnd) → e.state ≡ s → CallsNear before e → (SharesAbove g.plan g.shares g.node → AreCounted before e) → All Own calls → calls_after g.plan g.node ≡ calls → MakesAll (MakesFully g.plan g.run g.locks g.node None) calls a os b
         → (make_all (call_run g.plan g.path) calls e).state.store.drawn < enough_numbers g.plan.size → Called (before ++ os) os e.computed (make_all (call_run g.plan g.path) calls e)
     all_called [] before os e at near counted own are_its made drawn = record {
       near = subst (λ (l : List Outcome). CallsNear (before ++ l) e) (sym made.0) (subst (λ (l : List Outcome). CallsNear l e) (sym (append-nil before)) near);
@@ -381,7 +383,7 @@ module _ (g : Ground) where
           near = both.0;
           counted = λ nothing.
               let early = counted nothing in
-              let same = same_filled (g.shares g.node) o (still_open leaves.settled o) (IsFilledBy g.run a b) s (computed_in os) leaves_all.1 among nothing leaves_all.3 in
+              let same = same_filled g.plan g.shares g.node o (still_open leaves.settled o) (IsFilledBy g.run a b) s (computed_in os) leaves_all.1 among none_above nothing leaves_all.3 in
               let sum = sum_by-append (λ (x : Outcome). x.computed) before os in
               let computed : computed_in (before ++ os) ≡ last.computed = omega (arith, sum, early.computed, same, leaves_all.2) in
               record { computed = computed; found = omega (arith, computed, both.0.counts) };

@@ -1,5 +1,6 @@
 -- How many values were computed below the children of a container: by some children and then others, and by all that are run beside one another.
 use Rattle.std.proofs.Common.{◌≡◌, ℕ, suc, ◌+◌, ◌<◌, List, [], ◌∷◌, ◌++◌, length, take, sym, subst, ap, arith}
+use Rattle.ext_one_report.proofs.Shared.{SharesAbove}
 use Rattle.std.specs.Prelude.{Contains, Some, slice_get, slice_index_or}
 use Rattle.std.specs.List.{flat_map}
 use Rattle.ext_history.proofs.Lists.{contains_here, contains_later}
@@ -22,7 +23,7 @@ module _ (g : Ground) where
   -- what is told of nodes below these children
   abbrev pub Below : List ℕ → List Ran → RunState → RunState → Type 0
   Below children ran a b =
-      TellsBelow (ids g) (plan_tree g.plan g.run g.locks g.h g.touched g.changes g.changed g.shares g.basis) g.node (λ r child. node_run g.plan g.levels (child ∷ g.path) r) (AllResultsNear g.shares) (near_none g.shares) (near_then g.shares) children ran a b
+      TellsBelow (ids g) (plan_tree g.plan g.run g.locks g.h g.touched g.changes g.changed g.shares g.basis) g.node (λ r child. node_run g.plan g.levels (child ∷ g.path) r) (AllResultsNear (SharesAbove g.plan g.shares)) (near_none (SharesAbove g.plan g.shares)) (near_then (SharesAbove g.plan g.shares)) children ran a b
 
   abbrev pub tree_is : IsTree (ids g)
   tree_is = plan_tree g.plan g.run g.locks g.h g.touched g.changes g.changed g.shares g.basis
@@ -50,7 +51,7 @@ module _ (g : Ground) where
   -- of a child it is told what these did
   pub record CountedAt (cs : List ℕ) (beside : List (List Ran)) (r : RunState) (runs : ℕ → List Ran) (i : ℕ) : Type 0 where
     pub stands : slice_get beside i ≡ Some (runs i)
-    pub told : AllResultsNear g.shares (runs i) (after_all g r (take i cs)).results (step g (after_all g r (take i cs)) (slice_index_or cs i 0)).results
+    pub told : AllResultsNear (SharesAbove g.plan g.shares) (runs i) (after_all g r (take i cs)).results (step g (after_all g r (take i cs)) (slice_index_or cs i 0)).results
     pub under : (k : ℕ) → HasRun (runs i) k → Under (ids g) (slice_index_or cs i 0) k
 
   -- `lanes` and `plain` go up by what the children compute
@@ -72,9 +73,9 @@ module _ (g : Ground) where
       (λ i less. more (suc i) (omega (arith, less))) (λ i less. others (suc i) (omega (arith, less))) in
       let one : Below (c ∷ []) b r mid =
       subst (λ (l : List Ran). Below (c ∷ []) l r mid) is
-      (one_below (ids g) tree_is g.node (λ r child. node_run g.plan g.levels (child ∷ g.path) r) (AllResultsNear g.shares) (near_none g.shares) (near_then g.shares) c (runs 0) r mid first.told first.under) in
+      (one_below (ids g) tree_is g.node (λ r child. node_run g.plan g.levels (child ∷ g.path) r) (AllResultsNear (SharesAbove g.plan g.shares)) (near_none (SharesAbove g.plan g.shares)) (near_then (SharesAbove g.plan g.shares)) c (runs 0) r mid first.told first.under) in
       let two : Below cs (flat_map (λ ran. ran) beside) mid (after_all g mid cs) =
-      all_below (ids g) tree_is g.node (λ r child. node_run g.plan g.levels (child ∷ g.path) r) (AllResultsNear g.shares) (near_none g.shares) (near_then g.shares) cs beside mid (omega (arith, same)) once.1 later_children
+      all_below (ids g) tree_is g.node (λ r child. node_run g.plan g.levels (child ∷ g.path) r) (AllResultsNear (SharesAbove g.plan g.shares)) (near_none (SharesAbove g.plan g.shares)) (near_then (SharesAbove g.plan g.shares)) cs beside mid (omega (arith, same)) once.1 later_children
       (λ i less. let e = later i less in record { ran = runs (suc i); stands = e.stands; told = e.told; under = e.under }) in
       let told = told_first_then (c ∷ []) cs b (flat_map (λ ran. ran) beside) r mid (after_all g mid cs) (λ x there. children x (subst (Contains (c ∷ cs)) (only c x there) (contains_here c cs))) later_children
       (λ x there also. once.0 (subst (Contains cs) (sym (only c x there)) also)) one two in

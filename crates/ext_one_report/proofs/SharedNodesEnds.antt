@@ -66,15 +66,14 @@ use Rattle.ext_one_report.proofs.FillsCounts.{computed_is, of_first, told_first,
 use Rattle.ext_one_report.proofs.FillsLanes.{filled_first, filled_then, none_filled}
 use Rattle.ext_one_report.proofs.FillsLaws.{fills_as, fills_none}
 use Rattle.ext_one_report.proofs.ResultLists.{set-there}
-use Rattle.ext_one_report.proofs.Open.{AreNear, Given, Open, also, is_open, of_value, some_or_none, still_open, values_of}
-use Rattle.ext_one_report.specs.Shares.{AreNearResults}
+use Rattle.ext_one_report.proofs.Open.{AreNear, Given, Open, also, is_open, of_value, some_or_none, still_open}
 use Rattle.ext_one_report.proofs.OpenSteps.{StandsInBoth}
-use Rattle.ext_one_report.proofs.Shared.{unshared}
+use Rattle.ext_one_report.proofs.Shared.{unshared, SharesAbove}
 use Rattle.ext_one_report.proofs.OpenStep.{open_value, value_is_open}
 use Rattle.ext_one_report.proofs.Closes.{ClosesLevel, IsClosedAlone}
 use Rattle.ext_one_report.proofs.FullRuns.{setting_in}
 use Rattle.ext_one_report.proofs.Levels.{AreLevel, besides, outside}
-use Rattle.ext_one_report.proofs.SharedNodesWords.{AllResultsNear, AreComputed, AreOwn, AreUntouched, BeginsNear, IsSharedBasis, NodesEndNear}
+use Rattle.ext_one_report.proofs.SharedNodesWords.{AllResultsNear, AreComputed, AreOwn, AreUntouched, BeginsNear, IsSharedBasis, NodesEndNear, AreNearWhere}
 use Rattle.ext_one_report.proofs.CloseEnds.{close_orders, sealed_slot, closes_end_level}
 use Rattle.ext_one_report.proofs.ClosePlain.{plain_seals_places}
 use Rattle.ext_one_report.proofs.ComputedAbove.{IsClosedAbove, NoneOpenAbove}
@@ -331,7 +330,7 @@ module _ (g : Ground) (container : is_some (test_of g.plan g.node) ≡ false) (e
       fewer : (context : ℕ) (key : KeyValue) (v : Given) → open_still context key ≡ Some v → opened.called.later context key ≡ Some v
       fills : Fills (IsFilledIn g.run g.h lanes_run.opened lanes_run.body.first) opened.called.later open_still opened_end.state (computed_of lanes_run.below) (computed_told lanes_run.below bodied_run.results)
       orders : Orders g.run (away g.plan (first_ones ++ later_ones) (unshared (g.touched g.node) opened.called.later)) (first_seen lanes_run.opened) (first_seen lanes_run.body.first) opened_end.state bodied_run.state
-      told : AllResultsNear g.shares lanes_run.below r.results bodied_run.results
+      told : AllResultsNear (SharesAbove g.plan g.shares) lanes_run.below r.results bodied_run.results
       under : (k : ℕ) → HasRun lanes_run.below k → (c : ℕ) × IsChild g c × Under (ids g) c k
 
     -- its body is run,
@@ -352,7 +351,7 @@ module _ (g : Ground) (container : is_some (test_of g.plan g.node) ≡ false) (e
           orders = subst (λ (q : RunState). Orders g.run (away g.plan (first_ones ++ later_ones) (unshared (g.touched g.node) opened.called.later)) (first_seen lanes_run.opened) (first_seen lanes_run.body.first) opened_end.state q.state)
               (sym is) turned.orders;
           since = subst (λ (q : RunState). Since g w turned.done turned.open_still lanes_run.body.first q.state) (sym is) turned.since;
-          told = subst (λ (q : RunState). AllResultsNear g.shares lanes_run.below r.results q.results) (sym is) turned.below.told;
+          told = subst (λ (q : RunState). AllResultsNear (SharesAbove g.plan g.shares) lanes_run.below r.results q.results) (sym is) turned.below.told;
           under = λ k has.
               let u = turned.below.under k has in
               (u.0, All-contains (IsChild g) (first_ones ++ later_ones) u.0 (All-append (IsChild g) first_ones later_ones first_children later_children) u.1, u.2);
@@ -377,7 +376,7 @@ module _ (g : Ground) (container : is_some (test_of g.plan g.node) ≡ false) (e
               (orders_same g.run (away g.plan (first_ones ++ later_ones) (unshared (g.touched g.node) opened.called.later)) (first_seen lanes_run.opened) (first_seen lanes_run.opened) opened_end.state opened_end.state
               (drew_when lanes_run.opened opened_run opened_within opened_fine (away g.plan (first_ones ++ later_ones) (unshared (g.touched g.node) opened.called.later))) (λ context key number here has. refl) (λ context key here. refl)));
           since = subst (λ (q : RunState). Since g w [] opened.called.later lanes_run.body.first q.state) (sym is) (subst (λ (l : List PlanLane). Since g w [] opened.called.later l opened_run.state) same since_opened);
-          told = subst (λ (q : RunState). AllResultsNear g.shares lanes_run.below r.results q.results) (sym is) (subst (λ (l : List Ran). AllResultsNear g.shares l r.results r.results) (sym skipped.0) (near_none g.shares r.results));
+          told = subst (λ (q : RunState). AllResultsNear (SharesAbove g.plan g.shares) lanes_run.below r.results q.results) (sym is) (subst (λ (l : List Ran). AllResultsNear (SharesAbove g.plan g.shares) l r.results r.results) (sym skipped.0) (near_none (SharesAbove g.plan g.shares) r.results));
           under = λ k has. absurd (contains_none k (subst (λ (l : List Ran). HasRun l k) skipped.0 has));
         }
 
@@ -537,10 +536,10 @@ module _ (g : Ground) (container : is_some (test_of g.plan g.node) ≡ false) (e
     own_node : lanes_run.own.result.node ≡ g.node
     own_node = ap (λ (x : Ran). x.result.node) lanes_run.ends.own_is
 
-    own_told : AreNearResults (values_of (g.shares lanes_run.own.result.node)) (map_fault fault_text lanes_run.own.result) outcome
+    own_told : AreNearWhere (SharesAbove g.plan g.shares lanes_run.own.result.node) (map_fault fault_text lanes_run.own.result) outcome
     own_told =
-        subst (λ (x : Ran). AreNearResults (values_of (g.shares x.result.node)) (map_fault fault_text x.result) outcome) (sym lanes_run.ends.own_is)
-        (told_as (g.shares g.node) g.node false (lanes_run.befores ++ lanes_run.ends.afters) lanes_run.ends.faults called_end (faults_of_closes called_end.state.places g.node sealed) closed.told called.near.counts called.counted)
+        subst (λ (x : Ran). AreNearWhere (SharesAbove g.plan g.shares x.result.node) (map_fault fault_text x.result) outcome) (sym lanes_run.ends.own_is)
+        (told_as (SharesAbove g.plan g.shares g.node) g.node false (lanes_run.befores ++ lanes_run.ends.afters) lanes_run.ends.faults called_end (faults_of_closes called_end.state.places g.node sealed) closed.told called.near.counts called.counted)
 
     own_apart : HasRun lanes_run.below lanes_run.own.result.node → ⊥
     own_apart has =
@@ -749,7 +748,7 @@ module _ (g : Ground) (container : is_some (test_of g.plan g.node) ≡ false) (e
 
     pub container_near : Ends g.plan g.run g.locks g.h g.touched g.changes g.changed g.shares g.node o before ran after r (container_run g.plan (node_run g.plan g.levels) g.node g.path r)
     container_near =
-        let told = near_own g.shares lanes_run.own lanes_run.below r.results bodied_run.results outcome own_told own_less own_apart bodied.told in
+        let told = near_own (SharesAbove g.plan g.shares) lanes_run.own lanes_run.below r.results bodied_run.results outcome own_told own_less own_apart bodied.told in
         record {
           ends = record {
             settled = settled;
@@ -764,7 +763,7 @@ module _ (g : Ground) (container : is_some (test_of g.plan g.node) ≡ false) (e
             unchanged = λ context key v off is.
                 sealed_slot g.node called_end.state sealed (plain_seals_places g.node called_end.state) context key (elsewhere context key v is) ∙ since_called.unchanged context key v (open_last context key v off is);
             untouched = untouched;
-            told = subst (λ (l : List Ran). AllResultsNear g.shares l r.results (with_result outcome bodied_run.results)) (sym lanes_run.ran_are) told;
+            told = subst (λ (l : List Ran). AllResultsNear (SharesAbove g.plan g.shares) l r.results (with_result outcome bodied_run.results)) (sym lanes_run.ran_are) told;
             fills = fills;
             orders = orders_ended;
           };

@@ -29,7 +29,7 @@ use Rattle.ext_plan_parallel.specs.StoreCalls.{PlanLane}
 use Rattle.ext_plan_plain.specs.PlainRun.{RunState, node_run}
 use Rattle.ext_one_report.proofs.MatchingWords.{Places}
 use Rattle.ext_one_report.proofs.StepsWords.{IsLaneIn}
-use Rattle.ext_one_report.proofs.Shared.{unshared}
+use Rattle.ext_one_report.proofs.Shared.{unshared, SharesAbove}
 use Rattle.ext_one_report.proofs.SharedNodesWords.{AllResultsNear}
 use Rattle.ext_one_report.proofs.ChildLists.{once-apart, once-right, only}
 use Rattle.ext_one_report.proofs.NodePlaces.{away, away_first, away_from, away_is, level_fewer}
@@ -84,15 +84,15 @@ module _ (g : Ground) where
     all_leave_drawn xs r children fine = (children_leave g.plan g.touched g.changes g.basis.read g.basis.covered g.levels g.node g.path (path_in g) xs r children fine).drawn
 
     -- what is told of one child,
-    told_one : (c : ℕ) (ran : List Ran) (r : RunState) → AllResultsNear g.shares ran r.results (step g r c).results → ((k : ℕ) → HasRun ran k → Under (ids g) c k) → Below g (c ∷ []) ran r (step g r c)
+    told_one : (c : ℕ) (ran : List Ran) (r : RunState) → AllResultsNear (SharesAbove g.plan g.shares) ran r.results (step g r c).results → ((k : ℕ) → HasRun ran k → Under (ids g) c k) → Below g (c ∷ []) ran r (step g r c)
     told_one c ran r told under =
-        one_below (ids g) (tree_is g) g.node (λ r child. node_run g.plan g.levels (child ∷ g.path) r) (AllResultsNear g.shares) (near_none g.shares) (near_then g.shares) c ran r (step g r c) told under
+        one_below (ids g) (tree_is g) g.node (λ r child. node_run g.plan g.levels (child ∷ g.path) r) (AllResultsNear (SharesAbove g.plan g.shares)) (near_none (SharesAbove g.plan g.shares)) (near_then (SharesAbove g.plan g.shares)) c ran r (step g r c) told under
 
     -- and of some children and then others, and how many values they filled and computed
     told_then : (xs ys : List ℕ) (first second : List Ran) (a b c : RunState) → ((x : ℕ) → Contains xs x → IsChild g x) → ((x : ℕ) → Contains ys x → IsChild g x) → ((x : ℕ) → Contains xs x → Contains ys x → ⊥)
         → Below g xs first a b → Below g ys second b c → Below g (xs ++ ys) (first ++ second) a c
     told_then xs ys first second a b c xs_children ys_children apart one two =
-        then_below (ids g) (tree_is g) g.node (λ r child. node_run g.plan g.levels (child ∷ g.path) r) (AllResultsNear g.shares) (near_none g.shares) (near_then g.shares) xs ys first second a b c xs_children ys_children apart one two
+        then_below (ids g) (tree_is g) g.node (λ r child. node_run g.plan g.levels (child ∷ g.path) r) (AllResultsNear (SharesAbove g.plan g.shares)) (near_none (SharesAbove g.plan g.shares)) (near_then (SharesAbove g.plan g.shares)) xs ys first second a b c xs_children ys_children apart one two
 
     filled_then : (cs ds : List ℕ) (first second : List Ran) (a b c : RunState) → ((x : ℕ) → Contains cs x → IsChild g x) → ((x : ℕ) → Contains ds x → IsChild g x) → ((x : ℕ) → Contains cs x → Contains ds x → ⊥)
         → Below g cs first a b → Below g ds second b c → (done : List ℕ) (o mid last : Open) (xs ys zs : List PlanLane) → Acts g.h w.first xs → Acts g.h xs ys → Acts g.h ys zs → Acts g.h zs w.last
@@ -137,7 +137,7 @@ module _ (g : Ground) where
       open_still = o;
       fewer = λ context key v is. is;
       since = subst (λ (x : Lanes StoredValue). Since g w before o x.first r.state) same since;
-      below = none_below (ids g) (tree_is g) g.node (λ r child. node_run g.plan g.levels (child ∷ g.path) r) (AllResultsNear g.shares) (near_none g.shares) (near_then g.shares) r;
+      below = none_below (ids g) (tree_is g) g.node (λ r child. node_run g.plan g.levels (child ∷ g.path) r) (AllResultsNear (SharesAbove g.plan g.shares)) (near_none (SharesAbove g.plan g.shares)) (near_then (SharesAbove g.plan g.shares)) r;
       fills = subst (λ (x : Lanes StoredValue). Fills (IsFilledIn g.run g.h s.first x.first) o o r.state 0 0) same
           (fills_none (IsFilledIn g.run g.h s.first s.first) o r.state 0 (λ spot v is filled. none_filled g.run g.h s.first spot filled));
       orders = subst (λ (x : Lanes StoredValue). Orders g.run (away g.plan (beside_ones g ++ turn_ones g) (unshared (g.touched g.node) o)) (first_seen s.first) (first_seen x.first) r.state r.state) same
@@ -279,7 +279,7 @@ module _ (g : Ground) where
 
       told_mid : Below g (beside_ones g) (flat_map (λ ran. ran) body.beside) r mid
       told_mid =
-          all_below (ids g) (tree_is g) g.node (λ r child. node_run g.plan g.levels (child ∷ g.path) r) (AllResultsNear g.shares) (near_none g.shares) (near_then g.shares) (beside_ones g) body.beside r
+          all_below (ids g) (tree_is g) g.node (λ r child. node_run g.plan g.levels (child ∷ g.path) r) (AllResultsNear (SharesAbove g.plan g.shares)) (near_none (SharesAbove g.plan g.shares)) (near_then (SharesAbove g.plan g.shares)) (beside_ones g) body.beside r
           body.dealt.outcome_count (once_beside g its) (beside_child g) (λ i less.
           let e = ended_near g its each few i less in
           record { ran = ran_at g its i; stands = (job_at g its i less).stands; told = e.ends.told; under = e.under })

@@ -1,6 +1,5 @@
 -- Runs of nodes that compute the same values as nodes beside them: on several lanes and in the plain run the same is told of each node but for who computed such a value and who found it.
 -- JUnit 5 User Guide, "Parallel Execution"; Javadoc `ExtensionContext.Store`, `getOrComputeIfAbsent`.
-use Rattle.ext_one_report.specs.Shares.{AreNearResults}
 use Rattle.std.specs.Prelude.{◌≡◌, ℕ, ◌+◌, ◌<◌, true, false, List, length, All, Contains, Some, drop, is_some, slice_get}
 use mathlib.Core.List.{IsPrefix}
 use Rattle.ext_model.specs.declared.event.Event.{Event}
@@ -32,12 +31,12 @@ use Rattle.ext_one_report.proofs.Covers.{AreCovered}
 use Rattle.ext_races.specs.OneReports.{ClosesAgreeBeside}
 use Rattle.ext_one_report.proofs.Fills.{Fills, IsFilledIn, computed_of, computed_told}
 use Rattle.ext_one_report.proofs.LanesApart.{AreApart}
-use Rattle.ext_one_report.proofs.Open.{AreNear, Computes, Given, Open, also, is_left, still_open, values_of}
+use Rattle.ext_one_report.proofs.Open.{AreNear, Computes, Given, Open, also, is_left, still_open}
 use Rattle.ext_one_report.proofs.OpenSteps.{StandsInBoth}
 use Rattle.ext_one_report.proofs.Orders.{Orders}
 use Rattle.ext_one_report.proofs.SharedFresh.{IsFresh}
 use Rattle.ext_one_report.specs.Within.{is_within}
-use Rattle.ext_one_report.proofs.Shared.{AreShared, unshared}
+use Rattle.ext_one_report.proofs.Shared.{AreShared, unshared, SharesAbove}
 use Rattle.ext_one_report.proofs.FullRuns.{setting_in}
 use Rattle.ext_one_report.proofs.Levels.{AreLevel, HoldsOnce, outside}
 
@@ -79,9 +78,15 @@ pub record IsSharedBasis (plan : PlanText) (run : RunView) (locks : LocksView) (
 
 -- ---- what is told
 
-pub record AllResultsNear (shares : ℕ → Open) (ran : List Ran) (before after : List NodeOutcome) : Type 0 where
+-- The results of a node are the same, except for which values it computed and which it found; and these are the same, too, where that is so
+pub record AreNearWhere (Exact : Type 0) (here there : NodeOutcome) : Type 0 where
+  pub same : record here { computed = 0; found = 0 } ≡ record there { computed = 0; found = 0 }
+  pub counts : here.computed + here.found ≡ there.computed + there.found
+  pub exact : Exact → here ≡ there
+
+pub record AllResultsNear (Exact : ℕ → Type 0) (ran : List Ran) (before after : List NodeOutcome) : Type 0 where
   pub count : length after ≡ length before
-  pub each : (one : Ran) → Contains ran one → (told : NodeOutcome) × (slice_get after one.result.node ≡ Some told) × AreNearResults (values_of (shares one.result.node)) (map_fault fault_text one.result) told
+  pub each : (one : Ran) → Contains ran one → (told : NodeOutcome) × (slice_get after one.result.node ≡ Some told) × AreNearWhere (Exact one.result.node) (map_fault fault_text one.result) told
   pub others : (node : ℕ) → ¬ HasRun ran node → slice_get after node ≡ slice_get before node
 
 -- ---- laws
@@ -97,7 +102,7 @@ module _ (plan : PlanText) (run : RunView) (locks : LocksView) (h : History) (to
     pub stand : (context : ℕ) (key : KeyValue) (v : Given) → settled context key ≡ true → open_at context key ≡ Some v → StandsInBoth run v context key (first_seen after.first) s.state
     pub unchanged : (context : ℕ) (key : KeyValue) (v : Given) → settled context key ≡ false → open_at context key ≡ Some v → plain_slot s.state context key ≡ plain_slot r.state context key
     pub untouched : AreUntouched run h open_at settled before.first after.first
-    pub told : AllResultsNear shares ran r.results s.results
+    pub told : AllResultsNear (SharesAbove plan shares) ran r.results s.results
     -- but for what each run filled itself at open places, both computed as many values
     pub fills : Fills (IsFilledIn run h before.first after.first) open_at (still_open settled open_at) r.state (computed_of ran) (computed_told ran s.results)
     -- at all places that it touches in other contexts, and that were not open when it began, both runs give numbers in one order

@@ -26,8 +26,7 @@ use Rattle.ext_one_report.proofs.ComputedAbove.{NoneOpenAbove}
 use Rattle.ext_one_report.proofs.Open.{ComputesOpen, FailsOpen, Given, IsKeptBy, Open, given_by, of_fault, of_nothing, of_value}
 use Rattle.ext_one_report.proofs.OpenCalls.{CallFitsOpen, NoneOpen}
 use Rattle.ext_races.specs.OneReports.{SharesValues}
-use Rattle.ext_one_report.proofs.Shared.{given_in, given_of, unshared}
-use Rattle.ext_one_report.specs.Shares.{is_shared_at}
+use Rattle.ext_one_report.proofs.Shared.{given_in, given_of, unshared, is_open_at}
 use Rattle.ext_one_report.proofs.SharedPlansWords.{PlansAreShared}
 use Rattle.ext_one_report.proofs.SharedCalls.{call_fits_open}
 use Rattle.ext_one_report.proofs.SharedFails.{fails_below, fails_beside}
@@ -55,7 +54,7 @@ kept_of plan (Some touch) v is = let same : given_by plan.keep_faults touch.acts
 
 kept : (plan : PlanText) (node context : ℕ) (key : KeyValue) (v : Given) → given_in plan node context key ≡ Some v → IsKeptBy plan.keep_faults v
 unfolding given_in
-kept plan node context key v is = kept_of plan (find (is_shared_at plan node context key) (touches_made plan)) v is
+kept plan node context key v is = kept_of plan (find (is_open_at plan node context key) (touches_made plan)) v is
 
 computes : (plan : PlanText) → IsReadPlan plan → SharesValues plan → (node : ℕ) (path : List ℕ) (call : Call) (step : StepText) (key : StepKeyText) (up : ℕ) (v : Given)
     → IsPathOf (ids_of_nodes plan.nodes) node path → Contains (calls_of plan node) call → Contains (steps_of_call plan call) step → changed_by step ≡ Some (key, up)

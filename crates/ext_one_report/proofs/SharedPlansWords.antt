@@ -7,17 +7,16 @@ use Rattle.ext_plan.specs.Plans.{PlanText}
 use Rattle.ext_plan.specs.ReadPlans.{IsReadPlan, ids_of_nodes}
 use Rattle.ext_one_report.proofs.MatchingWords.{RunView}
 use Rattle.ext_one_report.proofs.Covered.{changed_in, touched_in}
-use Rattle.ext_one_report.proofs.Open.{values_of}
-use Rattle.ext_one_report.proofs.Shared.{AreShared, given_in}
+use Rattle.ext_one_report.proofs.Shared.{AreShared, SharesAbove, given_in}
 
 -- the nodes of a plan that share values share these
 abbrev pub PlansAreShared : Type 0
 PlansAreShared =
     (plan : PlanText) (run : RunView) → IsReadPlan plan → SharesValues plan → run.store.tree ≡ ids_of_nodes plan.nodes → AreShared plan run (touched_in plan) (changed_in plan) (given_in plan)
 
--- the values among what they share are those that are reported
-abbrev pub ValuesAreShared : Type 0
-ValuesAreShared = (plan : PlanText) (node : ℕ) → values_of (given_in plan node) ≡ shares_in plan node
+-- where no value is told, each that they share is computed above
+abbrev pub ValuesAreAbove : Type 0
+ValuesAreAbove = (plan : PlanText) → IsReadPlan plan → SharesValues plan → (node : ℕ) → SharesNothing (shares_in plan node) → SharesAbove plan (given_in plan) node
 
 -- plans whose nodes keep apart are such, and no node of them shares a value
 abbrev pub ApartSharesValues : Type 0

@@ -52,16 +52,15 @@ use Rattle.ext_one_report.proofs.FillsCounts.{computed_is, of_first, told_first}
 use Rattle.ext_one_report.proofs.FillsLanes.{filled_by, filled_first, filled_in, filled_then}
 use Rattle.ext_one_report.proofs.FillsLaws.{fills_as}
 use Rattle.ext_one_report.proofs.ResultLists.{set-there}
-use Rattle.ext_one_report.proofs.Open.{AreNear, Given, Open, also, is_left, of_value, some_or_none, still_open, values_of}
-use Rattle.ext_one_report.specs.Shares.{AreNearResults}
+use Rattle.ext_one_report.proofs.Open.{AreNear, Given, Open, also, is_left, of_value, some_or_none, still_open}
 use Rattle.ext_one_report.proofs.OpenCalls.{BeforesFit, CallFitsOpen, CallsNear, FitsBehind, LeavesNear}
 use Rattle.ext_one_report.proofs.OpenSteps.{AreBesideOpen}
-use Rattle.ext_one_report.proofs.Shared.{unshared}
+use Rattle.ext_one_report.proofs.Shared.{unshared, SharesAbove}
 use Rattle.ext_one_report.proofs.Closes.{ClosesLevel, IsClosedAlone}
 use Rattle.ext_one_report.proofs.FullRuns.{setting_in}
 use Rattle.ext_one_report.specs.Within.{is_within}
 use Rattle.ext_one_report.proofs.Levels.{AreLevel, besides, outside}
-use Rattle.ext_one_report.proofs.SharedNodesWords.{AllResultsNear, AreComputed, AreOwn, AreUntouched, BeginsNear, EndsNear, IsSharedBasis, TestsEndNear}
+use Rattle.ext_one_report.proofs.SharedNodesWords.{AllResultsNear, AreComputed, AreOwn, AreUntouched, BeginsNear, EndsNear, IsSharedBasis, TestsEndNear, AreNearWhere}
 use Rattle.ext_one_report.proofs.Beside.{first_of_calls, test_made}
 use Rattle.ext_one_report.proofs.CloseEnds.{close_orders, sealed_slot, closes_end_level}
 use Rattle.ext_one_report.proofs.ClosePlain.{plain_seals_places}
@@ -282,18 +281,18 @@ module _ (plan : PlanText) (run : RunView) (locks : LocksView) (h : History) (to
     abbrev outcome : NodeOutcome
     outcome = outcome_of node true end (faults_of_closes end.state.places node sealed)
 
-    told : AreNearResults (values_of (shares node)) (map_fault fault_text own.result) outcome
+    told : AreNearWhere (SharesAbove plan shares node) (map_fault fault_text own.result) outcome
     told =
-        told_as (shares node) node true its_run.outcomes its_run.faults end (faults_of_closes end.state.places node sealed) closed.told near.0.counts
+        told_as (SharesAbove plan shares node) node true its_run.outcomes its_run.faults end (faults_of_closes end.state.places node sealed) closed.told near.0.counts
         (λ nothing.
-        let same = same_filled (shares node) open_at (still_open settled open_at) (IsFilledBy run its_run.calls.lane its_run.calls.left) r.state (computed_in its_run.outcomes) end.computed begins.open_is nothing near.2 in
+        let same = same_filled plan shares node open_at (still_open settled open_at) (IsFilledBy run its_run.calls.lane its_run.calls.left) r.state (computed_in its_run.outcomes) end.computed begins.open_is begins.closed.none nothing near.2 in
         record { computed = same; found = omega (arith, same, near.0.counts) })
 
-    all_told : AllResultsNear shares ran r.results (test_node_run plan node path r).results
+    all_told : AllResultsNear (SharesAbove plan shares) ran r.results (test_node_run plan node path r).results
     all_told =
         let long = begins.results in
-        subst (λ rs. AllResultsNear shares rs r.results (test_node_run plan node path r).results) (sym its_run.ran_is)
-        (near_own shares own [] r.results r.results outcome told (let n = in_nodes in omega (arith, n, long)) (λ has. contains_none node has) (near_none shares r.results))
+        subst (λ rs. AllResultsNear (SharesAbove plan shares) rs r.results (test_node_run plan node path r).results) (sym its_run.ran_is)
+        (near_own (SharesAbove plan shares) own [] r.results r.results outcome told (let n = in_nodes in omega (arith, n, long)) (λ has. contains_none node has) (near_none (SharesAbove plan shares) r.results))
 
     -- ---- open places
 

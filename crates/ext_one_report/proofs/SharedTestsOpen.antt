@@ -27,10 +27,10 @@ use Rattle.ext_one_report.proofs.PlanCells.{changed_by}
 use Rattle.ext_one_report.proofs.ChildLists.{only}
 use Rattle.ext_one_report.proofs.ComputedAbove.{ComputesAt, IsComputedIn, NoneOpenAbove}
 use Rattle.ext_one_report.specs.Within.{is_within}
-use Rattle.ext_one_report.proofs.Open.{AreOpenBeside, ComputesOpen, FailsOpen, Given, IsKeptBy, Open, also, some_or_none, still_open, values_of}
+use Rattle.ext_one_report.proofs.Open.{AreOpenBeside, ComputesOpen, FailsOpen, Given, IsKeptBy, Open, also, some_or_none, still_open, values_of, of_fault, of_nothing, of_value}
 use Rattle.ext_one_report.specs.Shares.{SharesNothing}
 use Rattle.ext_one_report.proofs.OpenCalls.{AreSettled, BeforesFit, CallFitsOpen, FitsBehind, NoneOpen}
-use Rattle.ext_one_report.proofs.Shared.{unshared}
+use Rattle.ext_one_report.proofs.Shared.{unshared, SharesAbove}
 use Rattle.ext_one_report.proofs.SharedNodesWords.{IsSharedBasis}
 use Rattle.ext_one_report.proofs.NodePlaces.{both_ways, or_second}
 use Rattle.ext_one_report.proofs.NodeTrees.{its_path, on_its_path, under_within, within_itself}
@@ -100,17 +100,25 @@ computes_open plan path shared later (keyed word step_key text up) context key v
 
 -- ---- the open places of a node
 
--- where no value is shared, none is open
-no_values : (shared open_at : Open) → ((context : ℕ) (key : KeyValue) (v : Given) → open_at context key ≡ Some v → shared context key ≡ Some v) → SharesNothing (values_of shared) → SharesNothing (values_of open_at)
-no_values shared open_at open_is nothing context key = elim (some_or_none (open_at context key)) [
-  | inl none ↦ ap (λ o. values_of (λ c k. o) context key) none
-  | inr some ↦ ap (λ o. values_of (λ c k. o) context key) (some.1 ∙ sym (open_is context key some.0 some.1)) ∙ nothing context key
-]
+-- where each value that is shared is computed above, none is open
+no_values : (plan : PlanText) (shares : ℕ → Open) (node : ℕ) (open_at : Open) → ((context : ℕ) (key : KeyValue) (v : Given) → open_at context key ≡ Some v → shares node context key ≡ Some v)
+    → NoneOpenAbove plan (drop 1 (plan_path plan node)) open_at → SharesAbove plan shares node → SharesNothing (values_of open_at)
+no_values plan shares node open_at open_is none above context key = by (open_at context key) refl
+  where
+    by : (o : Option Given) → open_at context key ≡ o → values_of (λ c k. o) context key ≡ None
+    by None is = refl
+    by (Some (of_value v)) is = let e : Some (of_value v) ≡ None = sym is ∙ none context key (above context key v (open_is context key (of_value v) is)) in absurd (cc e)
+    by (Some (of_fault text)) is = refl
+    by (Some (of_nothing text)) is = refl
 
 -- and then both have computed as many
-pub same_filled : (shared open_at later : Open) (Filled : Spot → Type 0) (s : ValueState) (lanes plain : ℕ) → ((context : ℕ) (key : KeyValue) (v : Given) → open_at context key ≡ Some v → shared context key ≡ Some v)
-    → SharesNothing (values_of shared) → Fills Filled open_at later s lanes plain → lanes ≡ plain
-same_filled shared open_at later Filled s lanes plain open_is nothing fills = none_filled_apart Filled open_at later s lanes plain (no_values shared open_at open_is nothing) fills
+pub same_filled : (plan : PlanText) (shares : ℕ → Open) (node : ℕ) (open_at later : Open) (Filled : Spot → Type 0) (s : ValueState) (lanes plain : ℕ)
+    → ((context : ℕ) (key : KeyValue) (v : Given) → open_at context key ≡ Some v → shares node context key ≡ Some v) → NoneOpenAbove plan (drop 1 (plan_path plan node)) open_at → SharesAbove plan shares node
+    → Fills Filled open_at later s lanes plain → lanes ≡ plain
+same_filled plan shares node open_at later Filled s lanes plain open_is none above fills = none_filled_apart Filled open_at later s lanes plain by_values fills
+  where
+    by_values : SharesNothing (values_of open_at)
+    by_values = no_values plan shares node open_at open_is none above
 
 module _ (plan : PlanText) (run : RunView) (locks : LocksView) (h : History) (touched changes : ℕ → Places) (changed : ℕ → List ℕ) (shares : ℕ → Open)
     (basis : IsSharedBasis plan run locks h touched changes changed shares) (node : ℕ) where

@@ -1,6 +1,6 @@
 -- A run whose results tell of no step that may have lacked something lacks nothing: each node tells so of its own calls and closes, and each node that ran has its result.
-use Rattle.std.proofs.Common.{◌≡◌, inl, inr, ◌∙◌, ℕ, zero, suc, Bool, true, false, List, [], ◌∷◌, ◌++◌, Contains, map, map-id, min, length, Option, Some, None, refl, ap, sym, subst, true≢false}
-use Rattle.std.specs.Prelude.{option_map, slice_get, slice_index_or, ◌||◌}
+use Rattle.std.proofs.Common.{◌≡◌, inl, inr, ◌∙◌, ℕ, zero, suc, Bool, true, false, List, [], ◌∷◌, ◌++◌, Contains, map, map-id, min, length, Option, Some, None, ap, sym, subst, true≢false}
+use Rattle.std.specs.Prelude.{slice_get, slice_index_or}
 use Rattle.std.specs.List.{AllByRecursion, FoldsTo, flat_map}
 use Rattle.std.proofs.lemmas.List.{length-map}
 use Rattle.std.proofs.lemmas.List.Sorted.{Contains-permutation}

@@ -1,6 +1,6 @@
 -- Calls and closes of a node whose result does not tell that it may have lacked something found all that they asked for.
-use Rattle.std.proofs.Common.{◌≡◌, ◌≢◌, ◌-◌, ◌∙◌, inl, inr, ℕ, Bool, true, false, codes, List, [], ◌∷◌, ◌++◌, map, get_or, Option, Some, None, refl, ap, sym, subst, append_assoc, ⊎_elim, ◌⊎◌}
-use Rattle.std.specs.Prelude.{IfSome, Ok, Err, nat_lt, option_map, ◌||◌}
+use Rattle.std.proofs.Common.{◌≡◌, ◌≢◌, ◌∙◌, inl, inr, ℕ, Bool, true, false, codes, List, [], ◌∷◌, ◌++◌, map, get_or, Option, Some, None, refl, ap, sym, subst, append_assoc, ◌⊎◌}
+use Rattle.std.specs.Prelude.{IfSome, Ok, Err, ◌||◌}
 use Rattle.std.specs.List.{AllByRecursion}
 use Rattle.std.specs.Str.{bytes_eq}
 use Rattle.std.proofs.lemmas.Bool.Decides.{Decides-eqb}

@@ -30,7 +30,7 @@ use Rattle.ext_races.proofs.Lists.{contains_cases, contains_first, contains_late
 use Rattle.ext_races.proofs.Sides.{nodes_found, nodes_tested}
 use Rattle.ext_races.proofs.TouchNodes.{touch_within}
 use Rattle.ext_races.specs.OneReports.{KeepsApart, ClosesAgreeBeside}
-use Rattle.ext_one_report.specs.WorkedPlans.{AreSteps, ComputesAreNoRace, ComputesDoNot, FailsAlikeKeepApart, FailsUnlikeDoNot, LookAndPutDoNot, LooksBelowKeepApart, LooksKeepApart, OneByOneKeepsApart, OneTextAgrees, OwnPutsKeepApart, PutsAboveDoNot, ReplacedAgrees, TestsAreBeside, TestsAreRead, OneByOneAgrees, TwoFaultsAgree, TwoKeysKeepApart, TwoTextsDoNot, WorkedHasKeys, WorkedHasNumbers, WorkedIsRead, WorkedKeepsApart, WorkedAgrees, a, b, class_id, computing, container, failing, root_id, test_of_class, tests_of_mode, two_tests, worked_plan}
+use Rattle.ext_one_report.specs.WorkedPlans.{AreSteps, ComputesAreNoRace, ComputesDoNot, FailsAlikeKeepApart, FailsUnlikeDoNot, FoundKeepsApart, LookAndPutDoNot, LooksBelowKeepApart, LooksKeepApart, OneByOneKeepsApart, OneTextAgrees, OwnPutsKeepApart, PutsAboveDoNot, ReplacedAgrees, TestsAreBeside, TestsAreRead, OneByOneAgrees, TwoFaultsAgree, TwoKeysKeepApart, TwoTextsDoNot, WorkedHasKeys, WorkedHasNumbers, WorkedIsRead, WorkedKeepsApart, WorkedAgrees, a, b, class_id, computing, container, failing, root_id, test_of_class, tests_of_mode, two_tests, worked_plan}
 
 -- ---- tests of all pairs
 
@@ -70,31 +70,31 @@ none_such plan p none = all_pass (λ t. list_all (λ u. not (p t u)) (touches_ma
 abbrev pub meet : PlanText → TouchText → TouchText → Bool
 meet plan t u = nodes_beside plan t.node u.node && t.changes && (t.context == u.context) && (t.key == u.key)
 
--- both have a factory that fails with one text
-abbrev fail_alike : TouchText → TouchText → Bool
-fail_alike t u = not (gives_value t.word) && agree t u
+-- both have a factory that fails with one text, or the second finds what the first computes
+abbrev at_peace : TouchText → TouchText → Bool
+at_peace t u = not (gives_value t.word && u.changes) && agree t u
 
--- such touches do not keep apart, unless they fail alike
+-- else such touches do not keep apart
 abbrev cross : PlanText → TouchText → TouchText → Bool
-cross plan t u = meet plan t u && not (fail_alike t u)
+cross plan t u = meet plan t u && not (at_peace t u)
 
 keeps_apart : (plan : PlanText) → no_pair plan (cross plan) ≡ true → KeepsApart plan
 keeps_apart plan none = record {
-  apart = λ t u one two beside changing at named. elim (cases_Bool (fail_alike t u)) [
-    | inl alike ↦ let parts = both (not (gives_value t.word)) (agree t u) alike in (parts.1, not-true (gives_value t.word) parts.0)
-    | inr unlike ↦ absurd (not_such plan (cross plan) t u none one two (both_true (meet plan t u) (not (fail_alike t u))
+  apart = λ t u one two beside changing at named. elim (cases_Bool (at_peace t u)) [
+    | inl alike ↦ let parts = both (not (gives_value t.word && u.changes)) (agree t u) alike in (parts.1, not-true (gives_value t.word && u.changes) parts.0)
+    | inr unlike ↦ absurd (not_such plan (cross plan) t u none one two (both_true (meet plan t u) (not (at_peace t u))
         (both_true _ _ (both_true _ _ (both_true _ _ (nodes_tested plan t.node u.node (touch_within plan t one) (touch_within plan u two) beside) changing) (eq-eqb t.context u.context at)) (eq-eqb t.key u.key named)) (ap not unlike)))
   ];
 }
 
 kept_apart : (plan : PlanText) → KeepsApart plan → no_pair plan (cross plan) ≡ true
 kept_apart plan keeps = none_such plan (cross plan) (λ t u one two such.
-    let parts = both (meet plan t u) (not (fail_alike t u)) such in
+    let parts = both (meet plan t u) (not (at_peace t u)) such in
     let key = both _ _ parts.0 in
     let context = both _ _ key.0 in
     let changing = both _ _ context.0 in
     let alike = keeps.apart t u one two (nodes_found plan t.node u.node changing.0) changing.1 (equal t.context u.context context.1) (equal t.key u.key key.1) in
-    true≢false (sym parts.1 ∙ ap not (both_true (not (gives_value t.word)) (agree t u) (ap not alike.1) alike.0)))
+    true≢false (sym parts.1 ∙ ap not (both_true (not (gives_value t.word && u.changes)) (agree t u) (ap not alike.1) alike.0)))
 
 crosses : (plan : PlanText) → no_pair plan (cross plan) ≡ false → ¬ KeepsApart plan
 crosses plan some keeps = true≢false (sym (kept_apart plan keeps) ∙ some)
@@ -133,6 +133,10 @@ same_text text = (bytes_decides text text).1 refl
 pub fails_alike_keep_apart : FailsAlikeKeepApart
 unfolding path_from
 fails_alike_keep_apart keep text = keeps_apart (failing keep text text) (rw (same_text text) refl)
+
+pub found_keeps_apart : FoundKeepsApart
+unfolding path_from
+found_keeps_apart text wanted = keeps_apart (two_tests (keyed words.Compute a text 0 ∷ []) (keyed words.Compute a text 1 ∷ []) (keyed words.Want a wanted 0 ∷ [])) (rw (same_text text) refl)
 
 two_texts : (text other : List ℕ) → text ≢ other → bytes_eq text other ≡ false
 two_texts text other differ = elim (cases_Bool (bytes_eq text other)) [

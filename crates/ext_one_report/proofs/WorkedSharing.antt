@@ -13,7 +13,7 @@ use Rattle.ext_races.specs.Races.{IsRace}
 use Rattle.ext_races.specs.MadeSteps.{path_from}
 use Rattle.ext_races.specs.Touches.{TouchText, text_if, touches_made}
 use Rattle.ext_plan.specs.StepWords.{computes, word_eq}
-use Rattle.ext_one_report.specs.WorkedPlans.{a, computing, computing_above, computing_each, ClassSharesNone, ComputesShareValues, FirstShares, LooksAfterDoNot, LooksBehindShareValues, LooksBelowShareValues, RemovedDoNot, SecondShares}
+use Rattle.ext_one_report.specs.WorkedPlans.{a, computing, computing_above, computing_each, ClassSharesNone, ComputesShareValues, FirstShares, LooksAfterDoNot, LooksBehindShareValues, LooksBelowShareValues, RemovedDoNot, RemovedElsewhereShareValues, SecondShares, two_tests}
 use Rattle.ext_one_report.proofs.WorkedPlans.{computes_are_no_race, meet, no_pair, no_race, none_such, passes, same_text}
 use Rattle.ext_one_report.specs.Shares.{shares_in}
 use Rattle.ext_races.specs.OneReports.{SharesValues}
@@ -103,12 +103,26 @@ below_fit text wanted = refl
 pub looks_below_share_values : LooksBelowShareValues
 looks_below_share_values text wanted = all_fit (below text wanted) text (below_same text wanted) (below_fit text wanted)
 
+abbrev removing_own : List ℕ → List ℕ → PlanText
+removing_own text wanted = computing_above text (keyed words.Want a wanted 0 ∷ keyed words.Remove a [] 0 ∷ [])
+
+own_same : (text wanted : List ℕ) → touches_made (removing_own text wanted) ≡ map (with_text text) (touches_made (removing_own text wanted))
+unfolding path_from
+own_same text wanted = refl
+
+own_fit : (text wanted : List ℕ) → list_all (λ t. list_all (fit (removing_own text wanted) t) (touches_made (removing_own text wanted))) (touches_made (removing_own text wanted)) ≡ true
+unfolding path_from
+own_fit text wanted = refl
+
+pub removed_elsewhere_share_values : RemovedElsewhereShareValues
+removed_elsewhere_share_values text wanted = all_fit (removing_own text wanted) text (own_same text wanted) (own_fit text wanted)
+
 abbrev removing : List ℕ → List ℕ → PlanText
-removing text wanted = computing_above text (keyed words.Want a wanted 0 ∷ keyed words.Remove a [] 0 ∷ [])
+removing text wanted = two_tests (keyed words.Compute a text 0 ∷ keyed words.Remove a [] 0 ∷ []) (keyed words.Compute a text 1 ∷ []) (keyed words.Want a wanted 0 ∷ [])
 
 removed_unlike : (text wanted : List ℕ) → no_pair (removing text wanted) (unlike (removing text wanted)) ≡ false
 unfolding path_from
-removed_unlike text wanted = rw (same_text text) refl
+removed_unlike text wanted = refl
 
 pub removed_do_not : RemovedDoNot
 removed_do_not text wanted shares = true≢false (sym (all_like (removing text wanted) shares) ∙ removed_unlike text wanted)

@@ -1,6 +1,6 @@
 -- Plans whose nodes compute the same value beside one another, which places they share, and what is reported of them
 -- (Javadoc `ExtensionContext.Store`, `getOrComputeIfAbsent`).
-use Rattle.std.specs.Prelude.{ℕ, ◌≡◌, Bool, ◌&&◌, ◌||◌, ◌==◌, Option, None, Some, find, ◌+◌, if◌then◌else◌}
+use Rattle.std.specs.Prelude.{ℕ, ◌≡◌, Bool, ◌&&◌, ◌==◌, Option, None, Some, find, ◌+◌, if◌then◌else◌}
 use Rattle.ext_tree.specs.Keys.{KeyValue}
 use Rattle.ext_plan.specs.Plans.{PlanText}
 use Rattle.ext_plan.specs.StoreKeys.{number_of_key}
@@ -31,13 +31,12 @@ abbrev pub is_beside_at : PlanText → ℕ → ℕ → KeyValue → TouchText �
 is_beside_at plan node context key touch = nodes_beside plan node touch.node && (touch.context == context)
     && (touch.key == number_of_key (keys_named plan) key)
 
--- The touch is of this place, by this node or one below it, and a node beside it touches the place too. One of both may
--- change it.
+-- The touch may change this place, by this node or one below it, and so may one of a node beside it.
 abbrev pub is_shared_at : PlanText → ℕ → ℕ → KeyValue → TouchText → Bool
-is_shared_at plan node context key touch = is_at plan node context key touch
-    && list_any (λ u. is_beside_at plan node context key u && (touch.changes || u.changes)) (touches_made plan)
+is_shared_at plan node context key touch = may_change_at plan node context key touch
+    && list_any (λ u. u.changes && is_beside_at plan node context key u) (touches_made plan)
 
--- The value that a compute gives, or that a look-up finds behind one.
+-- The value that a compute gives.
 abbrev pub value_given : TouchText → ValueText
 value_given touch = record { text = touch.text; closeable = word_eq touch.acts words.ComputeCloseable }
 
@@ -46,9 +45,9 @@ abbrev pub value_if : Option TouchText → Option ValueText
 value_if None = None
 value_if (Some touch) = if gives_value touch.acts then Some (value_given touch) else None
 
--- The places that a node or the nodes below it touch, and that a node beside it touches, if one of them may change them,
--- each with the value that is given there first. In a plan whose nodes share values, all of them compute this value there
--- or find it; or all of them fail there with one text, and then there is none.
+-- The places that a node or the nodes below it may change, and a node beside it too, each with the value that is given
+-- there first. In a plan whose nodes share values, all of them compute this value there; or all of them fail there with
+-- one text, and then there is none.
 unfoldable pub shares_in : PlanText → ℕ → SharedValues
 shares_in plan node context key = value_if (find (is_shared_at plan node context key) (touches_made plan))
 

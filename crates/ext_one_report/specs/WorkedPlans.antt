@@ -126,7 +126,13 @@ computing text = two_tests [] (keyed words.Compute a text 1 ∷ []) (keyed words
 abbrev pub ComputesAreNoRace : Type 0
 ComputesAreNoRace = (text : List ℕ) (race : Race) → ¬ IsRace (computing text) race
 
--- But they do not keep apart.
+-- A test that computes what the class has computed before all finds it, so one that looks it up keeps apart from it.
+abbrev pub FoundKeepsApart : Type 0
+FoundKeepsApart = (text wanted : List ℕ)
+    → KeepsApart (two_tests (keyed words.Compute a text 0 ∷ []) (keyed words.Compute a text 1 ∷ [])
+    (keyed words.Want a wanted 0 ∷ []))
+
+-- But two tests that compute the same do not.
 abbrev pub ComputesDoNot : Type 0
 ComputesDoNot = (text : List ℕ) → ¬ KeepsApart (computing text)
 
@@ -264,7 +270,13 @@ computing_above text body = record (two_tests [] [] []) {
 abbrev pub LooksBelowShareValues : Type 0
 LooksBelowShareValues = (text wanted : List ℕ) → SharesValues (computing_above text (keyed words.Want a wanted 0 ∷ []))
 
--- But not if a step of the plan removes that key, even in a test's own context.
+-- So they do if each test removes that key in its own context, which is below.
+abbrev pub RemovedElsewhereShareValues : Type 0
+RemovedElsewhereShareValues = (text wanted : List ℕ)
+    → SharesValues (computing_above text (keyed words.Want a wanted 0 ∷ keyed words.Remove a [] 0 ∷ []))
+
+-- But not if the class removes what it computed: one test computes it anew, before or after the other looks it up.
 abbrev pub RemovedDoNot : Type 0
 RemovedDoNot = (text wanted : List ℕ)
-    → ¬ SharesValues (computing_above text (keyed words.Want a wanted 0 ∷ keyed words.Remove a [] 0 ∷ []))
+    → ¬ SharesValues (two_tests (keyed words.Compute a text 0 ∷ keyed words.Remove a [] 0 ∷ [])
+    (keyed words.Compute a text 1 ∷ []) (keyed words.Want a wanted 0 ∷ []))

@@ -4,9 +4,9 @@
 //! `report_laws` proves it if
 //!
 //! - no node may change a place that a node running beside it touches, unless both have a factory
-//!   there that fails with one text, or compute the same value there (`specs/OneReports` of
-//!   `ext_races`), and then which node computed it and which found it may differ, but not the totals
-//!   (`specs/Shares`),
+//!   there that fails with one text, or both find what a node above them has computed, or compute the
+//!   same value there (`specs/OneReports` of `ext_races`), and then which node computed it and which
+//!   found it may differ, but not the totals (`specs/Shares`),
 //! - no two such nodes leave values in one context whose closes fail with different texts,
 //! - and no call and no close wants memory, a number, a key or a value (`specs/FullRuns`). The
 //!   results of a run tell that this is so (`shown_lack_laws`).

@@ -1,5 +1,5 @@
 //! Worked plans.
-ghost use Rattle.ext_one_report.specs.WorkedPlans.{ComputesAreNoRace, ComputesDoNot, FailsAlikeKeepApart, FailsUnlikeDoNot, LookAndPutDoNot, LooksBelowKeepApart, LooksKeepApart, OneByOneKeepsApart, OneTextAgrees, OwnPutsKeepApart, PutsAboveDoNot, ReplacedAgrees, TestsAreBeside, TestsAreRead, OneByOneAgrees, TwoFaultsAgree, TwoKeysKeepApart, TwoTextsDoNot, WorkedHasKeys, WorkedHasNumbers, WorkedIsRead, WorkedKeepsApart, WorkedAgrees, ClassSharesNone, ComputesShareValues, FirstShares, LooksAfterDoNot, LooksBehindShareValues, LooksBelowShareValues, RemovedDoNot, SecondShares};
+ghost use Rattle.ext_one_report.specs.WorkedPlans.{ComputesAreNoRace, ComputesDoNot, FailsAlikeKeepApart, FailsUnlikeDoNot, FoundKeepsApart, LookAndPutDoNot, LooksBelowKeepApart, LooksKeepApart, OneByOneKeepsApart, OneTextAgrees, OwnPutsKeepApart, PutsAboveDoNot, ReplacedAgrees, TestsAreBeside, TestsAreRead, OneByOneAgrees, TwoFaultsAgree, TwoKeysKeepApart, TwoTextsDoNot, WorkedHasKeys, WorkedHasNumbers, WorkedIsRead, WorkedKeepsApart, WorkedAgrees, ClassSharesNone, ComputesShareValues, FirstShares, LooksAfterDoNot, LooksBehindShareValues, LooksBelowShareValues, RemovedDoNot, RemovedElsewhereShareValues, SecondShares};
 
 /// Proves which of some small plans keep apart and whose closes agree, and that one plan
 /// has all that `report_laws` asks. It does nothing when it runs.
@@ -13,6 +13,7 @@ pub fn worked_plans()
     ensures look_and_put_do_not { LookAndPutDoNot }
     ensures computes_are_no_race { ComputesAreNoRace }
     ensures computes_do_not { ComputesDoNot }
+    ensures found_keeps_apart { FoundKeepsApart }
     ensures fails_alike_keep_apart { FailsAlikeKeepApart }
     ensures fails_unlike_do_not { FailsUnlikeDoNot }
     ensures two_faults_agree { TwoFaultsAgree }
@@ -31,6 +32,7 @@ pub fn worked_plans()
     ensures looks_behind_share { LooksBehindShareValues }
     ensures looks_after_do_not { LooksAfterDoNot }
     ensures looks_below_share { LooksBelowShareValues }
+    ensures removed_elsewhere_share { RemovedElsewhereShareValues }
     ensures removed_do_not { RemovedDoNot }
     ensures first_shares { FirstShares }
     ensures second_shares { SecondShares }

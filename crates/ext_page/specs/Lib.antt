@@ -1,2 +1,4 @@
 pub mod Ascii
 pub mod Data
+pub mod Nodes
+pub mod Page

@@ -1,8 +1,9 @@
 //! The page's text in HTML.
+ghost use Rattle.std.specs.Prelude.{◌≡◌};
+ghost use Rattle.ext_page.specs.Page.{after_data, after_script, after_style, before_style};
 
 /// What stands before its style.
-pub(crate) fn before_style() -> &'static str {
-    r#"<!DOCTYPE html>
+const BEFORE_STYLE: &str = r#"<!DOCTYPE html>
 <html lang="en">
 <head>
 <meta charset="utf-8">
@@ -12,12 +13,10 @@ pub(crate) fn before_style() -> &'static str {
 <link rel="icon" href="data:,">
 <title>Test run</title>
 <style>
-"#
-}
+"#;
 
 /// What stands between the style and the data.
-pub(crate) fn after_style() -> &'static str {
-    r#"
+const AFTER_STYLE: &str = r#"
 </style>
 </head>
 <body>
@@ -70,21 +69,44 @@ pub(crate) fn after_style() -> &'static str {
 <div id="table"></div>
 </section>
 </main>
-<script type="application/json" id="data">"#
-}
+<script type="application/json" id="data">"#;
 
 /// What stands between the data and the script.
-pub(crate) fn after_data() -> &'static str {
-    r#"</script>
+const AFTER_DATA: &str = r#"</script>
 <script>
-"#
-}
+"#;
 
 /// What stands behind the script.
-pub(crate) fn after_script() -> &'static str {
-    r#"
+const AFTER_SCRIPT: &str = r#"
 </script>
 </body>
 </html>
-"#
+"#;
+
+#[tactic(auto, unfolding(crate::specs::Page::before_style))]
+pub(crate) fn before_style() -> &'static str
+    ensures { result.now ≡ before_style }
+{
+    BEFORE_STYLE
+}
+
+#[tactic(auto, unfolding(crate::specs::Page::after_style))]
+pub(crate) fn after_style() -> &'static str
+    ensures { result.now ≡ after_style }
+{
+    AFTER_STYLE
+}
+
+#[tactic(auto, unfolding(crate::specs::Page::after_data))]
+pub(crate) fn after_data() -> &'static str
+    ensures { result.now ≡ after_data }
+{
+    AFTER_DATA
+}
+
+#[tactic(auto, unfolding(crate::specs::Page::after_script))]
+pub(crate) fn after_script() -> &'static str
+    ensures { result.now ≡ after_script }
+{
+    AFTER_SCRIPT
 }

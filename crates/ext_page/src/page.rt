@@ -1,6 +1,6 @@
 //! The page of a run.
-ghost use Rattle.std.specs.Prelude.{ℕ, ◌≡◌, ◌++◌, List, string_bytes, IfOk};
-ghost use Rattle.ext_page.specs.Data.{run_text};
+ghost use Rattle.std.specs.Prelude.{◌≡◌, string_bytes, IfOk};
+ghost use Rattle.ext_page.specs.Page.{page_text};
 
 use crate::data::data_of;
 use crate::markup::{after_data, after_script, after_style, before_style};
@@ -13,8 +13,9 @@ use std::alloc::{AllocError, Global};
 /// lanes over time and what nodes shared, and loads nothing from anywhere.
 ///
 /// Takes memory for the text, and fails with `AllocError` only if that is refused. An own rule.
+#[tactic(auto, unfolding(crate::specs::Page::page_text))]
 pub fn page_of(alloc: Global, run: &RunData) -> Result<String, AllocError>
-    ensures { IfOk result (λ page. (before : List ℕ) × (after : List ℕ) × (string_bytes page ≡ before ++ (run_text run.now ++ after))) }
+    ensures { IfOk result (λ page. string_bytes page ≡ page_text run.now) }
 {
     let data = data_of(alloc, run)?;
     let mut page = String::new(alloc);

@@ -1,9 +1,10 @@
 //! The page's script.
+ghost use Rattle.std.specs.Prelude.{◌≡◌};
+ghost use Rattle.ext_page.specs.Page.{script};
 
 /// In JavaScript.
-pub(crate) fn script() -> &'static str {
-    r#"'use strict';
-// The page of a test run. Its data is described in README.md; all times are whole microseconds since the run began.
+const SCRIPT: &str = r#"'use strict';
+// All times are whole microseconds since the run began.
 const D = JSON.parse(document.getElementById('data').textContent);
 const STATUS = ['passed', 'failed', 'aborted', 'skipped', 'flaky']; // flaky: passed, but not at the first attempt
 const ORDER = [1, 4, 2, 3, 0]; // the worst first
@@ -538,5 +539,11 @@ requestAnimationFrame(() => setTimeout(() => {
   values();
   new ResizeObserver(() => { if ($('chart').clientWidth - GUTTER - 2 !== width) later(); }).observe($('chart'));
   document.body.dataset.ready = '';
-}));"#
+}));"#;
+
+#[tactic(auto, unfolding(crate::specs::Page::script))]
+pub(crate) fn script() -> &'static str
+    ensures { result.now ≡ script }
+{
+    SCRIPT
 }

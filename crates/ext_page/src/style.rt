@@ -1,7 +1,9 @@
 //! The page's style.
+ghost use Rattle.std.specs.Prelude.{◌≡◌};
+ghost use Rattle.ext_page.specs.Page.{style};
 
 /// In CSS.
-pub(crate) fn style() -> &'static str {
+const STYLE: &str =
     r#":root { --back: #fff; --fore: #1b1f24; --dim: #58616d; --line: #dce1e6; --soft: #f4f6f8; --link: #1d5fa8;
   --c0: #6a8fb8; --c1: #c2400a; --c2: #6d4aa3; --c3: #6b7280; --c4: #9a6400; --make: #0f766e; }
 @media (prefers-color-scheme: dark) { :root { --back: #14171b; --fore: #e3e6ea; --dim: #9ba5b1; --line: #2d343c; --soft: #1c2127; --link: #7db4f0;
@@ -106,5 +108,11 @@ td summary { cursor: pointer; }
   .bar, #overview, #chart-help, #card, .more, #failed button { display: none !important; }
   #table { overflow: visible; } td, th { font-size: 10px; padding-right: 8px; } td > .id { font-size: 10px; }
   #failed > li, #tree summary, #tree .row, tr, pre { break-inside: avoid; } h2 { break-after: avoid; }
-}"#
+}"#;
+
+#[tactic(auto, unfolding(crate::specs::Page::style))]
+pub(crate) fn style() -> &'static str
+    ensures { result.now ≡ style }
+{
+    STYLE
 }

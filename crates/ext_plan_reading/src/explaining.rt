@@ -6,6 +6,7 @@ mod ends;
 mod fields;
 mod headers;
 mod ids;
+mod marks;
 mod near;
 mod nodes;
 mod spots;
@@ -18,9 +19,11 @@ use ext_model::Size;
 use fields::{bad_field, bad_label, unknown_field};
 use headers::{Hint, hint_at};
 pub use ids::explain_id;
+use marks::{column_at, mark_in_line};
 pub use near::nearest;
 use nodes::{bad_id, bad_nodes, too_many};
 use std::alloc::{AllocError, Global};
+use std::fmt;
 use steps::bad_step;
 use toml::Table;
 use toml::de::Error;
@@ -32,8 +35,9 @@ use words::{Meaning, of_no_field, said};
 /// the text. It says what was meant where that is likely, such as the nearest name of a field.
 /// Texts of the plan are quoted, with a line feed as `\n`. At the end are the node's id, if it has
 /// one, and the line of the plan where the field or the step at fault stands, or else the table of
-/// the key or node begins, if the table has a header of its own. The contract covers only the part
-/// that the fault names.
+/// the key or node begins, if the table has a header of its own; where the text is no TOML, and for
+/// a field of the plan itself, the column too. The contract covers only the part that the fault
+/// names.
 ///
 /// The fault is one of `all_faults` of this text and size, such as the answer of
 /// `read_plan_within`; or `NotUtf8` if the bytes are no text. For any other fault the line says
@@ -119,26 +123,52 @@ fn no_utf8(alloc: Global, input: &[u8], at: usize) -> Result<Option<String>, Pla
     Ok(Some(format!(in alloc; "it is no UTF-8 at byte {at}, in line {line}{hint}")?))
 }
 
-/// Says where and why a text is no TOML document, in the words of the TOML parser, and how an array
-/// of tables is written where one is meant.
+/// Says where and why a text is no TOML document, in the words of the TOML parser, and how what is
+/// meant is written, where that is likely.
 fn no_toml(alloc: Global, text: &str, error: &Error) -> Result<Option<String>, PlanFault> {
     let Some(span) = error.span() else {
         return Err(PlanFault::Memory);
     };
-    let line = line_at(text, span.start);
+    let place = Place::of(text, span.start);
     let message = error.message();
     if message == "duplicate key"
-        && let Some(hint) = hint_at(text, line)
+        && let Some(hint) = hint_at(text, place.line)
     {
         let Hint {
             meant,
             line: single,
         } = hint;
         return Ok(Some(format!(in alloc;
-            "it is no TOML in line {line}: {message}: in line {single} write {meant}"
+            "it is no TOML in {place}: {message}: in line {single} write {meant}"
         )?));
     }
-    Ok(Some(format!(in alloc; "it is no TOML in line {line}: {message}")?))
+    Ok(Some(match mark_in_line(text, span.start) {
+        None => format!(in alloc; "it is no TOML in {place}: {message}")?,
+        Some(hint) => format!(in alloc; "it is no TOML in {place}: {message}: {hint}")?,
+    }))
+}
+
+/// A place in a text, by its line and its column, from 1.
+#[derive(Clone, Copy)]
+struct Place {
+    line: usize,
+    column: usize,
+}
+
+impl Place {
+    /// The place of this byte.
+    fn of(text: &str, byte: usize) -> Place {
+        Place {
+            line: line_at(text, byte),
+            column: column_at(text, byte),
+        }
+    }
+}
+
+impl fmt::Display for Place {
+    fn fmt<W: fmt::Write>(&self, f: &mut fmt::Formatter<W>) -> fmt::Result {
+        write!(f, "line {}, column {}", self.line, self.column)
+    }
 }
 
 /// The number, from 1, of the line that contains a byte of a text.

@@ -1,13 +1,11 @@
 -- What is noted of a plan tells what was computed above each node.
-use Rattle.std.proofs.Common.{◌≡◌, ◌≢◌, ℕ, zero, suc, ◌+◌, ◌<◌, Bool, true, false, List, [], ◌∷◌, ◌++◌, Contains, length, map, drop, take, get_or, set, Option, Some, None, refl, sym, ap, subst, ◌∙◌, arith, append_assoc, inl, inr, get_or-set_other, get_or-set_same, length-set}
+use Rattle.std.proofs.Common.{◌≡◌, ◌≢◌, ℕ, zero, suc, ◌+◌, ◌<◌, Bool, true, false, List, [], ◌∷◌, ◌++◌, Contains, length, map, drop, take, get_or, Option, Some, None, refl, sym, ap, subst, ◌∙◌, arith, append_assoc, inl, inr}
 use Rattle.std.specs.Prelude.{◌==◌, ◌&&◌, ◌||◌, ◌↔◌, find, is_some, not, option_map, slice_get, if◌then◌else◌}
 use Rattle.std.specs.List.{list_any}
 use Rattle.std.specs.declared.alloc.Global.{Global}
 use Rattle.std.specs.Prelude.{Vec}
-use Rattle.std.proofs.Math.Bool.{or-false}
 use Rattle.std.proofs.lemmas.Bool.{cases_Bool, cases_eq, eq-eqb, ne_eqb, true≢false}
 use Rattle.std.proofs.lemmas.List.{map-append}
-use Rattle.std.proofs.lemmas.List.Folds.{list_any-append}
 use Rattle.ext_tree.specs.Keys.{HasNumber, KeyValue}
 use Rattle.ext_tree.specs.Traits.{key_eq}
 use Rattle.ext_tree.specs.Trees.{Id, IsPathOf, IsTree, IsWalk, children_of}
@@ -20,19 +18,25 @@ use Rattle.ext_plan.specs.StepWords.{gives_value, word_eq}
 use Rattle.ext_plan.specs.StoreKeys.{is_there, key_of_step, number_of_key}
 use Rattle.ext_plan.specs.declared.plan.Step.{Step}
 use Rattle.ext_plan.specs.declared.word.Word.TheVariants as words
-use Rattle.ext_plan.proofs.KeyLists.{has_key_number, not_contained, key_number_within}
+use Rattle.ext_plan.proofs.KeyLists.{has_key_number, not_contained}
 use Rattle.ext_races.specs.declared.made.MadeStep.{MadeStep}
 use Rattle.ext_races.specs.declared.standing.Compute.{Compute}
 use Rattle.ext_races.specs.declared.standing.Standing.{Standing}
 use Rattle.ext_races.specs.Acts.{ActText, act_of}
 use Rattle.ext_races.specs.InnerMade.{left_by, made_view, made_views}
-use Rattle.ext_races.specs.InnerStanding.{AreComputed, AreFirst, AreRemoved, IsNumber, TellsAbove, compute_at, compute_view, computed_in, computes_of, computes_view, removed_at}
-use Rattle.ext_races.specs.MadeSteps.{MadeText, path_of, plan_path, steps_before, steps_made}
-use Rattle.ext_races.specs.Touches.{ComputeText, computed_above, computes_key, first_compute, or_above, removes_key, standing}
+use Rattle.ext_races.specs.InnerStanding.{AreComputed, AreFirst, AreWithoutRemoved, IsNumber, TellsAbove, compute_at, compute_view, computed_in, computes_of, computes_view, removed_by, removed_past, unless}
+use Rattle.ext_races.specs.MadeSteps.{path_of, plan_path, steps_before, steps_made}
+use Rattle.ext_races.specs.Touches.{ComputeText, computed_above, computed_by, computes_key, first_compute, or_above, removes_key, removes_past, standing}
 use Rattle.ext_races.proofs.Lists.{contains_nothing, map-take_more}
 use Rattle.ext_races.proofs.Paths.{path_is}
 
 -- ---- the first of several
+
+pub both_unless : (one two : Bool) (x : Option ComputeText) → unless two (unless one x) ≡ unless (one || two) x
+both_unless true true x = refl
+both_unless true false x = refl
+both_unless false true x = refl
+both_unless false false x = refl
 
 pub or_none : (found : Option ComputeText) → or_above found None ≡ found
 or_none None = refl
@@ -86,7 +90,7 @@ module _ (declared : List KeyText) (directory : List KeyValue) where
     | inr differ ↦ differ
   ]
 
-  same_number : (one other : KeyValue) → is_there directory one ≡ true → is_there directory other ≡ true → (number_of_key directory one == number_of_key directory other) ≡ key_eq one other
+  pub same_number : (one other : KeyValue) → is_there directory one ≡ true → is_there directory other ≡ true → (number_of_key directory one == number_of_key directory other) ≡ key_eq one other
   same_number one other there other_there = elim (cases_Bool (key_eq one other)) [
     | inl same ↦ eq-eqb (number_of_key directory one) (number_of_key directory other) (ap (number_of_key directory) ((keys_Decides one other).0 same)) ∙ sym same
     | inr differ ↦ ne_eqb (number_of_key directory one) (number_of_key directory other) (other_number one other there other_there differ) ∙ sym differ
@@ -140,18 +144,7 @@ module _ (declared : List KeyText) (directory : List KeyValue) where
           by true = ap Some is
           by false = refl
 
-  -- ---- keys that are removed
-
-  any_push : {A : Type 0} (p : A → Bool) (xs : List A) (x : A) → list_any p (xs ++ x ∷ []) ≡ (list_any p xs || p x)
-  any_push p xs x = list_any-append p xs (x ∷ []) ∙ ap (λ b. list_any p xs || b) (or-false (p x))
-
-  pub removed_same : (before : List MadeText) (made : MadeText) (removed : List Bool) → ((key : KeyValue) → is_there directory key ≡ true → removes_key declared key (act_of made.step) ≡ false)
-      → AreRemoved declared directory before removed → AreRemoved declared directory (before ++ made ∷ []) removed
-  removed_same before made removed none are = record {
-    count = are.count;
-    each = λ key there. are.each key there
-        ∙ sym (any_push (λ m. removes_key declared key (act_of m.step)) before made ∙ ap (λ b. list_any (λ m. removes_key declared key (act_of m.step)) before || b) (none key there) ∙ or-false _);
-  }
+  -- ---- acts that remove no key
 
   pub no_removal : (act : ActText) (key : KeyValue) → word_eq act.word words.Remove ≡ false → removes_key declared key (Some act) ≡ false
   no_removal act key none = ap (λ b. b && key_eq (key_of_step declared act.key) key) none
@@ -163,47 +156,12 @@ module _ (declared : List KeyText) (directory : List KeyValue) where
       never true = refl
       never false = refl
 
-  pub removed_set : (before : List MadeText) (made : MadeText) (act : ActText) (number : ℕ) (removed : List Bool) → act_of made.step ≡ Some act → word_eq act.word words.Remove ≡ true
-      → is_there directory (key_of_step declared act.key) ≡ true → number ≡ number_of_key directory (key_of_step declared act.key) → AreRemoved declared directory before removed
-      → AreRemoved declared directory (before ++ made ∷ []) (set removed number true)
-  removed_set before made act number removed is word there numbered are = record {
-    count = length-set removed number true ∙ are.count;
-    each = λ key key_there. one key key_there ∙ sym (any_push (λ m. removes_key declared key (act_of m.step)) before made ∙ ap (λ b. list_any (λ m. removes_key declared key (act_of m.step)) before || b) (removes key));
-  }
-    where
-      own : KeyValue
-      own = key_of_step declared act.key
-
-      removes : (key : KeyValue) → removes_key declared key (act_of made.step) ≡ key_eq own key
-      removes key = ap (removes_key declared key) is ∙ ap (λ b. b && key_eq own key) word
-
-      all : (b : Bool) → true ≡ (b || true)
-      all true = refl
-      all false = refl
-
-      one : (key : KeyValue) → is_there directory key ≡ true → removed_at (set removed number true) (number_of_key directory key) ≡ (list_any (λ m. removes_key declared key (act_of m.step)) before || key_eq own key)
-      one key key_there = elim (cases_Bool (key_eq own key)) [
-        | inl same ↦
-            let at : number_of_key directory key ≡ number = ap (number_of_key directory) (sym ((keys_Decides own key).0 same)) ∙ sym numbered in
-            let within = key_number_within directory own there in
-            let long = are.count in
-            ap (λ n. get_or (set removed number true) n false) at ∙ get_or-set_same removed number true false (omega (arith, within, numbered, long))
-            ∙ all (list_any (λ m. removes_key declared key (act_of m.step)) before) ∙ ap (λ b. list_any (λ m. removes_key declared key (act_of m.step)) before || b) (sym same)
-        | inr differ ↦
-            let far : number_of_key directory key ≢ number = λ at. other_number own key there key_there differ (sym numbered ∙ sym at) in
-            get_or-set_other removed number (number_of_key directory key) true false far ∙ are.each key key_there
-            ∙ sym (ap (λ b. list_any (λ m. removes_key declared key (act_of m.step)) before || b) differ ∙ or-false _)
-      ]
-
-  pub removed_none : (removed : List Bool) → length removed ≡ length directory → ((key : ℕ) → removed_at removed key ≡ false) → AreRemoved declared directory [] removed
-  removed_none removed long none = record { count = long; each = λ key there. none (number_of_key directory key) }
-
 -- ---- all of it
 
 -- which steps come before a step is all the same
-any_same : (p : StepText → Bool) (before : List StepText) (made : List MadeStep) → list_any (λ m. p m.step) (map made_view made) ≡ list_any (λ m. p m.step) (made_views before made)
+any_same : (p : ℕ → StepText → Bool) (before : List StepText) (made : List MadeStep) → list_any (λ m. p m.node m.step) (map made_view made) ≡ list_any (λ m. p m.node m.step) (made_views before made)
 any_same p before [] = refl
-any_same p before (m ∷ more) = ap (λ b. p (step_view m.step.now) || b) (any_same p (left_by before m) more)
+any_same p before (m ∷ more) = ap (λ b. p m.node (step_view m.step.now) || b) (any_same p (left_by before m) more)
 
 module _ (plan : PlanText) (ids : List Id) (tree : IsTree ids) (nodes : ids ≡ ids_of_nodes plan.nodes) (directory : List KeyValue) where
   has_child : (parent child : ℕ) (rest : List ℕ) → IsWalk ids child (parent ∷ rest) → children_of (ids_of_nodes plan.nodes) parent ≢ []
@@ -211,29 +169,42 @@ module _ (plan : PlanText) (ids : List Id) (tree : IsTree ids) (nodes : ids ≡ 
       let there = (parents_list_children ids parent is.parent_within).listed child is in
       contains_nothing child (subst (λ xs. Contains xs child) (ap (λ i. children_of i parent) nodes ∙ none) there)
 
-  module _ (lists : List (List Compute)) (are : AreComputed plan plan.keys directory (length ids) lists) (key : KeyValue) (there : is_there directory key ≡ true) where
-    along : (node : ℕ) (walk : List ℕ) → IsWalk ids node walk → computed_in lists (number_of_key directory key) walk ≡ computed_above plan key walk
+  module _ (first lists : List (List Compute)) (made : List MadeStep) (are : AreComputed plan plan.keys directory (length ids) first) (left : AreWithoutRemoved plan.keys directory ids (map made_view made) first lists)
+      (steps : made_views [] made ≡ steps_made plan) (key : KeyValue) (there : is_there directory key ≡ true) where
+    abbrev number : ℕ
+    number = number_of_key directory key
+
+    -- what a node computes, if it is not removed
+    by_node : (parent : ℕ) (path : List ℕ) → parent < length ids → plan_path plan parent ≡ path → children_of (ids_of_nodes plan.nodes) parent ≢ [] → compute_at (computes_of lists parent) number ≡ computed_by plan key parent path
+    by_node parent path within is some =
+        let past = removed_past plan.keys ids (map made_view made) parent key in
+        let own = removed_by plan.keys (steps_before plan parent) key in
+        let acts = first_compute plan.keys key (plan_path plan parent) (map act_of (steps_before plan parent)) in
+        let all : past ≡ list_any (λ m. removes_past plan.keys key parent (plan_path plan parent) (plan_path plan m.node) (act_of m.step)) (steps_made plan) =
+        any_same (λ n s. removes_past plan.keys key parent (path_of ids parent) (path_of ids n) (act_of s)) [] made
+        ∙ ap (λ i. list_any (λ m. removes_past plan.keys key parent (path_of i parent) (path_of i m.node) (act_of m.step)) (made_views [] made)) nodes
+        ∙ ap (list_any (λ m. removes_past plan.keys key parent (plan_path plan parent) (plan_path plan m.node) (act_of m.step))) steps in
+        (left.each parent).each key there ∙ ap (unless past) ((are.each parent within some).each key there) ∙ both_unless own past acts
+        ∙ ap (λ b. unless (own || b) acts) all ∙ ap (λ p. computed_by plan key parent p) is
+
+    along : (node : ℕ) (walk : List ℕ) → IsWalk ids node walk → computed_in lists number walk ≡ computed_above plan key walk
     along node [] walks = refl
     along node (parent ∷ rest) (is, walks) =
         let path : plan_path plan parent ≡ parent ∷ rest = sym (path_is ids tree parent (parent ∷ rest) is.parent_within (refl, walks) ∙ ap (λ i. path_of i parent) nodes) in
-        let here = (are.each parent is.parent_within (has_child parent node rest (is, walks))).each key there in
-        ap (λ found. or_above found (computed_in lists (number_of_key directory key) rest)) (here ∙ ap (λ p. first_compute plan.keys key p (map act_of (steps_before plan parent))) path)
-        ∙ ap (or_above (first_compute plan.keys key (parent ∷ rest) (map act_of (steps_before plan parent)))) (along parent rest walks)
+        let here = by_node parent (parent ∷ rest) is.parent_within path (has_child parent node rest (is, walks)) in
+        ap (λ found. or_above found (computed_in lists number rest)) here ∙ ap (or_above (computed_by plan key parent (parent ∷ rest))) (along parent rest walks)
 
-    above : (node : ℕ) (path : List ℕ) → node < length ids → IsPathOf ids node path → computed_in lists (number_of_key directory key) (drop 1 path) ≡ computed_above plan key (drop 1 (plan_path plan node))
+    pub above : (node : ℕ) (path : List ℕ) → node < length ids → IsPathOf ids node path → computed_in lists number (drop 1 path) ≡ standing plan node key
     above node [] less is = absurd is
-    above node (first ∷ walk) less (same, walks) =
-        along node walk walks ∙ ap (λ p. computed_above plan key (drop 1 p)) (path_is ids tree node (first ∷ walk) less (same, walks) ∙ ap (λ i. path_of i node) nodes)
+    above node (head ∷ walk) less (same, walks) =
+        along node walk walks ∙ ap (λ p. computed_above plan key (drop 1 p)) (path_is ids tree node (head ∷ walk) less (same, walks) ∙ ap (λ i. path_of i node) nodes)
 
-  pub tells_above : (declared : List KeyText) (made : List MadeStep) (noted : Standing) → declared ≡ plan.keys → made_views [] made ≡ steps_made plan
-      → AreComputed plan declared directory (length ids) (computes_view noted.computes.items) → AreRemoved declared directory (map made_view made) noted.removed.items → TellsAbove ids directory (standing plan) noted
-  tells_above declared made noted keys steps computes removed = record {
+  pub tells_above : (declared : List KeyText) (first : List (List Compute)) (made : List MadeStep) (noted : Standing) → declared ≡ plan.keys → made_views [] made ≡ steps_made plan
+      → AreComputed plan declared directory (length ids) first → AreWithoutRemoved declared directory ids (map made_view made) first (computes_view noted.computes.items) → TellsAbove ids directory (standing plan) noted
+  tells_above declared first made noted keys steps computes left = record {
     each = λ node path key less is there.
-        let found = above (computes_view noted.computes.items) (subst (λ d. AreComputed plan d directory (length ids) (computes_view noted.computes.items)) keys computes) key there node path less is in
-        let gone = removed.each key there ∙ ap (λ d. list_any (λ m. removes_key d key (act_of m.step)) (map made_view made)) keys ∙ any_same (λ s. removes_key plan.keys key (act_of s)) [] made
-        ∙ ap (list_any (λ m. removes_key plan.keys key (act_of m.step))) steps in
-        ap (λ b. if b then None else computed_in (computes_view noted.computes.items) (number_of_key directory key) (drop 1 path)) gone
-        ∙ ap (λ f. if list_any (λ m. removes_key plan.keys key (act_of m.step)) (steps_made plan) then None else f) found;
+        above first (computes_view noted.computes.items) made (subst (λ d. AreComputed plan d directory (length ids) first) keys computes)
+        (subst (λ d. AreWithoutRemoved d directory ids (map made_view made) first (computes_view noted.computes.items)) keys left) steps key there node path less is;
   }
 
 -- ---- in memory

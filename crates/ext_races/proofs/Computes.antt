@@ -1,5 +1,5 @@
--- What nodes compute and which keys are removed, noted one after another.
-use Rattle.std.proofs.Common.{◌≡◌, ◌≢◌, ℕ, zero, suc, ◌+◌, ◌<◌, ◌≤◌, Bool, true, false, List, [], ◌∷◌, ◌++◌, length, length-append, map, drop, take, get_or, Option, Some, None, refl, sym, ap, subst, ◌∙◌, arith, append-nil, inl, inr}
+-- What nodes compute, noted one after another.
+use Rattle.std.proofs.Common.{◌≡◌, ◌≢◌, ℕ, ◌+◌, ◌<◌, ◌≤◌, true, false, List, [], ◌∷◌, ◌++◌, length, length-append, map, drop, take, get_or, Option, Some, None, refl, sym, ap, subst, ◌∙◌, arith, append-nil, inl, inr}
 use Rattle.std.specs.Prelude.{is_some, option_map}
 use Rattle.std.specs.List.{flat_map}
 use Rattle.std.specs.declared.alloc.Global.{Global}
@@ -17,7 +17,7 @@ use Rattle.ext_plan.specs.ReadPlans.{ids_of_nodes}
 use Rattle.ext_plan.proofs.Lists.{map-push}
 use Rattle.ext_races.specs.declared.standing.Compute.{Compute}
 use Rattle.ext_races.specs.Acts.{act_of}
-use Rattle.ext_races.specs.InnerStanding.{AreComputed, AreFirst, compute_at, compute_view, computed_in, computes_of, computes_view, removed_at}
+use Rattle.ext_races.specs.InnerStanding.{AreComputed, compute_at, compute_view, computed_in, computes_of, computes_view, AreLeft}
 use Rattle.ext_races.specs.MadeSteps.{plan_path, steps_before}
 use Rattle.ext_races.specs.Touches.{or_above}
 use Rattle.ext_races.proofs.Lists.{take_at_more}
@@ -39,17 +39,17 @@ module _ (plan : PlanText) (declared : List KeyText) (directory : List KeyValue)
   computed_none = record { long = refl; each = λ node less. absurd (omega (arith, less)) }
 
   pub computed_more : (count : ℕ) (lists after : List (Vec Compute Global)) (v : Vec Compute Global)
-      → (children_of (ids_of_nodes plan.nodes) count ≢ [] → AreFirst declared directory (plan_path plan count) (map act_of (steps_before plan count)) v.items) → after ≡ lists ++ v ∷ []
+      → (children_of (ids_of_nodes plan.nodes) count ≢ [] → AreLeft declared directory (plan_path plan count) (steps_before plan count) v.items) → after ≡ lists ++ v ∷ []
       → AreComputed plan declared directory count (computes_view lists) → AreComputed plan declared directory (count + 1) (computes_view after)
   computed_more count lists after v last put are = record {
     long = ap length same ∙ length-append (computes_view lists) (v.items ∷ []) ∙ ap (λ n. n + 1) are.long;
     each = λ node less some. elim (cases_eq node count) [
-      | inl is ↦ subst (λ n. children_of (ids_of_nodes plan.nodes) n ≢ [] → AreFirst declared directory (plan_path plan n) (map act_of (steps_before plan n)) (computes_of (computes_view after) n)) (sym is)
-          (λ there. subst (AreFirst declared directory (plan_path plan count) (map act_of (steps_before plan count))) (sym at_end) (last there)) some
+      | inl is ↦ subst (λ n. children_of (ids_of_nodes plan.nodes) n ≢ [] → AreLeft declared directory (plan_path plan n) (steps_before plan n) (computes_of (computes_view after) n)) (sym is)
+          (λ there. subst (AreLeft declared directory (plan_path plan count) (steps_before plan count)) (sym at_end) (last there)) some
       | inr other ↦
           let before : node < count = omega (arith, less, other) in
           let long = are.long in
-          subst (AreFirst declared directory (plan_path plan node) (map act_of (steps_before plan node)))
+          subst (AreLeft declared directory (plan_path plan node) (steps_before plan node))
           (sym (ap (λ xs. computes_of xs node) same ∙ get_or_append_left (computes_view lists) (v.items ∷ []) [] node (omega (arith, before, long)))) (are.each node before some)
     ];
   }
@@ -83,17 +83,6 @@ module _ (lists : List (List Compute)) (key : ℕ) (nodes : List ℕ) (at : ℕ)
 
 pub found_nowhere : (lists : List (List Compute)) (key : ℕ) (nodes : List ℕ) (at : ℕ) → length nodes ≤ at → computed_in lists key nodes ≡ computed_in lists key (drop at nodes) → computed_in lists key nodes ≡ None
 found_nowhere lists key nodes at past so_far = so_far ∙ ap (computed_in lists key) (drop_all at nodes past)
-
--- ---- no key is removed yet
-
-pub none_more : (removed after : List Bool) → ((key : ℕ) → removed_at removed key ≡ false) → after ≡ removed ++ false ∷ [] → (key : ℕ) → removed_at after key ≡ false
-none_more removed after none put key = ap (λ xs. removed_at xs key) put ∙ go removed key none
-  where
-    go : (xs : List Bool) (k : ℕ) → ((key : ℕ) → removed_at xs key ≡ false) → removed_at (xs ++ false ∷ []) k ≡ false
-    go [] zero none = refl
-    go [] (suc k) none = refl
-    go (x ∷ xs) zero none = none 0
-    go (x ∷ xs) (suc k) none = go xs k (λ j. none (suc j))
 
 -- ---- nothing yet
 

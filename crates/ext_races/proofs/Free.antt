@@ -5,7 +5,7 @@ use Rattle.std.specs.Str.{bytes_eq}
 use Rattle.std.specs.Cmp.Lexicographic.{bytes_decides}
 use Rattle.std.proofs.lemmas.Bool.{and_from, both_ways, cases_Bool, false_from_ne_true}
 use Rattle.ext_plan.specs.Values.{begins_with}
-use Rattle.ext_plan.specs.StepWords.{computes, leaves_closeable, word_eq}
+use Rattle.ext_plan.specs.StepWords.{computes, gives_value, leaves_closeable, word_eq}
 use Rattle.ext_races.specs.Clashes.{agree, clashes, closes_differ, may_fail}
 use Rattle.ext_races.specs.OneReports.{FreeKeepsApart, RaceFreeClosesAgree, RaceFreeSharesValues}
 use Rattle.ext_races.specs.Races.{race_of}
@@ -39,9 +39,18 @@ race_free_shares_values plan free = record {
 pub free_keeps_apart : FreeKeepsApart
 free_keeps_apart plan free none = record {
   apart = λ first second one two beside changing at named.
-      let agrees = (race_free_shares_values plan free).alike first second one two beside changing at named in
-      (agrees, none.none first second one two beside changing at named agrees);
+      let agrees = (race_free_shares_values plan free).alike first second one two beside changing at named in (
+        agrees,
+        elim (cases_Bool second.changes) [
+          | inl both_change ↦ ap (λ b. b && second.changes) (none.none first second one two beside changing both_change at named agrees)
+          | inr looks ↦ ap (λ b. gives_value first.word && b) looks ∙ never (gives_value first.word)
+        ],
+      );
 }
+  where
+    never : (b : Bool) → (b && false) ≡ false
+    never true = refl
+    never false = refl
 
 -- closes that may fail with two texts clash under two keys, and touches under one key that agree have one text
 pub race_free_closes_agree : RaceFreeClosesAgree

@@ -25,11 +25,12 @@ module _ (plan : PlanText) (groups : List (List TouchText)) (keys : ℕ) (are : 
   -- two touches that share a value are in one group
   none_share : groups_share plan groups ≡ false → NoneShare plan
   none_share none = record {
-    none = λ t u one two beside changes at named agrees. false_from_ne_true (gives_value t.word) (λ gives.
+    none = λ t u one two beside changes change_too at named agrees. false_from_ne_true (gives_value t.word) (λ gives.
         let same : place_group keys u ≡ place_group keys t = sym (ap (λ c. c * (keys + 1) + t.key) at ∙ ap (λ k. u.context * (keys + 1) + k) named) in
         let there : Contains (group_at groups (place_group keys t)) u = subst (λ k. Contains (group_at groups k) u) same (are.places u two) in
         let tested = nodes_tested plan t.node u.node (touch_within plan t one) (touch_within plan u two) beside in
-        let shares : shares_value t u ≡ true = both_true _ _ (both_true _ _ (both_true _ _ (both_true _ _ changes gives) (eq-eqb t.context u.context at)) (eq-eqb t.key u.key named)) agrees in
+        let shares : shares_value t u ≡ true =
+        both_true _ _ (both_true _ _ (both_true _ _ (both_true _ _ (both_true _ _ changes gives) change_too) (eq-eqb t.context u.context at)) (eq-eqb t.key u.key named)) agrees in
         both_ways (groups_share plan groups) none (shared_in plan groups (place_group keys t) t u (are.places t one) there (both_true (shares_value t u) (nodes_beside plan t.node u.node) shares tested)));
   }
 
@@ -42,12 +43,13 @@ module _ (plan : PlanText) (groups : List (List TouchText)) (keys : ℕ) (are : 
       let second = any_contains (λ u. share_beside plan t u) (group_at groups at.0) first.2 in
       let u = second.0 in
       let parts = both (shares_value t u) (nodes_beside plan t.node u.node) second.2 in
-      let p = both (computes_value t && (t.context == u.context) && (t.key == u.key)) (agree t u) parts.0 in
-      let q = both (computes_value t && (t.context == u.context)) (t.key == u.key) p.0 in
-      let r = both (computes_value t) (t.context == u.context) q.0 in
-      let computes = both t.changes (gives_value t.word) r.0 in
+      let p = both (computes_value t && u.changes && (t.context == u.context) && (t.key == u.key)) (agree t u) parts.0 in
+      let q = both (computes_value t && u.changes && (t.context == u.context)) (t.key == u.key) p.0 in
+      let r = both (computes_value t && u.changes) (t.context == u.context) q.0 in
+      let change = both (computes_value t) u.changes r.0 in
+      let computes = both t.changes (gives_value t.word) change.0 in
       let apart = one.apart.apart t u (are.only at.0 t first.1) (are.only at.0 u second.1) (nodes_found plan t.node u.node parts.1) computes.0 (equal t.context u.context r.1) (equal t.key u.key q.1) in
-      both_ways (gives_value t.word) apart.1 computes.1
+      both_ways (gives_value t.word && u.changes) apart.1 (both_true _ _ computes.1 change.1)
 
   -- ---- what is proved
 

@@ -10,10 +10,12 @@ pub mod Grounds
 pub mod Grouped
 pub mod Listed
 pub mod Lists
+pub mod MappedLists
 pub mod Named
 pub mod Noted
 pub mod Paths
 pub mod Reaches
+pub mod Removed
 pub mod Searches
 pub mod Sides
 pub mod StepTouches

@@ -1,9 +1,9 @@
 -- A touch that races passes a container at which touches may race.
-use Rattle.std.proofs.Common.{◌≡◌, ℕ, zero, suc, ◌+◌, ◌<◌, ◌≤◌, true, false, List, [], ◌∷◌, ◌++◌, length, map, get_or, take, set, fold, Contains, ◌-◌, get_or-set_other, get_or-set_same, Option, Some, None, refl, sym, ap, subst, ◌∙◌, arith, inl, inr, Bool}
+use Rattle.std.proofs.Common.{◌≡◌, ℕ, zero, suc, ◌+◌, ◌<◌, ◌≤◌, true, false, List, [], ◌∷◌, ◌++◌, length, map, get_or, take, set, fold, Contains, ◌-◌, get_or-set_other, get_or-set_same, Option, Some, None, refl, sym, ap, subst, ◌∙◌, arith, inl, inr, Bool, cond}
 use Rattle.std.specs.Prelude.{◌==◌, ◌&&◌, ◌||◌, not, if◌then◌else◌}
 use Rattle.std.proofs.lemmas.Bool.{cases_Bool, cases_eq, or_right, true≢false}
 use Rattle.std.proofs.lemmas.List.{length-map}
-use Rattle.std.proofs.lemmas.List.Elements.{Contains-append_cases}
+use Rattle.std.proofs.lemmas.List.Elements.{Contains-append_cases, filter-append}
 use Rattle.std.specs.Cmp.Lexicographic.{bytes_decides}
 use Rattle.ext_plan.specs.Plans.{PlanText}
 use Rattle.ext_plan.specs.PlanCalls.{concurrent_of}
@@ -15,12 +15,12 @@ use Rattle.ext_races.specs.declared.passing.Passed.{Passed}
 use Rattle.ext_races.specs.declared.touch.Touch.{Touch}
 use Rattle.ext_races.specs.Beside.{PassesBy, nodes_beside}
 use Rattle.ext_races.specs.Clashes.{agree, clashes, closes_differ}
-use Rattle.ext_races.specs.InnerPassing.{AreNoted, HasNoted, HasNotedIf, IsNoted, Keeps, KeepsIf, alike, may_meet, meets, passed_at}
+use Rattle.ext_races.specs.InnerPassing.{AreNoted, HasNoted, HasNotedIf, IsNoted, Keeps, KeepsIf, alike, may_meet, meets, passed_at, changing}
 use Rattle.ext_races.specs.InnerListed.{race, touch_listed}
 use Rattle.ext_races.specs.MadeSteps.{path_of, plan_path}
 use Rattle.ext_races.specs.Touches.{TouchText, touch_view}
 use Rattle.ext_races.proofs.Equalities.{both, both_true, word_is}
-use Rattle.ext_races.proofs.Lists.{contains_cases, contains_nothing, contains-map, contains_at, map-take_at}
+use Rattle.ext_races.proofs.Lists.{contains_cases, contains_nothing, contains-map, contains_at, map-take_at, contains_first, contains_later}
 use Rattle.ext_races.proofs.Sides.{nodes_found, turn_tested}
 use Rattle.ext_races.proofs.Listed.{touch_alone}
 
@@ -215,3 +215,48 @@ touches_more plan before after group i d less keeps last so_far = subst (AreNote
   where
     touch : TouchText
     touch = touch_view (get_or group i d)
+
+-- ---- those that may change their place
+
+-- one that does is among them
+pub contains_changing : (touches : List TouchText) (t : TouchText) → t.changes ≡ true → Contains touches t → Contains (changing touches) t
+contains_changing [] t changes there = contains_nothing t there
+contains_changing (first ∷ more) t changes there = elim (contains_cases first t more there) [
+  | inl same ↦
+      let on : first.changes ≡ true = ap (λ (u : TouchText). u.changes) same ∙ changes in
+      subst (λ b. Contains (cond b (first ∷ changing more) (changing more)) t) (sym on) (subst (λ u. Contains (first ∷ changing more) u) same (contains_first first (changing more)))
+  | inr later ↦
+      let rest = contains_changing more t changes later in
+      by first.changes (contains_later first t (changing more) rest) rest
+]
+  where
+    by : (b : Bool) → Contains (first ∷ changing more) t → Contains (changing more) t → Contains (cond b (first ∷ changing more) (changing more)) t
+    by true with_first rest = with_first
+    by false with_first rest = rest
+
+changing_push : (touches : List TouchText) (t : TouchText) → changing (touches ++ t ∷ []) ≡ changing touches ++ cond t.changes (t ∷ []) []
+changing_push touches t = filter-append (λ u. u.changes) touches (t ∷ [])
+
+pub changing_none : (plan : PlanText) (passed : List (Option Passed)) → AreNoted plan passed (changing [])
+changing_none plan passed = record { each = λ t h. contains_nothing t h }
+
+pub changing_more : (plan : PlanText) (before after : List (Option Passed)) (group : List Touch) (i : ℕ) (d : Touch) → i < length group → Keeps before after
+    → ((get_or group i d).changes ≡ true → (get_or group i d).node < length plan.nodes → IsNoted plan after (touch_view (get_or group i d))) → AreNoted plan before (changing (map touch_view (take i group)))
+    → AreNoted plan after (changing (map touch_view (take (i + 1) group)))
+changing_more plan before after group i d less keeps last so_far =
+    subst (AreNoted plan after) (sym (ap changing (map-take_at touch_view group i d less) ∙ changing_push (map touch_view (take i group)) touch)) (record {
+      each = λ t h within. elim (Contains-append_cases (changing (map touch_view (take i group))) (cond touch.changes (touch ∷ []) []) t h) [
+        | inl old ↦ (let was = so_far.each t old within in record { each = λ child container by runs. keeps.each container child t (was.each child container by runs) })
+        | inr new ↦ by touch.changes refl t new within
+      ];
+    })
+  where
+    touch : TouchText
+    touch = touch_view (get_or group i d)
+
+    by : (b : Bool) → touch.changes ≡ b → (t : TouchText) → Contains (cond b (touch ∷ []) []) t → t.node < length plan.nodes → IsNoted plan after t
+    by true is t there within = elim (contains_cases touch t [] there) [
+      | inl same ↦ subst (λ u. u.node < length plan.nodes → IsNoted plan after u) same (last is) within
+      | inr no_more ↦ contains_nothing t no_more
+    ]
+    by false is t there within = contains_nothing t there

@@ -6,18 +6,19 @@ use Rattle.std.specs.List.{list_any}
 use Rattle.std.proofs.lemmas.Bool.{both_ways, cases_Bool, false_from_ne_true}
 use Rattle.std.proofs.lemmas.List.Folds.{list_any_at, list_any_more}
 use Rattle.ext_plan.specs.Plans.{PlanText}
+use Rattle.ext_plan.specs.StepWords.{gives_value}
 use Rattle.ext_races.specs.declared.passing.Passed.{Passed}
 use Rattle.ext_races.specs.declared.touch.Touch.{Touch}
 use Rattle.ext_races.specs.Beside.{nodes_beside}
 use Rattle.ext_races.specs.Clashes.{agree}
 use Rattle.ext_races.specs.InnerGroups.{group_at, groups_view}
-use Rattle.ext_races.specs.InnerPassing.{AreNoted, may_meet}
+use Rattle.ext_races.specs.InnerPassing.{AreNoted, changing, may_meet}
 use Rattle.ext_races.specs.InnerProving.{computes_value, group_shares, groups_share, has_share, share_beside, shares_value}
 use Rattle.ext_races.specs.Touches.{TouchText, touch_view}
 use Rattle.ext_races.proofs.Equalities.{both, both_true}
 use Rattle.ext_races.proofs.Grouped.{any_contains, group_read}
 use Rattle.ext_races.proofs.Lists.{contains_cases, contains_nothing, contains-map, contains-map_back}
-use Rattle.ext_races.proofs.Noted.{meets_where}
+use Rattle.ext_races.proofs.Noted.{contains_changing, meets_where}
 
 module _ {A : Type 0} (p : A → Bool) where
   pub any_where : (xs : List A) (x : A) → Contains xs x → p x ≡ true → list_any p xs ≡ true
@@ -36,9 +37,19 @@ module _ {A : Type 0} (p : A → Bool) where
 computes_shared : (plan : PlanText) (t u : TouchText) → share_beside plan t u ≡ true → computes_value t ≡ true
 computes_shared plan t u shares =
     let p = both (shares_value t u) (nodes_beside plan t.node u.node) shares in
-    let q = both (computes_value t && (t.context == u.context) && (t.key == u.key)) (agree t u) p.0 in
-    let r = both (computes_value t && (t.context == u.context)) (t.key == u.key) q.0 in
-    (both (computes_value t) (t.context == u.context) r.0).0
+    let q = both (computes_value t && u.changes && (t.context == u.context) && (t.key == u.key)) (agree t u) p.0 in
+    let r = both (computes_value t && u.changes && (t.context == u.context)) (t.key == u.key) q.0 in
+    let s = both (computes_value t && u.changes) (t.context == u.context) r.0 in
+    (both (computes_value t) u.changes s.0).0
+
+-- both of them change their place
+both_change : (t u : TouchText) → shares_value t u ≡ true → (t.changes ≡ true) × (u.changes ≡ true)
+both_change t u shares =
+    let q = both (computes_value t && u.changes && (t.context == u.context) && (t.key == u.key)) (agree t u) shares in
+    let r = both (computes_value t && u.changes && (t.context == u.context)) (t.key == u.key) q.0 in
+    let s = both (computes_value t && u.changes) (t.context == u.context) r.0 in
+    let p = both (computes_value t) u.changes s.0 in
+    ((both t.changes (gives_value t.word) p.0).0, p.1)
 
 module _ (plan : PlanText) (group : List Touch) where
   -- two touches share a value, if any do
@@ -57,7 +68,7 @@ module _ (plan : PlanText) (group : List Touch) where
       both_ways (list_any (λ t. computes_value (touch_view t)) group) none (any_where (λ t. computes_value (touch_view t)) group two.0 two.2 (computes_shared plan (touch_view two.0) (touch_view two.1) two.4))))
 
   -- what is noted leaves out none that shares a value
-  pub shares_noted : (passed : List (Option Passed)) → AreNoted plan passed (map touch_view group) → list_any (λ t. has_share plan passed group (touch_view t)) group ≡ group_shares plan (map touch_view group)
+  pub shares_noted : (passed : List (Option Passed)) → AreNoted plan passed (changing (map touch_view group)) → list_any (λ t. has_share plan passed group (touch_view t)) group ≡ group_shares plan (map touch_view group)
   shares_noted passed noted = elim (cases_Bool (group_shares plan (map touch_view group))) [
     | inl is ↦ let two = two_share is in has two.0 two.1 two.2 two.3 two.4 ∙ sym is
     | inr none ↦ false_from_ne_true (list_any (λ t. has_share plan passed group (touch_view t)) group) (λ any. both_ways (group_shares plan (map touch_view group)) none (shares any)) ∙ sym none
@@ -65,8 +76,11 @@ module _ (plan : PlanText) (group : List Touch) where
     where
       has : (t u : Touch) → Contains group t → Contains group u → share_beside plan (touch_view t) (touch_view u) ≡ true → list_any (λ t. has_share plan passed group (touch_view t)) group ≡ true
       has t u t_in u_in two =
-          let meet = meets_where plan passed (map touch_view group) noted false (touch_view t) (touch_view u) (contains-map touch_view group t t_in) (contains-map touch_view group u u_in) (λ so. absurd cc)
-          (both (shares_value (touch_view t) (touch_view u)) (nodes_beside plan (touch_view t).node (touch_view u).node) two).1 in
+          let parts = both (shares_value (touch_view t) (touch_view u)) (nodes_beside plan (touch_view t).node (touch_view u).node) two in
+          let change = both_change (touch_view t) (touch_view u) parts.0 in
+          let t_there = contains_changing (map touch_view group) (touch_view t) change.0 (contains-map touch_view group t t_in) in
+          let u_there = contains_changing (map touch_view group) (touch_view u) change.1 (contains-map touch_view group u u_in) in
+          let meet = meets_where plan passed (changing (map touch_view group)) noted false (touch_view t) (touch_view u) t_there u_there (λ so. absurd cc) parts.1 in
           let any = any_where (λ v. share_beside plan (touch_view t) (touch_view v)) group u u_in two in
           any_where (λ v. has_share plan passed group (touch_view v)) group t t_in (both_true _ _ (both_true _ _ (computes_shared plan (touch_view t) (touch_view u) two) meet) any)
 

@@ -2,7 +2,7 @@
 -- at or below different concurrent children of one container. So it is noted for each container whether touches pass it
 -- by several of these children, and whether all of them are alike. Touches that are all alike to one do not clash.
 use Rattle.std.specs.Prelude.{ℕ, ◌≡◌, ◌<◌, ◌⊎◌, Bool, true, false, not, ◌&&◌, ◌||◌, List, length, nat_lt, slice_index_or, Contains, Option, Some, None, if◌then◌else◌, ⊤}
-use Rattle.std.specs.List.{list_any}
+use Rattle.std.specs.List.{filter, list_any}
 use Rattle.ext_plan.specs.Plans.{PlanText}
 use Rattle.ext_plan.specs.PlanCalls.{concurrent_of}
 use Rattle.ext_plan.specs.StepWords.{computes}
@@ -15,6 +15,10 @@ use Rattle.ext_races.specs.Touches.{TouchText, touch_view}
 -- Each computes the same, or finds it; or the first does neither, and neither may change anything.
 abbrev pub alike : TouchText → TouchText → Bool
 alike t u = if computes t.acts then agree t u else not t.changes && not u.changes
+
+-- Those that may change their place.
+abbrev pub changing : List TouchText → List TouchText
+changing touches = filter (λ t. t.changes) touches
 
 -- ---- what is noted
 

@@ -14,9 +14,9 @@ use Rattle.ext_races.specs.Touches.{TouchText, touch_view}
 abbrev pub computes_value : TouchText → Bool
 computes_value t = t.changes && gives_value t.word
 
--- The first computes a value of one place, and the second computes the same one there or finds it.
+-- Both compute the same value of one place.
 abbrev pub shares_value : TouchText → TouchText → Bool
-shares_value t u = computes_value t && (t.context == u.context) && (t.key == u.key) && agree t u
+shares_value t u = computes_value t && u.changes && (t.context == u.context) && (t.key == u.key) && agree t u
 
 module _ (plan : PlanText) where
   -- So do two nodes that may run beside one another.

@@ -1,19 +1,20 @@
 -- What is noted of a plan to tell what was computed above a node (`standing`): the computes in the callbacks before the
--- body of each node with children, and which keys a step removes.
+-- body of each node with children, but for the keys that are removed.
 use Rattle.std.specs.Prelude.{ℕ, ◌≡◌, ◌≢◌, ◌<◌, ◌==◌, Bool, true, false, List, [], ◌∷◌, length, map, drop, find, Option, Some, None, option_map, slice_index_or, if◌then◌else◌}
 use Rattle.std.specs.List.{list_any}
 use Rattle.std.specs.declared.alloc.Global.{Global}
 use Rattle.std.specs.Prelude.{Vec}
 use Rattle.ext_tree.specs.Keys.{KeyValue}
 use Rattle.ext_tree.specs.Trees.{Id, IsPathOf, children_of}
-use Rattle.ext_plan.specs.Plans.{KeyText, PlanText}
+use Rattle.ext_plan.specs.Plans.{KeyText, PlanText, StepText}
 use Rattle.ext_plan.specs.ReadPlans.{ids_of_nodes}
+use Rattle.ext_plan.specs.StepCalls.{start_of}
 use Rattle.ext_plan.specs.StoreKeys.{is_there, number_of_key}
 use Rattle.ext_races.specs.declared.standing.Compute.{Compute}
 use Rattle.ext_races.specs.declared.standing.Standing.{Standing}
 use Rattle.ext_races.specs.Acts.{ActText, act_of}
-use Rattle.ext_races.specs.MadeSteps.{MadeText, plan_path, steps_before}
-use Rattle.ext_races.specs.Touches.{ComputeText, first_compute, or_above, removes_key}
+use Rattle.ext_races.specs.MadeSteps.{MadeText, path_of, plan_path, steps_before}
+use Rattle.ext_races.specs.Touches.{ComputeText, first_compute, or_above, removes_key, removes_past}
 
 -- ---- what is read
 
@@ -35,13 +36,9 @@ abbrev pub computed_in : List (List Compute) → ℕ → List ℕ → Option Com
 computed_in lists key [] = None
 computed_in lists key (node ∷ more) = or_above (compute_at (computes_of lists node) key) (computed_in lists key more)
 
-abbrev pub removed_at : List Bool → ℕ → Bool
-removed_at removed key = slice_index_or removed key false
-
 -- What was computed above the node with this path.
 abbrev pub stands : Standing → List ℕ → ℕ → Option ComputeText
-stands noted path key = if removed_at noted.removed.items key then None
-    else computed_in (computes_view noted.computes.items) key (drop 1 path)
+stands noted path key = computed_in (computes_view noted.computes.items) key (drop 1 path)
 
 -- So it is noted what was computed above each node for each key of the directory.
 pub record TellsAbove (ids : List Id) (directory : List KeyValue) (above : ℕ → KeyValue → Option ComputeText)
@@ -51,10 +48,36 @@ pub record TellsAbove (ids : List Id) (directory : List KeyValue) (above : ℕ �
 
 -- ---- how it is noted
 
+abbrev pub unless : Bool → Option ComputeText → Option ComputeText
+unless gone found = if gone then None else found
+
+abbrev pub is_number : Option ℕ → ℕ → Bool
+is_number None key = false
+is_number (Some number) key = number == key
+
+-- The context on which the act of a node with this path acts.
+abbrev pub context_of : List ℕ → Option ActText → ℕ
+context_of path None = 0
+context_of path (Some act) = start_of (drop act.up path)
+
+-- One of these steps removes the key.
+abbrev pub removed_by : List KeyText → List StepText → KeyValue → Bool
+removed_by declared steps key = list_any (λ step. removes_key declared key (act_of step)) steps
+
+-- One of these steps of a node below this one removes the key, in this node's context or above it.
+abbrev pub removed_past : List KeyText → List Id → List MadeText → ℕ → KeyValue → Bool
+removed_past declared ids made node key =
+    list_any (λ m. removes_past declared key node (path_of ids node) (path_of ids m.node) (act_of m.step)) made
+
 -- The number of a key, if it has one.
 abbrev pub IsNumber : List KeyValue → KeyValue → Option ℕ → Type 0
 IsNumber directory key None = is_there directory key ≡ false
 IsNumber directory key (Some number) = (is_there directory key ≡ true) × (number ≡ number_of_key directory key)
+
+-- The computes are the same, but for keys of this kind, of which there are none.
+pub record AreWithout (directory : List KeyValue) (gone : KeyValue → Bool) (before after : List Compute) : Type 0 where
+  pub each : (key : KeyValue) → is_there directory key ≡ true → compute_at after (number_of_key directory key)
+      ≡ unless (gone key) (compute_at before (number_of_key directory key))
 
 module _ (declared : List KeyText) (directory : List KeyValue) where
   -- These have the first compute of each key in these acts of a node with this path.
@@ -62,15 +85,26 @@ module _ (declared : List KeyText) (directory : List KeyValue) where
     pub each : (key : KeyValue) → is_there directory key ≡ true
         → compute_at computes (number_of_key directory key) ≡ first_compute declared key path acts
 
-  -- For each key it is noted whether one of these steps removes it.
-  pub record AreRemoved (steps : List MadeText) (removed : List Bool) : Type 0 where
-    pub count : length removed ≡ length directory
-    pub each : (key : KeyValue) → is_there directory key ≡ true → removed_at removed (number_of_key directory key)
-        ≡ list_any (λ made. removes_key declared key (act_of made.step)) steps
+  -- So they do, but for the keys that one of these steps removes.
+  pub record AreLeft (path : List ℕ) (steps : List StepText) (computes : List Compute) : Type 0 where
+    pub each : (key : KeyValue) → is_there directory key ≡ true → compute_at computes (number_of_key directory key)
+        ≡ unless (removed_by declared steps key) (first_compute declared key path (map act_of steps))
+
+  -- So they are in each list, but for the keys that these steps of nodes below remove.
+  pub record AreWithoutRemoved (ids : List Id) (made : List MadeText) (before after : List (List Compute)) : Type 0 where
+    pub count : length after ≡ length before
+    pub each : (node : ℕ) → AreWithout directory (removed_past declared ids made node) (computes_of before node)
+        (computes_of after node)
+
+-- This is the number of the key that the act removes; none, if it removes none of the directory.
+pub record IsRemoved (declared : List KeyText) (directory : List KeyValue) (act : Option ActText) (number : Option ℕ)
+    : Type 0 where
+  pub each : (key : KeyValue) → is_there directory key ≡ true
+      → removes_key declared key act ≡ is_number number (number_of_key directory key)
 
 -- So it is for each of the first so many nodes that has children.
 pub record AreComputed (plan : PlanText) (declared : List KeyText) (directory : List KeyValue) (count : ℕ)
     (lists : List (List Compute)) : Type 0 where
   pub long : length lists ≡ count
   pub each : (node : ℕ) → node < count → children_of (ids_of_nodes plan.nodes) node ≢ []
-      → AreFirst declared directory (plan_path plan node) (map act_of (steps_before plan node)) (computes_of lists node)
+      → AreLeft declared directory (plan_path plan node) (steps_before plan node) (computes_of lists node)

@@ -10,6 +10,7 @@ pub mod InnerPassing
 pub mod InnerProving
 pub mod InnerReach
 pub mod InnerStanding
+pub mod LockedApart
 pub mod MadeSteps
 pub mod OneReports
 pub mod Proving

@@ -1,7 +1,7 @@
 -- What a plan has to meet so that each of its runs on several lanes that lacks nothing is proved to report the same as
 -- the plain run: exactly (`HasOneReport`), or but for who computed a value and who found it (`HasNearReport`). The law
 -- is `report_laws` of ext_one_report (JUnit 5 User Guide, "Parallel Execution"; JUnit has no such rule).
-use Rattle.std.specs.Prelude.{◌≡◌, ◌≤◌, false, true, length, Contains}
+use Rattle.std.specs.Prelude.{◌≡◌, ◌≤◌, ◌&&◌, false, true, length, Contains}
 use Rattle.ext_model.specs.Sizes.{most_numbers}
 use Rattle.ext_plan.specs.Plans.{PlanText}
 use Rattle.ext_plan.specs.StepWords.{gives_value}
@@ -14,13 +14,13 @@ use Rattle.ext_races.specs.Touches.{TouchText, keys_named, numbers_drawn, touche
 -- ---- what nodes touch
 
 -- No node may change a place that a node touches that may run beside it, unless both have a factory there that fails with
--- the same text. Two nodes that compute the same value in one place, or one that computes it and one that finds it, do
--- not keep apart, though they are no race.
+-- the same text, or the second only finds there what a node above both has computed, as the first does. Two nodes that
+-- compute the same value in one place do not keep apart, though they are no race.
 pub record KeepsApart (plan : PlanText) : Type 0 where
   pub apart : (first second : TouchText) → Contains (touches_made plan) first → Contains (touches_made plan) second
       → IsBeside plan first.node second.node → first.changes ≡ true
       → first.context ≡ second.context → first.key ≡ second.key → (agree first second ≡ true)
-      × (gives_value first.word ≡ false)
+      × ((gives_value first.word && second.changes) ≡ false)
 
 -- If nodes that may run beside one another touch one place that one of them may change, that one computes there, and the
 -- other computes the same or finds it.
@@ -38,11 +38,11 @@ pub record ClosesAgreeBeside (plan : PlanText) : Type 0 where
 
 -- ---- plans without races
 
--- If two touches of one place agree, the first may change it and their nodes may run beside one another, it gives no
--- value: both have a factory there that fails.
+-- If two touches of one place agree, both may change it and their nodes may run beside one another, they give no value:
+-- both have a factory there that fails.
 pub record NoneShare (plan : PlanText) : Type 0 where
   pub none : (first second : TouchText) → Contains (touches_made plan) first → Contains (touches_made plan) second
-      → IsBeside plan first.node second.node → first.changes ≡ true
+      → IsBeside plan first.node second.node → first.changes ≡ true → second.changes ≡ true
       → first.context ≡ second.context → first.key ≡ second.key → agree first second ≡ true
       → gives_value first.word ≡ false
 
@@ -61,8 +61,8 @@ RaceFreeClosesAgree = (plan : PlanText) → ((race : Race) → ¬ IsRace plan ra
 -- ---- what the laws ask
 
 -- What the theorem asks of a plan: nodes that may run beside one another touch no place that one of them may change, but
--- to fail alike there, and leave no values in one context whose closes fail with different texts; and there are keys for
--- all that its steps name, and numbers for all that they may draw.
+-- to fail alike there or to find what was computed above both, and leave no values in one context whose closes fail with
+-- different texts; and there are keys for all that its steps name, and numbers for all that they may draw.
 pub record HasOneReport (plan : PlanText) : Type 0 where
   pub apart : KeepsApart plan
   pub closes : ClosesAgreeBeside plan

@@ -3,8 +3,9 @@
 --     WORD KEY of ID and WORD KEY of ID in ID
 --
 -- with the step of the node that comes first in the plan, that of the other, and the context of the place. A step is
--- shown by its first word, the word by which the plan's steps first name its key, and the id of its node. A line
--- `and more` follows if there are more. If there is no race, the only line says so, and what is proved of the plan's
+-- shown by its first word, the word by which the plan's steps first name its key, and the id of its node. Where both are
+-- tests that never run at one moment the line goes on, since either may still go first. A line `and more` follows if
+-- there are more. If there is no race, the only line says so, and what is proved of the plan's
 -- report. A limit that the plan exceeds has a line of its own, which tells it in decimal. Texts are bytes; the format is
 -- not from JUnit.
 use Rattle.std.specs.Prelude.{ℕ, codes, List, [], ◌++◌, length, nat_lt, take, Option, Some, None, if◌then◌else◌}
@@ -17,6 +18,7 @@ use Rattle.ext_plan.specs.Plans.{NodeText, PlanText, step_key_view}
 use Rattle.ext_plan.specs.StepCalls.{label_of}
 use Rattle.ext_plan.specs.declared.plan.StepKey.{StepKey}
 use Rattle.ext_plan.specs.StepWords.{word_text}
+use Rattle.ext_races.specs.LockedApart.{locked_apart}
 use Rattle.ext_races.specs.declared.race.Race.{Race}
 use Rattle.ext_races.specs.declared.race.Side.{Side}
 use Rattle.ext_races.specs.declared.proved.Proved.{Proved}
@@ -48,6 +50,10 @@ module _ (plan : PlanText) where
   name_if None = []
   name_if (Some name) = label_of plan.keys (step_key_view name.now)
 
+  -- What a lock does, where it keeps two tests apart.
+  unfoldable pub lock_text : ℕ → ℕ → List ℕ
+  lock_text first second = if locked_apart plan first second then codes ": a lock keeps them apart, not in order" else []
+
   -- ---- lines
 
   module _ (names : List (Bor StepKey)) where
@@ -58,7 +64,7 @@ module _ (plan : PlanText) where
 
     unfoldable pub race_line : Race → List ℕ
     race_line race = side_text race.first ++ codes " and " ++ side_text race.second ++ codes " in "
-        ++ id_of_node race.context ++ codes "\n"
+        ++ id_of_node race.context ++ lock_text race.first.node race.second.node ++ codes "\n"
 
     -- The lines of the first races, and whether there are more.
     abbrev pub race_lines : List Race → List ℕ

@@ -104,6 +104,12 @@ module _ (declared : List KeyText) (key : KeyValue) where
   removes_key None = false
   removes_key (Some act) = word_eq act.word words.Remove && key_eq (key_of_step declared act.key) key
 
+  -- The act of a node with this path, which is below this node, removes the key in one of these contexts.
+  abbrev pub removes_past : ℕ → List ℕ → List ℕ → Option ActText → Bool
+  removes_past node contexts path None = false
+  removes_past node contexts path (Some act) = removes_key (Some act) && list_any (λ c. c == node) (drop 1 path)
+      && list_any (λ c. c == start_of (drop act.up path)) contexts
+
   -- The first of these acts that computes the key, as a compute of the node with this path.
   abbrev pub first_compute : List ℕ → List (Option ActText) → Option ComputeText
   first_compute path [] = None
@@ -118,22 +124,30 @@ or_above None above = above
 or_above (Some here) above = Some here
 
 module _ (plan : PlanText) where
-  -- The first compute of the key in the callbacks before all children of the nearest node that has one. Each of these
-  -- nodes is followed by those above it.
+  -- A callback before all children of the node removes the key; or a step of a node below it does, in this node's context
+  -- or above it. Other nodes that remove it there run before those callbacks or after all that is below the node, or else
+  -- race with its computes.
+  abbrev pub is_removed : ℕ → KeyValue → Bool
+  is_removed node key = list_any (λ step. removes_key plan.keys key (act_of step)) (steps_before plan node)
+      || list_any (λ made. removes_past plan.keys key node (plan_path plan node) (plan_path plan made.node)
+      (act_of made.step)) (steps_made plan)
+
+  -- The first compute of the key in the callbacks before all children of the node, which has this path, unless it is
+  -- removed.
+  abbrev pub computed_by : KeyValue → ℕ → List ℕ → Option ComputeText
+  computed_by key node path = if is_removed node key then None
+      else first_compute plan.keys key path (map act_of (steps_before plan node))
+
+  -- That of the nearest node that has one. Each of these nodes is followed by those above it.
   abbrev pub computed_above : KeyValue → List ℕ → Option ComputeText
   computed_above key [] = None
-  computed_above key (node ∷ above) =
-      or_above (first_compute plan.keys key (node ∷ above) (map act_of (steps_before plan node))) (computed_above key above)
-
-  -- A step of the plan removes the key.
-  abbrev pub is_removed : KeyValue → Bool
-  is_removed key = list_any (λ made. removes_key plan.keys key (act_of made.step)) (steps_made plan)
+  computed_above key (node ∷ above) = or_above (computed_by key node (node ∷ above)) (computed_above key above)
 
   -- The compute whose value stands when a node begins. By then these callbacks of the nodes above it have succeeded, so
-  -- a value stands in the context on which the compute acts, or above it. If no step removes the key, one stands there
-  -- until that context is closed.
+  -- a value stands in the context on which the compute acts, or above it, and does so until their node's children have
+  -- ended.
   abbrev pub standing : ℕ → KeyValue → Option ComputeText
-  standing node key = if is_removed key then None else computed_above key (drop 1 (plan_path plan node))
+  standing node key = computed_above key (drop 1 (plan_path plan node))
 
 -- How a look-up touches the place in a context, after this compute above its node.
 abbrev pub look_at : ℕ → ℕ → ActText → Option ComputeText → ℕ → TouchText

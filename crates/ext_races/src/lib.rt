@@ -15,6 +15,7 @@ mod finding;
 mod found;
 mod groups;
 mod listing;
+mod locked_apart;
 mod made;
 mod naming;
 mod passing;

@@ -3,7 +3,7 @@ ghost use Rattle.std.specs.Prelude.{◌≡◌, ◌<◌, true, All, IfOk, length,
 ghost use Rattle.ext_plan.specs.Plans.{plan_view};
 ghost use Rattle.ext_plan.specs.PlanCalls.{concurrent_of};
 ghost use Rattle.ext_plan.specs.ReadPlans.{ids_of_nodes};
-ghost use Rattle.ext_races.specs.InnerPassing.{AreNoted, HasNoted, HasNotedIf, IsNoted, Keeps, KeepsIf, KeepsOne, may_meet, meets, passed_at, path_meets};
+ghost use Rattle.ext_races.specs.InnerPassing.{AreNoted, HasNoted, HasNotedIf, IsNoted, Keeps, KeepsIf, KeepsOne, changing, may_meet, meets, passed_at, path_meets};
 ghost use Rattle.ext_races.specs.Touches.{touch_view};
 
 use crate::made::path_in;
@@ -73,6 +73,19 @@ pub(crate) fn note_group<'p>(plan: &Plan, group: &[Touch<'p>], passed: &mut [Opt
     forget_paths(plan.tree(), group, passed);
     for touch in group {
         note_touch(plan, touch, passed);
+    }
+}
+
+/// The same of those touches that may change their place.
+pub(crate) fn note_changing<'p>(plan: &Plan, group: &[Touch<'p>], passed: &mut [Option<Passed<'p>>])
+    requires { length passed.old ≡ length (ids_of_nodes (plan_view plan.now).nodes) }
+    ensures { AreNoted (plan_view plan.now) passed.new (changing (map touch_view group.now)) }
+{
+    forget_paths(plan.tree(), group, passed);
+    for touch in group {
+        if touch.changes {
+            note_touch(plan, touch, passed);
+        }
     }
 }
 

@@ -12,7 +12,7 @@ ghost use Rattle.ext_races.specs.Races.{IsRace};
 ghost use Rattle.ext_races.specs.Touches.{keys_named, numbers_drawn, touch_view, touches_made};
 
 use crate::beside::nodes_beside;
-use crate::passing::{Passed, may_meet, none_passed, note_group};
+use crate::passing::{Passed, may_meet, none_passed, note_changing};
 use crate::proved::Proved;
 use crate::touch::Touch;
 use ext_plan::Plan;
@@ -40,8 +40,8 @@ pub(crate) fn proved_of<'p>(
     }
 }
 
-/// Tests whether of nodes that may run beside one another one computes a value, and the other the
-/// same one in that place, or finds it. What is noted in `passed` before does not matter.
+/// Tests whether two nodes that may run beside one another compute the same value in one place. What
+/// is noted in `passed` before does not matter.
 fn groups_share<'p>(
     plan: &Plan,
     groups: &[Vec<Touch<'p>>],
@@ -66,7 +66,7 @@ fn group_shares<'p>(plan: &Plan, group: &[Touch<'p>], passed: &mut [Option<Passe
     if !computes_any(group) {
         return false;
     }
-    note_group(plan, group, passed);
+    note_changing(plan, group, passed);
     any_shares(plan, group, passed)
 }
 
@@ -86,8 +86,8 @@ fn any_shares(plan: &Plan, group: &[Touch<'_>], passed: &[Option<Passed<'_>>]) -
         .any(|touch| has_share(plan, group, passed, touch))
 }
 
-/// Tests whether this computes a value, and a touch of the group the same one, or finds it, by a
-/// node that may run beside its node.
+/// Tests whether this computes a value, and so does a touch of the group, by a node that may run
+/// beside its node.
 fn has_share(
     plan: &Plan,
     group: &[Touch<'_>],
@@ -108,8 +108,7 @@ fn any_share(plan: &Plan, group: &[Touch<'_>], touch: &Touch<'_>) -> bool
     group.iter().any(|other| share_beside(plan, touch, other))
 }
 
-/// Tests whether one computes a value, and the other the same one there, or finds it, by nodes that
-/// may run beside one another.
+/// Tests whether both compute the same value there, by nodes that may run beside one another.
 fn share_beside(plan: &Plan, touch: &Touch<'_>, other: &Touch<'_>) -> bool
     ensures { result ≡ share_beside (plan_view plan.now) (touch_view touch.now) (touch_view other.now) }
 {

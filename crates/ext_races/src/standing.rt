@@ -1,6 +1,6 @@
 //! What was computed above a node when it begins.
-ghost use Rattle.std.specs.Prelude.{◌≡◌, ◌≢◌, ◌<◌, [], ◌∷◌, ◌++◌, false, ℕ, List, Option, IfOk, OnOk, drop, length, map, option_map};
-ghost use Rattle.std.specs.List.{flat_map};
+ghost use Rattle.std.specs.Prelude.{◌≡◌, ◌≢◌, ◌<◌, ◌==◌, ◌&&◌, [], ◌∷◌, ◌++◌, ℕ, All, List, Option, IfOk, OnOk, drop, length, map, not, option_map, vec_len};
+ghost use Rattle.std.specs.List.{filter, flat_map, list_any};
 ghost use Rattle.ext_tree.specs.Trees.{children_of};
 ghost use Rattle.ext_plan.specs.Plans.{plan_view, step_key_view, step_view};
 ghost use Rattle.ext_plan.specs.PlanCalls.{steps_of_call};
@@ -9,8 +9,8 @@ ghost use Rattle.ext_plan.specs.StepCalls.{keys_in, start_of};
 ghost use Rattle.ext_plan.specs.StoreKeys.{key_of_step};
 ghost use Rattle.ext_races.specs.Acts.{ActText, act_of, act_view};
 ghost use Rattle.ext_races.specs.InnerMade.{made_view, made_views};
-ghost use Rattle.ext_races.specs.InnerStanding.{AreComputed, AreFirst, AreRemoved, IsNumber, TellsAbove, compute_at, compute_view, computed_in, computes_of, computes_view, removed_at, stands};
-ghost use Rattle.ext_races.specs.MadeSteps.{MadeText, plan_path, steps_before, steps_made};
+ghost use Rattle.ext_races.specs.InnerStanding.{AreComputed, AreFirst, AreLeft, AreWithout, AreWithoutRemoved, IsNumber, IsRemoved, TellsAbove, compute_at, compute_view, computed_in, computes_of, computes_view, context_of, is_number, removed_by, stands, unless};
+ghost use Rattle.ext_races.specs.MadeSteps.{path_of, plan_path, steps_before, steps_made};
 ghost use Rattle.ext_races.specs.Touches.{or_above, standing};
 
 use crate::act::act_of;
@@ -19,7 +19,7 @@ use crate::naming::store_key;
 use ext_lifecycle::Call;
 use ext_model::{ContextNo, KeyNo};
 use ext_plan::{KeyedStep, Plan, Step, StepKey, StepKeys, Word};
-use ext_tree::Directory;
+use ext_tree::{Directory, Tree};
 use std::alloc::{AllocError, Global};
 
 /// A compute: for which key, in which context, with which word and text.
@@ -34,14 +34,12 @@ pub(crate) struct Compute<'p> {
 /// What is noted of a plan.
 #[derive(Drop)]
 pub(crate) struct Standing<'p> {
-    /// For each node with children the first compute of each key in its callbacks before them.
+    /// For each node with children the first compute of each key in its callbacks before them, if no
+    /// step removes the key.
     computes: Vec<Vec<Compute<'p>>>,
-    /// For each key whether a step removes it.
-    removed: Vec<bool>,
 }
 
-/// What was computed above the node with this path for the key with this number, if no step removes
-/// the key.
+/// What was computed above the node with this path for the key with this number.
 pub(crate) fn stands<'p>(
     standing: &Standing<'p>,
     path: &[ContextNo],
@@ -49,9 +47,6 @@ pub(crate) fn stands<'p>(
 ) -> Option<Compute<'p>>
     ensures { option_map compute_view result ≡ stands standing.now path.now key }
 {
-    if is_removed(standing.removed.as_slice(), key) {
-        return None;
-    }
     computed_in(standing.computes.as_slice(), key, above(path))
 }
 
@@ -63,12 +58,6 @@ fn above(path: &[ContextNo]) -> &[ContextNo]
         Some((_, above)) => above,
         None => path,
     }
-}
-
-fn is_removed(removed: &[bool], key: KeyNo) -> bool
-    ensures { result ≡ removed_at removed.now key }
-{
-    removed.get(key).copied().unwrap_or(false)
 }
 
 /// The compute of the first of these nodes that has one of the key with this number.
@@ -107,9 +96,8 @@ fn compute_at<'p>(computes: &[Compute<'p>], key: KeyNo) -> Option<Compute<'p>>
 
 // ---- what is noted
 
-/// Notes what the callbacks before all children compute, and which keys these steps remove, for keys
-/// in the directory. Takes memory for each node, for each key that it computes, 40 bytes, and for
-/// each key.
+/// Notes what the callbacks before all children compute, for keys in the directory that no step
+/// removes. Takes memory for each node, and for each key that it computes, 40 bytes.
 pub(crate) fn standing_of<'p>(
     alloc: Global,
     keys: &StepKeys<'_>,
@@ -120,11 +108,12 @@ pub(crate) fn standing_of<'p>(
     requires plan { IsRunnablePlan (plan_view plan.now) }
     requires keys { keys_in keys.now ≡ (plan_view plan.now).keys }
     requires made { made_views [] made.now ≡ steps_made (plan_view plan.now) }
+    requires nodes { All (λ m. m.node < length (ids_of_nodes (plan_view plan.now).nodes)) made.now }
     ensures { IfOk result (TellsAbove (ids_of_nodes (plan_view plan.now).nodes) directory.now (standing (plan_view plan.now))) }
 {
-    let computes = computes_made(alloc, keys, directory, plan)?;
-    let removed = keys_removed(alloc, keys, directory, made)?;
-    Ok(Standing { computes, removed })
+    let mut computes = computes_made(alloc, keys, directory, plan)?;
+    forget_made(alloc, keys, directory, plan.tree(), made, &mut computes)?;
+    Ok(Standing { computes })
 }
 
 /// For each node the computes in its callbacks before all children.
@@ -146,7 +135,8 @@ fn computes_made<'p>(
     Ok(lists)
 }
 
-/// The computes in the callbacks before the body of a node; none, if it has no children.
+/// The computes in the callbacks before the body of a node, for keys that these don't remove; none,
+/// if it has no children.
 fn computes_before<'p>(
     alloc: Global,
     keys: &StepKeys<'_>,
@@ -156,7 +146,7 @@ fn computes_before<'p>(
 ) -> Result<Vec<Compute<'p>>, AllocError>
     requires few { CallbacksAreFew (plan_view plan.now) }
     requires node { node < length (ids_of_nodes (plan_view plan.now).nodes) }
-    ensures { IfOk result (λ v. children_of (ids_of_nodes (plan_view plan.now).nodes) node ≢ [] → AreFirst (keys_in keys.now) directory.now (plan_path (plan_view plan.now) node) (map act_of (steps_before (plan_view plan.now) node)) v.items) }
+    ensures { IfOk result (λ v. children_of (ids_of_nodes (plan_view plan.now).nodes) node ≢ [] → AreLeft (keys_in keys.now) directory.now (plan_path (plan_view plan.now) node) (steps_before (plan_view plan.now) node) v.items) }
 {
     let tree = plan.tree();
     let mut computes = Vec::new(alloc);
@@ -171,6 +161,14 @@ fn computes_before<'p>(
         directory,
         plan,
         path,
+        calls.as_slice(),
+        &mut computes,
+    )?;
+    forget_calls(
+        alloc,
+        keys,
+        directory,
+        plan,
         calls.as_slice(),
         &mut computes,
     )?;
@@ -282,52 +280,141 @@ fn number_in(
 
 // ---- the keys that are removed
 
-/// For each key of the directory whether one of these steps removes it.
-fn keys_removed(
+/// Forgets the computes of the keys that the steps of these calls remove.
+fn forget_calls(
     alloc: Global,
     keys: &StepKeys<'_>,
     directory: &Directory,
-    made: &[MadeStep<'_>],
-) -> Result<Vec<bool>, AllocError>
-    ensures { IfOk result (λ v. AreRemoved (keys_in keys.now) directory.now (map made_view made.now) v.items) }
-{
-    let mut removed = none_removed(alloc, directory.len())?;
-    for step in made {
-        note_removed(alloc, keys, directory, step, &mut removed)?;
-    }
-    Ok(removed)
-}
-
-fn none_removed(alloc: Global, keys: usize) -> Result<Vec<bool>, AllocError>
-    ensures count { IfOk result (λ v. length v.items ≡ keys) }
-    ensures none { IfOk result (λ v. (key : ℕ) → removed_at v.items key ≡ false) }
-{
-    let mut removed = Vec::new(alloc);
-    for _ in 0..keys {
-        removed.push(false)?;
-    }
-    Ok(removed)
-}
-
-/// Notes the key that a step removes, if it does.
-fn note_removed(
-    alloc: Global,
-    keys: &StepKeys<'_>,
-    directory: &Directory,
-    step: &MadeStep<'_>,
-    removed: &mut Vec<bool>,
+    plan: &Plan,
+    calls: &[Call],
+    computes: &mut Vec<Compute<'_>>,
 ) -> Result<(), AllocError>
-    requires { length removed.old.items ≡ length directory.now }
-    ensures { OnOk result ((before : List MadeText) → AreRemoved (keys_in keys.now) directory.now before removed.old.items → AreRemoved (keys_in keys.now) directory.now (before ++ made_view step.now ∷ []) removed.new.items) }
+    ensures { OnOk result (AreWithout directory.now (removed_by (keys_in keys.now) (flat_map (steps_of_call (plan_view plan.now)) calls.now)) computes.old.items computes.new.items) }
 {
-    let Some(act) = act_of(step.step) else {
-        return Ok(());
-    };
-    if act.word != Word::Remove {
-        return Ok(());
-    }
-    if let Some(key) = number_in(alloc, keys, directory, act.key)? {
-        removed[key] = true;
+    for call in calls {
+        forget_steps(alloc, keys, directory, plan.steps_of(call), computes)?;
     }
     Ok(())
+}
+
+/// Forgets the computes of the keys that these steps remove.
+fn forget_steps(
+    alloc: Global,
+    keys: &StepKeys<'_>,
+    directory: &Directory,
+    steps: &[Step],
+    computes: &mut Vec<Compute<'_>>,
+) -> Result<(), AllocError>
+    ensures { OnOk result (AreWithout directory.now (removed_by (keys_in keys.now) (map step_view steps.now)) computes.old.items computes.new.items) }
+{
+    for step in steps {
+        let key = key_removed(alloc, keys, directory, step)?;
+        forget_key(computes, key);
+    }
+    Ok(())
+}
+
+/// Forgets for each node the computes of the keys that these steps remove, if they are of nodes
+/// below it and act on its context or above.
+fn forget_made(
+    alloc: Global,
+    keys: &StepKeys<'_>,
+    directory: &Directory,
+    tree: &Tree,
+    made: &[MadeStep<'_>],
+    lists: &mut Vec<Vec<Compute<'_>>>,
+) -> Result<(), AllocError>
+    requires count { vec_len lists.old ≡ length tree.now }
+    requires nodes { All (λ m. m.node < length tree.now) made.now }
+    ensures { OnOk result (AreWithoutRemoved (keys_in keys.now) directory.now tree.now (map made_view made.now) (computes_view lists.old.items) (computes_view lists.new.items)) }
+{
+    for step in made {
+        let key = key_removed(alloc, keys, directory, step.step)?;
+        let path = path_in(tree, step.node);
+        forget_past(tree, lists, above(path), context_of(step.step, path), key);
+    }
+    Ok(())
+}
+
+/// The context on which a step of the node with this path acts.
+fn context_of(step: &Step, path: &[ContextNo]) -> ContextNo
+    ensures { result ≡ context_of path.now (act_of (step_view step.now)) }
+{
+    match act_of(step) {
+        Some(act) => context_up(path, act.up),
+        None => 0,
+    }
+}
+
+/// Forgets for each of these nodes on whose path the context stands the compute of the key with this
+/// number.
+fn forget_past(
+    tree: &Tree,
+    lists: &mut Vec<Vec<Compute<'_>>>,
+    nodes: &[ContextNo],
+    context: ContextNo,
+    key: Option<KeyNo>,
+)
+    requires count { vec_len lists.old ≡ length tree.now }
+    requires nodes { All (λ c. c < length tree.now) nodes.now }
+    ensures count { vec_len lists.new ≡ vec_len lists.old }
+    ensures forgotten { (node number : ℕ) → compute_at (computes_of (computes_view lists.new.items) node) number ≡ unless (is_number key number && list_any (λ c. c == node) nodes.now && list_any (λ c. c == context) (path_of tree.now node)) (compute_at (computes_of (computes_view lists.old.items) node) number) }
+{
+    for node in nodes {
+        let key = key_past(path_in(tree, *node), context, key);
+        forget_key(&mut lists[*node], key);
+    }
+}
+
+/// The number of this key, if the context stands on the path.
+fn key_past(path: &[ContextNo], context: ContextNo, key: Option<KeyNo>) -> Option<KeyNo>
+    ensures { (number : ℕ) → is_number result number ≡ (is_number key number && list_any (λ c. c == context) path.now) }
+{
+    if is_on(path, context) {
+        return key;
+    }
+    None
+}
+
+/// Tests whether the context stands on the path.
+fn is_on(path: &[ContextNo], context: ContextNo) -> bool
+    ensures { result ≡ list_any (λ c. c == context) path.now }
+{
+    path.iter().any(|at| *at == context)
+}
+
+/// Forgets the compute of the key with this number.
+fn forget_key(computes: &mut Vec<Compute<'_>>, key: Option<KeyNo>)
+    ensures { computes.new.items ≡ filter (λ c. not (is_number key c.key)) computes.old.items }
+{
+    computes.retain(|compute| !is_of(key, compute));
+}
+
+/// Tests whether the compute is of the key with this number.
+fn is_of(key: Option<KeyNo>, compute: &Compute<'_>) -> bool
+    ensures { result ≡ is_number key compute.now.key }
+{
+    match key {
+        Some(key) => key == compute.key,
+        None => false,
+    }
+}
+
+/// The number of the key that a step removes, if it removes one of the directory.
+fn key_removed(
+    alloc: Global,
+    keys: &StepKeys<'_>,
+    directory: &Directory,
+    step: &Step,
+) -> Result<Option<KeyNo>, AllocError>
+    ensures { IfOk result (IsRemoved (keys_in keys.now) directory.now (act_of (step_view step.now))) }
+{
+    let Some(act) = act_of(step) else {
+        return Ok(None);
+    };
+    if act.word != Word::Remove {
+        return Ok(None);
+    }
+    let number = number_in(alloc, keys, directory, act.key)?;
+    Ok(number)
 }

@@ -5,8 +5,9 @@ ghost use Rattle.std.specs.List.{flat_map, slice_get};
 ghost use Rattle.ext_model.specs.Sizes.{most_numbers};
 ghost use Rattle.ext_plan.specs.Plans.{plan_view, step_key_view};
 ghost use Rattle.ext_plan.specs.StepCalls.{label_of};
-ghost use Rattle.ext_races.specs.RaceLines.{found_text, id_of_node, line_limit, name_if, proved_text, race_line, race_lines, side_text};
+ghost use Rattle.ext_races.specs.RaceLines.{found_text, id_of_node, line_limit, lock_text, name_if, proved_text, race_line, race_lines, side_text};
 
+use crate::locked_apart::locked_apart;
 use crate::{Found, Proved, Race, Side};
 use ext_model::{ContextNo, KeyNo};
 use ext_plan::{Plan, StepKey};
@@ -16,8 +17,9 @@ use std::alloc::{AllocError, Global};
 pub(crate) const LINES: usize = 20;
 
 /// Returns the text of what `races` found, in which each of the first 20 races has a line. Such a
-/// line is `put a of [engine:x]/[test:m] and want a of [engine:x]/[test:n] in [engine:x]`. The line
-/// `and more` follows if there are more. If there are none, the only line is `no races: one report`
+/// line is `put a of [engine:x]/[test:m] and want a of [engine:x]/[test:n] in [engine:x]`, and
+/// `: a lock keeps them apart, not in order` behind it where both are tests under a common lock of
+/// which one is for writing, or one of both is isolated. The line `and more` follows if there are more. If there are none, the only line is `no races: one report`
 /// or `no races: one report but for computed and found`. If the plan exceeds a limit, the only line
 /// names it.
 ///
@@ -109,7 +111,19 @@ fn push_race(
     push_side(text, plan, &race.second, names)?;
     text.push_str(" in ")?;
     push_id(text, plan, race.context)?;
+    text.push_str(lock_text(plan, race.first.node, race.second.node))?;
     text.push_str("\n")
+}
+
+/// What a lock does, where it keeps two tests apart; else empty.
+fn lock_text(plan: &Plan, first: ContextNo, second: ContextNo) -> &'static str
+    ensures { result.now ≡ lock_text (plan_view plan.now) first second }
+{
+    if locked_apart(plan, first, second) {
+        ": a lock keeps them apart, not in order"
+    } else {
+        ""
+    }
 }
 
 /// Adds what is proved of a plan without races.

@@ -149,12 +149,12 @@ impl Touch<'_> {
         self.changes && self.word.gives_value()
     }
 
-    /// Tests whether it computes a value of one place, and the other computes the same one there or
-    /// finds it.
+    /// Tests whether both compute the same value of one place.
     pub(crate) fn shares_value(&self, other: &Touch<'_>) -> bool
         ensures { result ≡ shares_value (touch_view self.now) (touch_view other.now) }
     {
         self.computes_value()
+            && other.changes
             && self.context == other.context
             && self.key == other.key
             && self.agrees(other)

@@ -5,7 +5,8 @@
 --
 -- with no space between tokens and a line feed after each object. The members come in this order. `fault` is null if
 -- the node has none, and a lack of memory is the fault `no memory`. The other values are those of the report's text
--- (`Report`). `print` of the kit's JSON says how a text is written, and a text reads back as it was.
+-- (`Report`). `print` of the kit's JSON says how a text is written, and `JsonTexts` which characters it escapes besides; a
+-- text reads back as it was.
 --
 -- What is known of the node beside its result (`Extras`) comes last: `millis`, how long it took, where that is known, and
 -- `attempt`, at which attempt it passed, of a successful node and from the second on:
@@ -28,6 +29,7 @@ use Rattle.ext_lifecycle.specs.declared.status.Status.TheVariants as statuses
 use Rattle.ext_lifecycle.specs.FaultTexts.{NodeOutcome}
 use Rattle.ext_report.specs.declared.extra.Extra.{Extra}
 use Rattle.ext_report.specs.Extras.{extra_of}
+use Rattle.ext_report.specs.JsonTexts.{json_text}
 use Rattle.ext_report.specs.Report.{counts_of, is_status, status_text, sums_of}
 use Rattle.ext_report.specs.declared.totals.TestCounts.{TestCounts}
 use Rattle.ext_report.specs.declared.totals.NodeSums.{NodeSums}
@@ -73,7 +75,7 @@ node_object id extra r =
     begin_object ∷ (ending_members id r ++ (count_members r ++ (extra_members r.status extra ++ end_object ∷ [])))
 
 abbrev pub json_line : List Extra → List Pair → NodeOutcome → List ℕ
-json_line extras id r = print (node_object (id_text id) (extra_of extras r.node) r) ++ codes "\n"
+json_line extras id r = json_text (print (node_object (id_text id) (extra_of extras r.node) r)) ++ codes "\n"
 
 -- The lines of the nodes, in the order of the list.
 abbrev pub json_lines : List Extra → List (List Pair) → List NodeOutcome → List ℕ

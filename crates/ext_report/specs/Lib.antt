@@ -4,6 +4,7 @@ pub mod Report
 pub mod Groups
 pub mod InnerPutting
 pub mod InnerSuites
+pub mod JsonTexts
 pub mod JsonLines
 pub mod TreeLines
 pub mod TerminalLines

@@ -4,9 +4,11 @@ ghost use Rattle.ext_lifecycle.specs.FaultTexts.{fault_text, result_view, result
 ghost use Rattle.json.specs.Token.{boolean, key, string};
 ghost use Rattle.json.specs.Print.{print};
 ghost use Rattle.ext_report.specs.JsonLines.{attempt_member, count_member, count_members, ending_members, extra_members, fault_token, json_line, json_lines, json_report, json_with, node_object, time_member, totals_line};
+ghost use Rattle.ext_report.specs.JsonTexts.{json_text};
 
 use crate::extra::{Extra, extra_of};
 use crate::is_status::is_status;
+use crate::json_text::printed_json;
 use crate::line::{fault_text, status_text};
 use crate::totals::{NodeSums, TestCounts};
 use ext_ids::UniqueId;
@@ -22,6 +24,7 @@ use std::alloc::{AllocError, Global};
 ///
 /// An object has the members `id`, `test`, `status`, `fault`, `more`, `computed`, `found`, `closed`
 /// and `close_faults`, in this order. `fault` is null if the result has none, whatever its status.
+/// U+007F to U+009F, and the characters that turn the direction of a text, are escaped.
 /// The last object has `version`, which is 1, and `totals`: an object with `tests`, `successful`,
 /// `aborted`, `failed` and `skipped` of the tests, and `computed`, `found`, `closed` and
 /// `close_faults` of all nodes.
@@ -75,7 +78,7 @@ fn lines_of(
     let mut lines = Vec::new(alloc);
     for node in results {
         let line = line_of(alloc, extras, tree.id(node.node), node)?;
-        lines.extend_from_slice(line.as_slice())?;
+        lines.extend_from_slice(line.as_bytes())?;
     }
     Ok(lines)
 }
@@ -96,33 +99,44 @@ fn line_of(
     extras: &[Extra],
     id: &UniqueId,
     node: &NodeResult,
-) -> Result<Vec<u8>, AllocError>
-    ensures { IfOk result (λ line. line.items ≡ json_line extras.now id.now (result_view node.now)) }
+) -> Result<String, AllocError>
+    ensures { IfOk result (λ line. string_bytes line ≡ json_line extras.now id.now (result_view node.now)) }
 {
     let mut name = String::new(alloc);
     id.write_to(&mut name)?;
     let mut line = object_of(alloc, name.as_str(), extra_of(extras, node.node), node)?;
-    line.push(b'\n')?;
+    line.push_str("\n")?;
     Ok(line)
 }
 
 /// The object of a node with this id, of which this is known.
+fn object_of(alloc: Global, id: &str, extra: Extra, node: &NodeResult) -> Result<String, AllocError>
+    ensures { IfOk result
+        (λ text. string_bytes text ≡ json_text (print (node_object id.now extra (result_view node.now)))) }
+{
+    let mut writer = Writer::new(Vec::new(alloc));
+    write_object(&mut writer, id, extra, node)?;
+    let text = printed_json(alloc, writer)?;
+    Ok(text)
+}
+
+/// Writes the object of a node with this id, of which this is known.
 #[tactic(auto, unfolding(crate::specs::JsonLines::node_object))]
-fn object_of(
-    alloc: Global,
+fn write_object(
+    writer: &mut Writer,
     id: &str,
     extra: Extra,
     node: &NodeResult,
-) -> Result<Vec<u8>, AllocError>
-    ensures { IfOk result (λ text. text.items ≡ print (node_object id.now extra (result_view node.now))) }
+) -> Result<(), AllocError>
+    ensures before { OnOk result (writer.new.before ≡ writer.old.before) }
+    ensures tokens { OnOk result
+        (writer.new.tokens ≡ writer.old.tokens ++ node_object id.now extra (result_view node.now)) }
 {
-    let mut writer = Writer::new(Vec::new(alloc));
     writer.begin_object()?;
-    write_ending(&mut writer, id, node)?;
-    write_counts(&mut writer, node)?;
-    write_extra(&mut writer, node.status, extra)?;
-    writer.end_object()?;
-    Ok(writer.into_inner())
+    write_ending(writer, id, node)?;
+    write_counts(writer, node)?;
+    write_extra(writer, node.status, extra)?;
+    writer.end_object()
 }
 
 /// Writes the members that say what a node is and how it ended.

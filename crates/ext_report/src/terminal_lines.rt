@@ -2,11 +2,11 @@
 ghost use Rattle.std.specs.Prelude.{◌≡◌, ◌<◌, ◌++◌, length, string_bytes, All, IfOk, OnOk};
 ghost use Rattle.ext_lifecycle.specs.FaultTexts.{result_view, results_view};
 ghost use Rattle.ext_report.specs.Report.{fault_part, tells_fault};
-ghost use Rattle.ext_report.specs.TerminalLines.{apart, color_of, containers_line, each_line, escape, failed_containers, line_again, shown_line, shown_status, terminal_of, visible};
+ghost use Rattle.ext_report.specs.TerminalLines.{apart, closed_part, color_of, containers_line, count_part, each_line, escape, failed_containers, line_if_fault, line_unless_fault, shown_counts, shown_line, shown_status, terminal_of, visible};
 
 use crate::is_status::is_status;
 use crate::line::{status_text, write_fault};
-use crate::totals::{NodeSums, TestCounts};
+use crate::totals::TestCounts;
 use crate::visible::write_visible;
 use ext_ids::UniqueId;
 use ext_lifecycle::{NodeResult, Status};
@@ -14,10 +14,11 @@ use ext_tree::Tree;
 use std::alloc::{AllocError, Global};
 
 /// Returns the report of results for people at a terminal: one line for each, in the order of the
-/// list, two lines of totals, and behind an empty line those of the nodes that aborted or failed
-/// once more. If containers failed, a line between the totals says how many. Control characters of
-/// ids and faults are escaped; with `colored` each status has a colour. Each result is of a context
-/// of the tree. A context may have no result, or several.
+/// list, those of the nodes that aborted or failed last, between empty lines, and then the totals of
+/// the tests. If containers failed, another line says how many. Counts that are 0 are left out, but
+/// for that of all tests. Control characters of ids and faults, and those that turn the direction
+/// of a text, are escaped; with `colored` each status has a colour. Each result is of a context of
+/// the tree. A context may have no result, or several.
 ///
 /// Takes memory for the text, and fails with `AllocError` only if that is refused.
 pub fn terminal_report(
@@ -30,12 +31,11 @@ pub fn terminal_report(
     ensures { IfOk result
         (λ text. string_bytes text ≡ terminal_of colored tree.now (results_view results.now)) }
 {
-    let mut text = lines(alloc, tree, results, colored)?;
-    TestCounts::of(results).write_to(&mut text)?;
-    write_containers(&mut text, failed_containers(results))?;
-    NodeSums::of(results).write_to(&mut text)?;
-    let again = lines_again(alloc, tree, results, colored)?;
-    write_apart(&mut text, again.as_str())?;
+    let mut text = lines_without_faults(alloc, tree, results, colored)?;
+    let faults = lines_with_faults(alloc, tree, results, colored)?;
+    write_apart(&mut text, faults.as_str())?;
+    TestCounts::of(results).write_shown_to(&mut text, colored)?;
+    write_containers(&mut text, failed_containers(results), colored)?;
     Ok(text)
 }
 
@@ -50,18 +50,20 @@ fn failed_containers(results: &[NodeResult]) -> usize
 }
 
 /// Writes how many containers failed at the end of a text, if any did.
-fn write_containers(text: &mut String, failed: usize) -> Result<(), AllocError>
+fn write_containers(text: &mut String, failed: usize, colored: bool) -> Result<(), AllocError>
     ensures { OnOk result
-        (string_bytes text.new ≡ string_bytes text.old ++ containers_line failed) }
+        (string_bytes text.new ≡ string_bytes text.old ++ containers_line colored failed) }
 {
-    if failed != 0 {
-        write!(text, "containers failed {failed}\n")?;
+    if failed == 0 {
+        return Ok(());
     }
-    Ok(())
+    text.push_str("containers")?;
+    write_count(text, Status::Failed, failed, colored)?;
+    text.push('\n')
 }
 
-/// The lines of all results.
-fn lines(
+/// The lines of the nodes that neither aborted nor failed.
+fn lines_without_faults(
     alloc: Global,
     tree: &Tree,
     results: &[NodeResult],
@@ -69,17 +71,17 @@ fn lines(
 ) -> Result<String, AllocError>
     requires in_tree { All (λ r. r.node < length tree.now) results.now }
     ensures { IfOk result
-        (λ text. string_bytes text ≡ each_line (shown_line colored) tree.now (results_view results.now)) }
+        (λ text. string_bytes text ≡ each_line (line_unless_fault colored) tree.now (results_view results.now)) }
 {
     let mut text = String::new(alloc);
     for node in results {
-        write_shown_line(alloc, &mut text, tree.id(node.node), node, colored)?;
+        write_unless_fault(alloc, &mut text, tree.id(node.node), node, colored)?;
     }
     Ok(text)
 }
 
 /// The lines of the nodes that aborted or failed.
-fn lines_again(
+fn lines_with_faults(
     alloc: Global,
     tree: &Tree,
     results: &[NodeResult],
@@ -87,17 +89,17 @@ fn lines_again(
 ) -> Result<String, AllocError>
     requires in_tree { All (λ r. r.node < length tree.now) results.now }
     ensures { IfOk result
-        (λ text. string_bytes text ≡ each_line (line_again colored) tree.now (results_view results.now)) }
+        (λ text. string_bytes text ≡ each_line (line_if_fault colored) tree.now (results_view results.now)) }
 {
     let mut text = String::new(alloc);
     for node in results {
-        write_line_again(alloc, &mut text, tree.id(node.node), node, colored)?;
+        write_if_fault(alloc, &mut text, tree.id(node.node), node, colored)?;
     }
     Ok(text)
 }
 
-/// Writes the line of a node at the end of a text, if it aborted or failed.
-fn write_line_again(
+/// Writes the line of a node at the end of a text, unless it aborted or failed.
+fn write_unless_fault(
     alloc: Global,
     text: &mut String,
     id: &UniqueId,
@@ -105,7 +107,24 @@ fn write_line_again(
     colored: bool,
 ) -> Result<(), AllocError>
     ensures { OnOk result
-        (string_bytes text.new ≡ string_bytes text.old ++ line_again colored id.now (result_view node.now)) }
+        (string_bytes text.new ≡ string_bytes text.old ++ line_unless_fault colored id.now (result_view node.now)) }
+{
+    if tells_fault(node.status) {
+        return Ok(());
+    }
+    write_shown_line(alloc, text, id, node, colored)
+}
+
+/// Writes the line of a node at the end of a text, if it aborted or failed.
+fn write_if_fault(
+    alloc: Global,
+    text: &mut String,
+    id: &UniqueId,
+    node: &NodeResult,
+    colored: bool,
+) -> Result<(), AllocError>
+    ensures { OnOk result
+        (string_bytes text.new ≡ string_bytes text.old ++ line_if_fault colored id.now (result_view node.now)) }
 {
     if tells_fault(node.status) {
         return write_shown_line(alloc, text, id, node, colored);
@@ -141,10 +160,37 @@ fn write_shown_line(
     write_visible(text, spelled.as_str())?;
     text.push(' ')?;
     write_status(text, node.status, colored)?;
-    let closed = node.closed;
-    write!(text, " closed {closed}")?;
+    write_closed(text, node.closed)?;
     write_visible(text, fault.as_str())?;
     text.push('\n')
+}
+
+/// Writes how many values were closed at the end of a text, if any were.
+fn write_closed(text: &mut String, closed: u64) -> Result<(), AllocError>
+    ensures { OnOk result (string_bytes text.new ≡ string_bytes text.old ++ closed_part closed) }
+{
+    if closed != 0 {
+        write!(text, " closed {closed}")?;
+    }
+    Ok(())
+}
+
+/// Writes how many ended with this status at the end of a text, if any did.
+pub(crate) fn write_count(
+    text: &mut String,
+    status: Status,
+    count: usize,
+    colored: bool,
+) -> Result<(), AllocError>
+    ensures { OnOk result
+        (string_bytes text.new ≡ string_bytes text.old ++ count_part colored status count) }
+{
+    if count == 0 {
+        return Ok(());
+    }
+    text.push(' ')?;
+    write_status(text, status, colored)?;
+    write!(text, " {count}")
 }
 
 /// Writes a status at the end of a text, in its colour if there are colours.
@@ -172,7 +218,7 @@ fn color_of(status: Status) -> &'static str
     }
 }
 
-/// Writes a text at the end of another, behind an empty line, unless it is empty.
+/// Writes a text at the end of another, between empty lines, unless it is empty.
 fn write_apart(text: &mut String, more: &str) -> Result<(), AllocError>
     ensures { OnOk result (string_bytes text.new ≡ string_bytes text.old ++ apart more.now) }
 {
@@ -180,5 +226,6 @@ fn write_apart(text: &mut String, more: &str) -> Result<(), AllocError>
         return Ok(());
     }
     text.push('\n')?;
-    text.push_str(more)
+    text.push_str(more)?;
+    text.push('\n')
 }

@@ -4,8 +4,10 @@ ghost use Rattle.std.specs.List.{count_by};
 ghost use Rattle.ext_lifecycle.specs.FaultTexts.{results_view};
 ghost use Rattle.ext_report.specs.Report.{tests_with, counts_of, sums_of, counts_line, sums_line};
 ghost use Rattle.ext_report.specs.JsonLines.{count_totals, sum_totals};
+ghost use Rattle.ext_report.specs.TerminalLines.{shown_counts};
 
 use crate::is_status::is_status;
+use crate::terminal_lines::write_count;
 use ext_lifecycle::{NodeResult, Status};
 use std::alloc::AllocError;
 
@@ -49,6 +51,20 @@ impl TestCounts {
             text,
             "tests {tests} successful {successful} aborted {aborted} failed {failed} skipped {skipped}\n"
         )
+    }
+
+    /// Writes the line of counts at the end of a text, for people at a terminal.
+    pub(crate) fn write_shown_to(&self, text: &mut String, colored: bool) -> Result<(), AllocError>
+        ensures { OnOk result
+            (string_bytes text.new ≡ string_bytes text.old ++ shown_counts colored self.now) }
+    {
+        let tests = self.tests;
+        write!(text, "tests {tests}")?;
+        write_count(text, Status::Successful, self.successful, colored)?;
+        write_count(text, Status::Aborted, self.aborted, colored)?;
+        write_count(text, Status::Failed, self.failed, colored)?;
+        write_count(text, Status::Skipped, self.skipped, colored)?;
+        text.push('\n')
     }
 
     /// Writes the members of the counts at the end of an object of JSON.

@@ -1,11 +1,12 @@
 //! Texts as a terminal may show them.
 ghost use Rattle.std.specs.Prelude.{◌≡◌, ◌++◌, string_bytes, OnOk};
-ghost use Rattle.ext_report.specs.TerminalLines.{code_text, line_character, visible, visible_character, visible_lines};
+ghost use Rattle.ext_report.specs.TerminalLines.{code_text, is_among, is_direction, line_character, visible, visible_character, visible_lines};
 
 use std::alloc::AllocError;
 
-/// Writes a text at the end of another, with each control character as `\n`, `\r`, `\t` or
-/// `\u{1b}`: so it stands on one line, and gives no order to a terminal.
+/// Writes a text at the end of another, with each control character, and each that turns the
+/// direction of a text, as `\n`, `\r`, `\t` or `\u{1b}`: so it stands on one line, and gives no order
+/// to a terminal.
 ///
 /// Takes memory if the text has no room, and fails with `AllocError` only if that is refused.
 pub fn write_visible(text: &mut String, more: &str) -> Result<(), AllocError>
@@ -17,8 +18,8 @@ pub fn write_visible(text: &mut String, more: &str) -> Result<(), AllocError>
     Ok(())
 }
 
-/// Writes lines at the end of a text, with each control character as `write_visible` writes it, but
-/// for the line feeds: these end the lines.
+/// Writes lines at the end of a text, with the characters that `write_visible` escapes as it writes
+/// them, but for the line feeds: these end the lines.
 ///
 /// Takes memory if the text has no room, and fails with `AllocError` only if that is refused.
 pub fn write_visible_lines(text: &mut String, lines: &str) -> Result<(), AllocError>
@@ -48,9 +49,23 @@ fn write_character(text: &mut String, c: char) -> Result<(), AllocError>
         '\t' => text.push_str("\\t"),
         '\n' => text.push_str("\\n"),
         '\r' => text.push_str("\\r"),
-        _ if c.is_control() => write_code(text, u32::from(c)),
+        _ if c.is_control() || is_direction(u32::from(c)) => write_code(text, u32::from(c)),
         _ => text.push(c),
     }
+}
+
+/// Tests whether a character with this code turns the direction of a text.
+pub(crate) fn is_direction(code: u32) -> bool
+    ensures { result ≡ is_direction code }
+{
+    is_among(0x202a, 0x202e, code) || is_among(0x2066, 0x2069, code)
+}
+
+/// Tests whether a code is in this range.
+pub(crate) fn is_among(first: u32, last: u32, code: u32) -> bool
+    ensures { result ≡ is_among first last code }
+{
+    first <= code && code <= last
 }
 
 /// Writes the code of a character at the end of a text.

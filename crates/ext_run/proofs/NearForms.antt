@@ -14,7 +14,7 @@ use Rattle.ext_report.specs.Forms.{report_in}
 use Rattle.ext_report.specs.JunitCases.{suite_name}
 use Rattle.ext_report.specs.JunitXml.{case_in, count_attributes, counts_where, is_case, is_left_out, junit_xml, stands_in, suite_element, suite_if_any, suite_time, suites_below}
 use Rattle.ext_report.specs.Report.{any_failed, counts_line, counts_of, is_status, line_of, lines_of, outcome_part, report_of, sums_line, sums_of}
-use Rattle.ext_report.specs.TerminalLines.{apart, containers_line, each_line, failed_containers, line_again, shown_line, terminal_of}
+use Rattle.ext_report.specs.TerminalLines.{apart, containers_line, each_line, failed_containers, line_if_fault, line_unless_fault, shown_counts, terminal_of}
 use Rattle.ext_report.specs.TreeLines.{depth_first, tree_head, tree_line, tree_of}
 use Rattle.ext_run.specs.OneReports.{tells_each}
 
@@ -117,9 +117,9 @@ module _ (here there : List NodeOutcome) (same : map bare here ≡ map bare ther
     near_form forms.Junit ids off = by_bare (junit_xml ids) (λ rs i.
         codes "<?xml version=\"1.0\" encoding=\"UTF-8\"?>\n<testsuites" ++ suite_time [] 0 ++ count_attributes (cases_counted is_case (λ r. refl) rs i) ++ suites_bare ids rs (length ids) i ++ codes "</testsuites>\n")
     near_form (forms.Terminal colored) ids off = λ i.
-        by_bare (each_line (shown_line colored) ids) (all_bare (λ r. shown_line colored (slice_index_or ids r.node []) r) (λ r. refl)) i
-        ++ counts_line (by_bare counts_of counts_bare i) ++ containers_line (by_bare failed_containers (count_bare (λ r. not r.is_test && is_status r.status statuses.Failed) (λ r. refl)) i)
-        ++ sums_line (sums i) ++ apart (by_bare (each_line (line_again colored) ids) (all_bare (λ r. line_again colored (slice_index_or ids r.node []) r) (λ r. refl)) i)
+        by_bare (each_line (line_unless_fault colored) ids) (all_bare (λ r. line_unless_fault colored (slice_index_or ids r.node []) r) (λ r. refl)) i
+        ++ apart (by_bare (each_line (line_if_fault colored) ids) (all_bare (λ r. line_if_fault colored (slice_index_or ids r.node []) r) (λ r. refl)) i)
+        ++ shown_counts colored (by_bare counts_of counts_bare i) ++ containers_line colored (by_bare failed_containers (count_bare (λ r. not r.is_test && is_status r.status statuses.Failed) (λ r. refl)) i)
 
 -- ---- results of two runs that differ only in who computed and who found
 

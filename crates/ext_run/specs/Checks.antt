@@ -5,6 +5,7 @@ use Rattle.ext_races.specs.declared.found.Found.{Found}
 use Rattle.ext_races.specs.declared.found.Found.TheVariants as found
 use Rattle.ext_races.specs.RaceJson.{found_json}
 use Rattle.ext_races.specs.RaceLines.{found_text}
+use Rattle.ext_report.specs.JsonTexts.{json_text}
 use Rattle.ext_races.specs.Found.{IsFound}
 use Rattle.ext_races.specs.Touches.{keys_named}
 use Rattle.std.specs.Fmt.{decimal}
@@ -53,7 +54,7 @@ is_free (found.NoRaces proved) = true
 -- What was found, in this form.
 abbrev pub races_as : ListForm → PlanText → Found → List ℕ
 races_as forms.Lines plan answer = found_text plan answer
-races_as forms.Json plan answer = found_json plan answer
+races_as forms.Json plan answer = json_text (found_json plan answer)
 
 -- What is written of a plan's races, or of what is proved of a plan without any; and whether there is one or a limit
 -- was passed.

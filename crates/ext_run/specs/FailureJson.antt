@@ -6,8 +6,8 @@
 -- with no space between tokens, all members in this order, and a line feed after each object. `call` is `before_all`,
 -- `before_each`, `test`, `after_each`, `after_all`, or `close` for a value that could not be closed. `index` is the
 -- number of a callback among those of its field, `of` the node that registered it, and `step` the step in the call. What
--- does not apply is null. `print` of the kit's JSON says how a text is written, and a text reads back as it was. If
--- faults were lost, a last line is
+-- does not apply is null. `json_text` over `print` of the kit's JSON says how a text is written, and a text reads
+-- back as it was. If faults were lost, a last line is
 --
 --     {"lost":true}
 --
@@ -22,6 +22,7 @@ use Rattle.ext_lifecycle.specs.declared.fault_origin.FaultOrigin.{FaultOrigin}
 use Rattle.ext_lifecycle.specs.declared.fault_origin.FaultOrigin.TheVariants as origins
 use Rattle.ext_races.specs.RaceJson.{text_member}
 use Rattle.ext_report.specs.JsonLines.{count_member}
+use Rattle.ext_report.specs.JsonTexts.{json_text}
 use Rattle.ext_run.specs.declared.failures.NodeFault.{NodeFault}
 use Rattle.ext_tree.specs.Trees.{Id, id_at}
 
@@ -59,4 +60,4 @@ module _ (ids : List Id) where
       ++ origin_members fault.origin ++ end_object ∷ [])
 
   abbrev pub failure_json : List Pair → NodeFault → List ℕ
-  failure_json id fault = print (failure_object id fault) ++ codes "\n"
+  failure_json id fault = json_text (print (failure_object id fault)) ++ codes "\n"

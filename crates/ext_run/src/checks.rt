@@ -7,6 +7,7 @@ ghost use Rattle.ext_plan_reading.specs.ReadPlans.{IsReadPlan, IsRunnablePlan};
 ghost use Rattle.ext_races.specs.Touches.{keys_named};
 ghost use Rattle.ext_run.specs.Checks.{counts_line, IsCountsOf, IsRacesOf, RefusedUnrun, TellsRaces, is_free, keys_explained, line_of_keys, races_as, raise_line, test_count};
 ghost use Rattle.ext_run.specs.InnerOutputs.{ChecksAs};
+ghost use Rattle.ext_report.specs.JsonTexts.{json_text};
 
 use crate::fault::RunFault;
 use crate::input::read_input;
@@ -17,6 +18,7 @@ use crate::runs::write_whole;
 use ext_model::Size;
 use ext_plan_reading::{Plan, PlanNode};
 use ext_races::{Found, count_keys, races, races_json, races_text};
+use ext_report::write_json;
 use std::alloc::{AllocError, Global};
 use std::io::{Read, Write};
 
@@ -131,8 +133,21 @@ fn races_as(
 {
     match form {
         ListForm::Lines => Ok(races_text(alloc, plan, found)?.into_bytes()),
-        ListForm::Json => races_json(alloc, plan, found),
+        ListForm::Json => printed(alloc, races_json(alloc, plan, found)?),
     }
+}
+
+/// A text of JSON as it is printed (`ext_report::write_json`). Each is UTF-8; no contract of
+/// `races_json` says so, and one that was not would be refused.
+fn printed(alloc: Global, json: Vec<u8>) -> Result<Vec<u8>, AllocError>
+    ensures { IfOk result (λ bytes. bytes.items ≡ json_text json.items) }
+{
+    let Ok(json) = String::from_utf8(json) else {
+        return Err(AllocError);
+    };
+    let mut text = String::new(alloc);
+    write_json(&mut text, json.as_str())?;
+    Ok(text.into_bytes())
 }
 
 /// Tests whether the plan has no race and exceeds no limit.

@@ -1,14 +1,16 @@
 //! A fault of a node as JSON.
-ghost use Rattle.std.specs.Prelude.{◌≡◌, ◌++◌, [], string_bytes, IfOk, OnOk};
+ghost use Rattle.std.specs.Prelude.{◌≡◌, ◌++◌, string_bytes, IfOk, OnOk};
 ghost use Rattle.json.specs.Print.{print};
 ghost use Rattle.ext_races.specs.RaceJson.{text_member};
 ghost use Rattle.ext_report.specs.JsonLines.{count_member};
+ghost use Rattle.ext_report.specs.JsonTexts.{json_text};
 ghost use Rattle.ext_run.specs.FailureJson.{call_members, callback_members, failure_json, failure_object, null_member, origin_members, plain_members};
 
 use crate::failures::{NodeFault, write_id};
 use ext_ids::UniqueId;
 use ext_lifecycle::{Call, FaultOrigin, Kind};
 use ext_model::ContextNo;
+use ext_report::printed_json;
 use ext_tree::Tree;
 use json::Writer;
 use std::alloc::{AllocError, Global};
@@ -28,35 +30,39 @@ pub(crate) fn write_object(
     text.push_str("\n")
 }
 
-#[tactic(auto, unfolding(crate::specs::FailureJson::failure_object))]
 fn object_of(
     alloc: Global,
     tree: &Tree,
     id: &UniqueId,
     fault: &NodeFault,
 ) -> Result<String, AllocError>
-    ensures { IfOk result (λ object. string_bytes object ≡ print (failure_object tree.now id.now fault.now)) }
+    ensures { IfOk result (λ object. string_bytes object ≡ json_text (print (failure_object tree.now id.now fault.now))) }
+{
+    let mut writer = Writer::new(Vec::new(alloc));
+    write_members(&mut writer, alloc, tree, id, fault)?;
+    let text = printed_json(alloc, writer)?;
+    Ok(text)
+}
+
+/// Writes the object of a fault with its members.
+#[tactic(auto, unfolding(crate::specs::FailureJson::failure_object))]
+fn write_members(
+    writer: &mut Writer,
+    alloc: Global,
+    tree: &Tree,
+    id: &UniqueId,
+    fault: &NodeFault,
+) -> Result<(), AllocError>
+    ensures before { OnOk result (writer.new.before ≡ writer.old.before) }
+    ensures tokens { OnOk result (writer.new.tokens ≡ writer.old.tokens ++ failure_object tree.now id.now fault.now) }
 {
     let mut name = String::new(alloc);
     id.write_to(&mut name)?;
-    let mut writer = Writer::new(Vec::new(alloc));
     writer.begin_object()?;
-    write_text(&mut writer, "id", name.as_str())?;
-    write_text(&mut writer, "fault", fault.text.as_str())?;
-    write_origin(&mut writer, alloc, tree, fault.origin)?;
-    writer.end_object()?;
-    Ok(written(writer))
-}
-
-/// What was written, as a text.
-fn written(writer: Writer) -> String
-    requires { writer.before ≡ [] }
-    ensures { string_bytes result ≡ print writer.tokens }
-{
-    match String::from_utf8(writer.into_inner()) {
-        Ok(text) => text,
-        Err(_) => unreachable!(),
-    }
+    write_text(writer, "id", name.as_str())?;
+    write_text(writer, "fault", fault.text.as_str())?;
+    write_origin(writer, alloc, tree, fault.origin)?;
+    writer.end_object()
 }
 
 /// Writes the members that tell the origin of a fault.

@@ -12,15 +12,24 @@ Exit status:
   0  no test failed
   1  a test or a class failed
   2  the words are wrong
-  3  the tests were not run, or a file was not read or written
+  3  the tests were not run, a file was not read or written, or a shared text was not closed
   4  no test is selected"#;
 
-/// The command line of the engine of this name.
-pub(crate) fn command_line<'a>(alloc: Global, name: &'a str) -> Result<Command<'a>, AllocError> {
+/// The command line of the engine of this name, which has texts that processes share or has none.
+pub(crate) fn command_line<'a>(
+    alloc: Global,
+    name: &'a str,
+    shares: bool,
+) -> Result<Command<'a>, AllocError> {
     let command = Command::new(alloc, name)
         .about("Runs the tests of an engine, all or those that the words select")
         .after_help(AFTER_HELP);
-    with_telling(alloc, with_running(alloc, with_selecting(alloc, command)?)?)
+    let command = with_telling(alloc, with_running(alloc, with_selecting(alloc, command)?)?)?;
+    if shares {
+        with_sharing(alloc, command)
+    } else {
+        Ok(command)
+    }
 }
 
 /// Adds the options that say which tests are run.
@@ -155,6 +164,24 @@ fn with_telling<'a>(alloc: Global, command: Command<'a>) -> Result<Command<'a>, 
             "When there are colours: `auto` is at a terminal, unless NO_COLOR is set or TERM is dumb",
         )
         .value_parser(["auto", "always", "never"].as_slice()))
+}
+
+/// Adds the options that say which processes share texts.
+fn with_sharing<'a>(alloc: Global, command: Command<'a>) -> Result<Command<'a>, AllocError> {
+    command
+        .next_help_heading("What processes share")
+        .arg(option(
+            alloc,
+            "shared",
+            "FOLDER",
+            "Shares texts with all processes that have this folder, and leaves them to whoever made it; without it the run has a folder of its own",
+        ))?
+        .arg(option(
+            alloc,
+            "close",
+            "FOLDER",
+            "Closes what this folder holds, removes it, and runs nothing",
+        ))
 }
 
 fn flag<'a>(alloc: Global, name: &'a str, help: &'a str) -> Arg<'a> {

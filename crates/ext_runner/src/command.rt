@@ -91,27 +91,31 @@ pub(crate) struct Options {
     pub(crate) selecting: Selecting,
     pub(crate) running: Running,
     pub(crate) telling: Telling,
+    /// The folder with the texts that processes of a run share, if another process owns it.
+    pub(crate) shared: Option<String>,
 }
 
 /// What is to be done.
 #[derive(Drop)]
 pub(crate) enum Asked {
     Run(Options),
+    /// What this folder holds is closed.
+    Close(String),
     /// The help was printed.
     Helped,
     /// The words are wrong, which was printed.
     Refused,
 }
 
-/// Reads the words of the command line.
-pub(crate) fn read_words(rt: &HostRuntime, name: &str) -> Result<Asked, AllocError> {
+/// Reads the words of the command line of an engine, which has texts that processes share or has none.
+pub(crate) fn read_words(rt: &HostRuntime, name: &str, shares: bool) -> Result<Asked, AllocError> {
     let words = match env::args(rt) {
         Ok(words) => words,
         Err(_) => return Ok(mistake(rt, "a word of the command line is not UTF-8")),
     };
     let words: Vec<String> = words.collect(rt.alloc())?;
-    match command_line(rt.alloc(), name)?.try_get_matches_from(words.as_slice()) {
-        Ok(matches) => asked_by(rt, &matches),
+    match command_line(rt.alloc(), name, shares)?.try_get_matches_from(words.as_slice()) {
+        Ok(matches) => asked_by(rt, &matches, shares),
         Err(why) if why.kind() == ErrorKind::OutOfMemory => Err(AllocError),
         Err(why) => {
             let _ = why.print(rt);
@@ -131,7 +135,10 @@ fn mistake(rt: &HostRuntime, what: &str) -> Asked {
 }
 
 /// What these words ask for.
-fn asked_by(rt: &HostRuntime, words: &ArgMatches<'_>) -> Result<Asked, AllocError> {
+fn asked_by(rt: &HostRuntime, words: &ArgMatches<'_>, shares: bool) -> Result<Asked, AllocError> {
+    if shares && let Some(folder) = file_in(rt.alloc(), words, "close")? {
+        return Ok(Asked::Close(folder));
+    }
     let Some(shard) = shard_in(words) else {
         return Ok(mistake(
             rt,
@@ -145,6 +152,11 @@ fn asked_by(rt: &HostRuntime, words: &ArgMatches<'_>) -> Result<Asked, AllocErro
         selecting: selecting_in(rt.alloc(), words, shard)?,
         running: running_in(words, order),
         telling: telling_in(rt.alloc(), words)?,
+        shared: if shares {
+            file_in(rt.alloc(), words, "shared")?
+        } else {
+            None
+        },
     }))
 }
 

@@ -16,13 +16,16 @@ mod program;
 mod results;
 mod run_log;
 mod selecting;
+mod sharing;
 mod summary;
 mod telling;
 mod timeline;
 
 pub use ext_lane::LentLane;
+pub use ext_shared::SharedText;
 pub use ext_table::{Engine, Fault, Kept, Kind, LockMode, Scope, Stop, TableFault, TestTable};
 pub use ext_tree::{Key, Namespace};
 pub use program::main_of;
 pub use selecting::select;
+pub use sharing::{SharingEngine, main_in_folder, shared_text};
 pub use std::process::ExitCode;

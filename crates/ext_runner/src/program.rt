@@ -38,7 +38,12 @@ where
     E::Given: Drop + Sync,
     E::Shared: Send + Sync,
 {
-    match done(threads, rt, name, engine, table) {
+    ended(rt, name, done(threads, rt, name, engine, table))
+}
+
+/// The exit status; why there is none to tell is printed.
+pub(crate) fn ended(rt: &HostRuntime, name: &str, done: anyhow::Result<Ending>) -> ExitCode {
+    match done {
         Ok(ending) => ExitCode::from(ending.code()),
         Err(why) => {
             let _ = eprintln!(rt; "{name}: {why}");
@@ -59,25 +64,27 @@ where
     E::Given: Drop + Sync,
     E::Shared: Send + Sync,
 {
-    match read_words(rt, name)? {
-        Asked::Run(options) => run_asked(threads, rt, name, engine, table?, &options),
-        Asked::Helped => Ok(Ending::Passed),
+    match read_words(rt, name, false)? {
+        Asked::Run(options) => {
+            let run = |table: &TestTable<E::Given>| {
+                run_once(threads, rt, name, engine, table, &options)
+            };
+            run_asked(rt, name, table?, &options, run)
+        }
+        Asked::Helped | Asked::Close(_) => Ok(Ending::Passed),
         Asked::Refused => Ok(Ending::WrongWords),
     }
 }
 
-/// Runs or lists the tests of a table that the options select.
-fn run_asked<R: Threads + Wait + Sync + Clock, E: Engine + Sync>(
-    threads: &R,
+/// Runs or lists the tests of a table that the options select: each run is a call of `run`.
+pub(crate) fn run_asked<T: Drop, F: Fn(&TestTable<T>) -> anyhow::Result<Ending>>(
     rt: &HostRuntime,
     name: &str,
-    engine: &E,
-    table: TestTable<E::Given>,
+    table: TestTable<T>,
     options: &Options,
+    run: F,
 ) -> anyhow::Result<Ending>
-where
-    E::Given: Drop + Sync,
-    E::Shared: Send + Sync,
+    requires { F.IsAlwaysCallable run }
 {
     let table = selected_by(rt, table, &options.selecting, options.running.order)?;
     if table.rows.is_empty() {
@@ -87,7 +94,7 @@ where
         list(rt, &table)?;
         Ok(Ending::Passed)
     } else {
-        run_repeated(threads, rt, name, engine, &table, options)
+        run_repeated(rt, &table, options.running.repeat, run)
     }
 }
 
@@ -103,23 +110,18 @@ fn list<T>(rt: &HostRuntime, table: &TestTable<T>) -> anyhow::Result<()> {
     Ok(())
 }
 
-/// Runs a table as often as is asked, until a run fails.
-fn run_repeated<R: Threads + Wait + Sync + Clock, E: Engine + Sync>(
-    threads: &R,
+/// Runs a table so many times, until a run fails.
+fn run_repeated<T, F: Fn(&TestTable<T>) -> anyhow::Result<Ending>>(
     rt: &HostRuntime,
-    name: &str,
-    engine: &E,
-    table: &TestTable<E::Given>,
-    options: &Options,
+    table: &TestTable<T>,
+    times: u32,
+    run: F,
 ) -> anyhow::Result<Ending>
-where
-    E::Given: Drop + Sync,
-    E::Shared: Send + Sync,
+    requires { F.IsAlwaysCallable run }
 {
-    let times = options.running.repeat;
     for time in 1..times {
         eprintln!(rt; "run {time} of {times}")?;
-        let ending = run_once(threads, rt, name, engine, table, options)?;
+        let ending = run(table)?;
         if !matches!(ending, Ending::Passed) {
             return Ok(ending);
         }
@@ -127,11 +129,11 @@ where
     if times > 1 {
         eprintln!(rt; "run {times} of {times}")?;
     }
-    run_once(threads, rt, name, engine, table, options)
+    run(table)
 }
 
 /// Runs a table, and tells of the run.
-fn run_once<R: Threads + Wait + Sync + Clock, E: Engine + Sync>(
+pub(crate) fn run_once<R: Threads + Wait + Sync + Clock, E: Engine + Sync>(
     threads: &R,
     rt: &HostRuntime,
     name: &str,

@@ -318,14 +318,14 @@ impl<R: Wait + Clock> TableListener for RunLog<'_, R> {
         }
     }
 
-    fn asks(&self, node: ContextNo, _from: ContextNo) {
+    fn asks(&self, node: ContextNo, from: ContextNo) {
         let now = self.now();
         let mut state = self.state.lock(self.threads);
         if let Some(log) = state.nodes.get_mut(node) {
             log.asked = now;
         }
         if let Some(timeline) = &mut state.timeline {
-            timeline.ask(node, self.micros(now));
+            timeline.ask(node, from, self.micros(now));
         }
     }
 
@@ -352,7 +352,7 @@ impl<R: Wait + Clock> TableListener for RunLog<'_, R> {
         }
     }
 
-    fn handed(&self, node: ContextNo, from: ContextNo, is_new: bool) {
+    fn handed(&self, node: ContextNo, _from: ContextNo, is_new: bool) {
         let now = self.now();
         let mut state = self.state.lock(self.threads);
         if let Some(log) = state.nodes.get_mut(node) {
@@ -361,7 +361,7 @@ impl<R: Wait + Clock> TableListener for RunLog<'_, R> {
         if let Some(timeline) = &mut state.timeline
             && !is_new
         {
-            timeline.find(node, from, self.micros(now));
+            timeline.find(node, self.micros(now));
         }
     }
 

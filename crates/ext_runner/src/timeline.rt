@@ -7,6 +7,14 @@ use std::alloc::{AllocError, Global};
 /// How long a wait is that is noted.
 const LEAST_WAIT: u64 = 100;
 
+/// What a call asked for.
+#[derive(Clone, Copy)]
+struct Asked {
+    /// The node that shares it.
+    from: ContextNo,
+    when: u64,
+}
+
 /// What is known of a node.
 #[derive(Clone, Copy)]
 struct Course {
@@ -16,8 +24,8 @@ struct Course {
     begun: Option<u64>,
     /// When the last of its calls ended.
     returned: u64,
-    /// When the call that runs asked for what is shared.
-    asked: u64,
+    /// What the call that runs asked for, until it makes it or is handed it.
+    asked: Option<Asked>,
     /// Whether its test failed or aborted.
     has_failed: bool,
     /// The place of the value that it shares, once it was made.
@@ -61,7 +69,7 @@ impl Timeline {
                 started: 0,
                 begun: None,
                 returned: 0,
-                asked: 0,
+                asked: None,
                 has_failed: false,
                 value: None,
                 closes: 0,
@@ -107,16 +115,17 @@ impl Timeline {
         }
     }
 
-    /// The call that runs asks for what is shared.
-    pub(crate) fn ask(&mut self, node: ContextNo, now: u64) {
+    /// The call that runs asks for what the node `from` shares.
+    pub(crate) fn ask(&mut self, node: ContextNo, from: ContextNo, now: u64) {
         if let Some(course) = self.courses.get_mut(node) {
-            course.asked = now;
+            course.asked = Some(Asked { from, when: now });
         }
     }
 
     /// The call makes what the node `from` shares. Takes memory for its key.
     pub(crate) fn make(&mut self, alloc: Global, node: ContextNo, from: ContextNo, now: u64) {
         let lane = self.lane_of(node);
+        let _ = self.take_asked(node);
         let Ok(key) = String::from_str(alloc, "shared") else {
             self.lost = true;
             return;
@@ -134,8 +143,9 @@ impl Timeline {
             closing: None,
             close_fault: None,
         });
-        self.keep(kept.is_ok());
-        if let Some(course) = self.courses.get_mut(from) {
+        let is_kept = kept.is_ok();
+        self.keep(is_kept);
+        if is_kept && let Some(course) = self.courses.get_mut(from) {
             course.value = Some(place);
         }
     }
@@ -148,11 +158,11 @@ impl Timeline {
         }
     }
 
-    /// The call was handed what another one has made.
-    pub(crate) fn find(&mut self, node: ContextNo, from: ContextNo, now: u64) {
-        let (lane, asked) = match self.courses.get(node) {
-            Some(course) => (course.lane, course.asked),
-            None => return,
+    /// The call was handed what another one has made, or the fault with which that failed.
+    pub(crate) fn find(&mut self, node: ContextNo, now: u64) {
+        let lane = self.lane_of(node);
+        let Some(Asked { from, when: asked }) = self.take_asked(node) else {
+            return;
         };
         let Some(place) = self.place_of_value(from) else {
             return;
@@ -198,8 +208,9 @@ impl Timeline {
         }
     }
 
-    /// A call ended.
+    /// A call ended. What it asked for and was not handed had failed.
     pub(crate) fn finish_call(&mut self, node: ContextNo, now: u64) {
+        self.find(node, now);
         if let Some(course) = self.courses.get_mut(node) {
             course.returned = now;
         }
@@ -279,6 +290,12 @@ impl Timeline {
 
     fn keep(&mut self, is_kept: bool) {
         self.lost |= !is_kept;
+    }
+
+    /// What the call that runs asked for, and has not made or been handed.
+    fn take_asked(&mut self, node: ContextNo) -> Option<Asked> {
+        let course = self.courses.get_mut(node)?;
+        course.asked.take()
     }
 
     fn lane_of(&self, node: ContextNo) -> usize {

@@ -20,7 +20,7 @@ const ONE: &str = "no races: one report\n";
 const NEAR: &str = "no races: one report but for computed and found\n";
 
 /// The fields of these six nodes, and what is told of the plan's races.
-const PLANS: [([&str; 6], &str); 32] = [
+const PLANS: [([&str; 6], &str); 37] = [
     // each test puts into its own context
     (
         [
@@ -340,13 +340,13 @@ const PLANS: [([&str; 6], &str); 32] = [
             "",
             "",
             "locks = ['READ_WRITE db']\ntest = ['put a x up 1']",
-            "locks = ['READ_WRITE db']\ntest = ['want a x']",
+            "locks = ['READ db']\ntest = ['want a x']",
             "",
             "test = []",
         ],
-        "put a of [e:x]/[c:A]/[t:m] and want a of [e:x]/[c:A]/[t:n] in [e:x]/[c:A]\n",
+        "put a of [e:x]/[c:A]/[t:m] and want a of [e:x]/[c:A]/[t:n] in [e:x]/[c:A]: a lock keeps them apart, not in order\n",
     ),
-    // one finds what the class computed, where the other computes the same
+    // one finds what the class computed, and so does the other's compute
     (
         [
             "",
@@ -356,7 +356,7 @@ const PLANS: [([&str; 6], &str); 32] = [
             "",
             "test = []",
         ],
-        NEAR,
+        ONE,
     ),
     // the other computes another value
     (
@@ -370,7 +370,7 @@ const PLANS: [([&str; 6], &str); 32] = [
         ],
         "want a of [e:x]/[c:A]/[t:m] and compute a of [e:x]/[c:A]/[t:n] in [e:x]/[c:A]\n",
     ),
-    // a step removes the key, if only elsewhere
+    // a step removes the key, but elsewhere
     (
         [
             "",
@@ -380,7 +380,67 @@ const PLANS: [([&str; 6], &str); 32] = [
             "",
             "test = ['remove a']",
         ],
+        ONE,
+    ),
+    // or below
+    (
+        [
+            "",
+            "before_all = [['compute a x']]",
+            "test = ['want a x', 'remove a']",
+            "test = ['compute a x up 1']",
+            "",
+            "test = []",
+        ],
+        ONE,
+    ),
+    // or when all that look it up have ended
+    (
+        [
+            "after_all = [['remove a']]",
+            "before_all = [['compute a x up 1']]",
+            "test = ['want a x']",
+            "test = []",
+            "before_all = [['compute a x up 1']]",
+            "test = []",
+        ],
+        NEAR,
+    ),
+    // so does the class itself
+    (
+        [
+            "",
+            "before_all = [['compute a x']]\nafter_all = [['remove a']]",
+            "test = ['want a x']",
+            "test = ['compute a x up 1']",
+            "",
+            "test = []",
+        ],
+        ONE,
+    ),
+    // the class removes it before its tests
+    (
+        [
+            "",
+            "before_all = [['compute a x', 'remove a']]",
+            "test = ['want a x']",
+            "test = ['compute a x up 1']",
+            "",
+            "test = []",
+        ],
         "want a of [e:x]/[c:A]/[t:m] and compute a of [e:x]/[c:A]/[t:n] in [e:x]/[c:A]\n",
+    ),
+    // a test removes it there
+    (
+        [
+            "",
+            "before_all = [['compute a x']]",
+            "test = ['want a x', 'remove a up 1']",
+            "test = ['compute a x up 1']",
+            "",
+            "test = []",
+        ],
+        "remove a of [e:x]/[c:A]/[t:m] and compute a of [e:x]/[c:A]/[t:n] in [e:x]/[c:A]\nwant a of [e:x]/[c:A]/[t:m] and compute a of [e:x]/[c:A]/[t:n] in [e:x]/[c:A]\n",
     ),
     // a callback after a class runs even if that before it failed
     (

@@ -3,8 +3,8 @@ use crate::same::same;
 use crate::trees::push_ids;
 use ext_model::{ContextNo, Fault};
 use ext_report::{
-    NodeResult, Status, any_failed, leave_out_reserve, report_text, terminal_report, tree_report,
-    write_visible, write_visible_lines,
+    NodeResult, Status, any_failed, json_report, leave_out_reserve, report_text, terminal_report,
+    tree_report, write_json, write_visible, write_visible_lines,
 };
 use ext_tree::Tree;
 use std::alloc::{AllocError, Global};
@@ -229,27 +229,26 @@ fn shows<R: Abort>(
     Ok(())
 }
 
-/// Tests `terminal_report`: a status has its colour, a node that failed or was aborted a second line
-/// behind the totals, a fault no control character, and the container that failed is counted.
+/// Tests `terminal_report`: a status has its colour, among the totals too, a node that failed or was
+/// aborted its one line behind the others, a fault no control character, and the container that
+/// failed is counted.
 #[test]
 fn report_for_people(rt: HostRuntime) -> Result<(), Fail> {
-    let plain = "[engine:x] successful closed 0\n\
+    let plain = "[engine:x] successful\n\
+         [engine:x]/[class:A]/[method:m()] skipped\n\
+         \n\
          [engine:x]/[class:A] failed closed 3: \\u{1b}[2J\\nthen (+2)\n\
-         [engine:x]/[class:A]/[method:m()] skipped closed 0\n\
-         tests 1 successful 0 aborted 0 failed 0 skipped 1\n\
-         containers failed 1\n\
-         computed 0 found 0 closed 3 close faults 0\n\
          \n\
-         [engine:x]/[class:A] failed closed 3: \\u{1b}[2J\\nthen (+2)\n";
+         tests 1 skipped 1\n\
+         containers failed 1\n";
     shows(&rt, rt.alloc(), &WITH_A_FAILED_CLASS, false, plain)?;
-    let colored = "[engine:x] \x1b[32msuccessful\x1b[0m closed 0\n\
-         [engine:x]/[class:A] \x1b[31mfailed\x1b[0m closed 3: \\u{1b}[2J\\nthen (+2)\n\
-         [engine:x]/[class:A]/[method:m()] \x1b[2mskipped\x1b[0m closed 0\n\
-         tests 1 successful 0 aborted 0 failed 0 skipped 1\n\
-         containers failed 1\n\
-         computed 0 found 0 closed 3 close faults 0\n\
+    let colored = "[engine:x] \x1b[32msuccessful\x1b[0m\n\
+         [engine:x]/[class:A]/[method:m()] \x1b[2mskipped\x1b[0m\n\
          \n\
-         [engine:x]/[class:A] \x1b[31mfailed\x1b[0m closed 3: \\u{1b}[2J\\nthen (+2)\n";
+         [engine:x]/[class:A] \x1b[31mfailed\x1b[0m closed 3: \\u{1b}[2J\\nthen (+2)\n\
+         \n\
+         tests 1 \x1b[2mskipped\x1b[0m 1\n\
+         containers \x1b[31mfailed\x1b[0m 1\n";
     shows(&rt, rt.alloc(), &WITH_A_FAILED_CLASS, true, colored)
 }
 
@@ -260,30 +259,27 @@ const ABORTED: [Ended; 1] = [Ended {
     ..TEST
 }];
 
-/// Tests `terminal_report`: nothing stands behind the totals where no node failed or was aborted, and
-/// a failed test is no failed container.
+/// Tests `terminal_report`: no empty line stands where no node failed or was aborted, and a failed
+/// test is no failed container.
 #[test]
 fn report_for_people_of_tests_alone(rt: HostRuntime) -> Result<(), Fail> {
-    let wanted = "[engine:x] \x1b[32msuccessful\x1b[0m closed 0\n\
-         tests 1 successful 1 aborted 0 failed 0 skipped 0\n\
-         computed 0 found 0 closed 0 close faults 0\n";
+    let wanted = "[engine:x] \x1b[32msuccessful\x1b[0m\n\
+         tests 1 \x1b[32msuccessful\x1b[0m 1\n";
     shows(&rt, rt.alloc(), &[TEST], true, wanted)?;
-    let wanted = "[engine:x] \x1b[33maborted\x1b[0m closed 0: later\n\
-         tests 1 successful 0 aborted 1 failed 0 skipped 0\n\
-         computed 0 found 0 closed 0 close faults 0\n\
+    let wanted = "\n\
+         [engine:x] \x1b[33maborted\x1b[0m: later\n\
          \n\
-         [engine:x] \x1b[33maborted\x1b[0m closed 0: later\n";
+         tests 1 \x1b[33maborted\x1b[0m 1\n";
     shows(&rt, rt.alloc(), &ABORTED, true, wanted)?;
-    let wanted = "[engine:x] \x1b[31mfailed\x1b[0m closed 0: no memory\n\
-         tests 1 successful 0 aborted 0 failed 1 skipped 0\n\
-         computed 0 found 0 closed 0 close faults 0\n\
+    let wanted = "\n\
+         [engine:x] \x1b[31mfailed\x1b[0m: no memory\n\
          \n\
-         [engine:x] \x1b[31mfailed\x1b[0m closed 0: no memory\n";
+         tests 1 \x1b[31mfailed\x1b[0m 1\n";
     shows(&rt, rt.alloc(), &WANT_OF_MEMORY, true, wanted)
 }
 
-/// Control characters are written as escapes, line feeds too, and all other characters as they are.
-/// Tests `write_visible`.
+/// Control characters and those that turn the direction of a text are written as escapes, line feeds
+/// too, and all other characters as they are. Tests `write_visible`.
 #[test]
 fn control_characters_are_visible(rt: HostRuntime) -> Result<(), Fail> {
     let mut text = String::from_str(rt.alloc(), "a ")?;
@@ -291,8 +287,40 @@ fn control_characters_are_visible(rt: HostRuntime) -> Result<(), Fail> {
         &mut text,
         "\0\t\n\r\x1f ~\x7f\u{80}\u{9f}\u{a0}\u{e9}\u{1f600}",
     )?;
-    let wanted = "a \\u{0}\\t\\n\\r\\u{1f} ~\\u{7f}\\u{80}\\u{9f}\u{a0}\u{e9}\u{1f600}";
+    write_visible(&mut text, DIRECTIONS)?;
+    let wanted = "a \\u{0}\\t\\n\\r\\u{1f} ~\\u{7f}\\u{80}\\u{9f}\u{a0}\u{e9}\u{1f600}\
+         \u{2029}\\u{202a}\\u{202e}\u{202f}\u{2065}\\u{2066}\\u{2069}\u{206a}";
     same(&rt, text.as_str(), wanted, "the text");
+    Ok(())
+}
+
+/// The first and the last characters of those that turn the direction of a text, and their neighbours.
+const DIRECTIONS: &str = "\u{2029}\u{202a}\u{202e}\u{202f}\u{2065}\u{2066}\u{2069}\u{206a}";
+
+/// The same characters are escaped in JSON, as JSON does, but for those below U+0020, which a writer
+/// of JSON escapes itself. Tests `write_json`.
+#[test]
+fn hidden_characters_of_json_are_escaped(rt: HostRuntime) -> Result<(), Fail> {
+    let mut text = String::from_str(rt.alloc(), "a ")?;
+    write_json(
+        &mut text,
+        "\"\\u001b\\n ~\x7f\u{80}\u{9f}\u{a0}\u{e9}\u{1f600}\"",
+    )?;
+    write_json(&mut text, DIRECTIONS)?;
+    let wanted = "a \"\\u001b\\n ~\\u007f\\u0080\\u009f\u{a0}\u{e9}\u{1f600}\"\
+         \u{2029}\\u202a\\u202e\u{202f}\u{2065}\\u2066\\u2069\u{206a}";
+    same(&rt, text.as_str(), wanted, "the text");
+    Ok(())
+}
+
+/// An id with such a character stands in a report as JSON without it. Tests `json_report`.
+#[test]
+fn json_gives_no_order(rt: HostRuntime) -> Result<(), Fail> {
+    let tree = tree_of(rt.alloc(), "[engine:\u{9b}]")?;
+    let results = results_of(rt.alloc(), &[CONTAINER])?;
+    assert!(&rt; results.iter().all(|r| r.node < tree.len()));
+    let lines = String::from_utf8(json_report(rt.alloc(), &tree, results.as_slice())?)?;
+    assert!(&rt; lines.as_str().starts_with("{\"id\":\"[engine:\\u009b]\","));
     Ok(())
 }
 

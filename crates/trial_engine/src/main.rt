@@ -1,19 +1,23 @@
 //! An engine for tests of the command line: its tests pass, fail, abort, wait and pass at a later attempt in each way that a tester is
 //! told of. `scripts/parts/options.py` runs it with each option, and says what has to come of it.
 //!
-//! `TRIAL_TESTS` in the environment adds so many tests that pass.
+//! `TRIAL_TESTS` in the environment adds so many tests that pass, and `TRIAL_LOG` two that share texts with other processes: each
+//! text that is made or closed is a line of the file that it names. `TRIAL_LOOKS` adds two that share so many
+//! (`scripts/parts/processes.py`).
 #![tactic(auto)]
 
 ghost use Rattle.ext_lane.specs.Lent.{IsSame};
 
 use ext_runner::{
-    Engine, ExitCode, Fault, Kept, Key, LentLane, LockMode, Namespace, Scope, Stop, TableFault,
-    TestTable, main_of,
+    Engine, ExitCode, Fault, Kept, Key, LentLane, LockMode, Namespace, Scope, SharingEngine, Stop,
+    TableFault, TestTable, main_in_folder, shared_text,
 };
+use std::fs::OpenOptions;
+use std::io::{self, Write};
 use std::sync::Wait;
 use std::sync::atomic::{AtomicU64, Ordering};
 use std::time::Duration;
-use std::{env, thread};
+use std::{env, process, thread};
 
 /// What a test or a callback does, and of what it is made that is shared.
 #[derive(Clone, Copy)]
@@ -28,7 +32,13 @@ enum Task {
     Unclosable,
     /// A value that cannot be made.
     Unmakable,
+    /// A text of this name, which all processes of the run share.
+    Text(&'static str),
     Pass,
+    /// Looks so often at a text of other processes.
+    Looks(u32),
+    /// Asks for so many texts that no process has made yet.
+    Makes(u32),
     /// Takes so many milliseconds.
     Sleep(u64),
     Fail(&'static str),
@@ -53,6 +63,7 @@ enum Shared {
     Count(AtomicU64),
     Inner,
     Unclosable,
+    Text,
 }
 
 fn tests(rt: &HostRuntime) -> Result<TestTable<Task>, TableFault> {
@@ -61,20 +72,45 @@ fn tests(rt: &HostRuntime) -> Result<TestTable<Task>, TableFault> {
     add_rows(&mut tests)?;
     add_callbacks(&mut tests)?;
     add_faults(&mut tests)?;
+    if log(rt).is_some() {
+        add_texts(&mut tests, count_in(rt, "TRIAL_LOOKS"))?;
+    }
     tests.class("Many")?;
-    for number in 0..many(rt) {
+    for number in 0..count_in(rt, "TRIAL_TESTS") {
         let name = format!(in rt.alloc(); "t{number}")?;
         tests.test(name.as_str(), Task::Pass)?;
     }
     Ok(tests)
 }
 
-/// How many tests the environment asks for.
-fn many(rt: &HostRuntime) -> u32 {
-    match env::var(rt, "TRIAL_TESTS") {
+/// The number that this variable of the environment has, or 0.
+fn count_in(rt: &HostRuntime, variable: &str) -> u32 {
+    match env::var(rt, variable) {
         Ok(word) => word.as_str().parse().unwrap_or(0),
         Err(_) => 0,
     }
+}
+
+/// The file that is told which texts are made and closed.
+fn log(rt: &HostRuntime) -> Option<String> {
+    env::var(rt, "TRIAL_LOG").ok()
+}
+
+/// Tests that share texts with other processes.
+fn add_texts(tests: &mut TestTable<Task>, looks: u32) -> Result<(), TableFault> {
+    tests.class("Texts")?;
+    tests.share(Task::Text("server"));
+    tests.test("one", Task::Sleep(200))?;
+    tests.group("inner")?;
+    tests.share(Task::Text("schema"));
+    tests.case("two", Task::Sleep(200))?;
+    if looks > 0 {
+        tests.class("Looking")?;
+        tests.tests_in_turn();
+        tests.test("looks", Task::Looks(looks))?;
+        tests.test("makes", Task::Makes(looks))?;
+    }
+    Ok(())
 }
 
 /// Tests that take time, that run alone, at once or in turn, and that pass at a later attempt.
@@ -157,7 +193,11 @@ fn add_faults(tests: &mut TestTable<Task>) -> Result<(), TableFault> {
     Ok(())
 }
 
-struct Trial;
+/// The engine of a run, whose texts stand in this folder.
+#[derive(Drop)]
+struct Trial {
+    folder: String,
+}
 
 impl Engine for Trial {
     type Given = Task;
@@ -174,19 +214,28 @@ impl Engine for Trial {
                 thread::sleep(node.rt, Duration::from_millis(*millis));
                 Ok(Shared::Count(AtomicU64::new(0)))
             }
+            Task::Text(name) => {
+                let make = || made_text(node, name);
+                shared_text(node.rt, self.folder.as_str(), name, make)?;
+                Ok(Shared::Text)
+            }
             _ => Ok(Shared::Count(AtomicU64::new(0))),
         }
     }
 
     fn close(&self, _rt: &HostRuntime, shared: &Shared) -> Result<(), Stop> {
         match shared {
-            Shared::Count(_) | Shared::Inner => Ok(()),
+            Shared::Count(_) | Shared::Inner | Shared::Text => Ok(()),
             Shared::Unclosable => Err(anyhow::anyhow!("it does not close").into()),
         }
     }
 
     fn run_test(&self, test: &Scope<Task, Shared>) -> Result<(), Stop> {
-        act(test)
+        match test.given {
+            Task::Looks(count) => self.look(test, *count, "looked-at"),
+            Task::Makes(count) => self.make_all(test, *count),
+            _ => act(test),
+        }
     }
 
     fn run_in_store<R: Wait>(
@@ -197,13 +246,65 @@ impl Engine for Trial {
     ) -> Result<(), Stop> {
         match test.given {
             Task::Store => store(threads, test, lane),
-            _ => act(test),
+            _ => self.run_test(test),
         }
     }
 
     fn comes(&self, given: &Task) -> bool {
         matches!(given, Task::Row(1))
     }
+}
+
+impl Trial {
+    /// Looks so often at the text of this name.
+    fn look(&self, test: &Scope<Task, Shared>, count: u32, name: &str) -> Result<(), Stop> {
+        for _ in 0..count {
+            let make = || -> Result<String, Stop> { Ok(String::new(test.rt.alloc())) };
+            shared_text(test.rt, self.folder.as_str(), name, make)?;
+        }
+        Ok(())
+    }
+
+    /// Looks at so many texts, once at each.
+    fn make_all(&self, test: &Scope<Task, Shared>, count: u32) -> Result<(), Stop> {
+        for number in 0..count {
+            let name = format!(in test.rt.alloc(); "made-{number}")?;
+            self.look(test, 1, name.as_str())?;
+        }
+        Ok(())
+    }
+}
+
+impl SharingEngine for Trial {
+    fn in_folder(folder: String) -> Trial {
+        Trial { folder }
+    }
+
+    fn close_text(&self, rt: &HostRuntime, name: &str, text: &str) -> anyhow::Result<()> {
+        Ok(tell(rt, "closed", name, text)?)
+    }
+}
+
+/// The number of this process, of which the log tells that it makes a text, and that it has.
+fn made_text(node: &Scope<Task, Shared>, name: &str) -> Result<String, Stop> {
+    let text = format!(in node.rt.alloc(); "{}", process::id(node.rt.process()))?;
+    tell(node.rt, "makes", name, text.as_str())?;
+    thread::sleep(node.rt, Duration::from_millis(200));
+    tell(node.rt, "made", name, text.as_str())?;
+    Ok(text)
+}
+
+/// Adds a line to the log.
+fn tell(rt: &HostRuntime, what: &str, name: &str, text: &str) -> io::Result<()> {
+    if let Some(path) = log(rt) {
+        let line = format!(in rt.alloc(); "{what} {name} {text}\n")?;
+        let mut log = OpenOptions::new()
+            .append(true)
+            .create(true)
+            .open(rt, path.as_str())?;
+        log.write_all(line.as_bytes())?;
+    }
+    Ok(())
 }
 
 /// Does what a call is given.
@@ -228,7 +329,7 @@ fn act(call: &Scope<Task, Shared>) -> Result<(), Stop> {
 fn count<'a>(call: &Scope<'a, Task, Shared>) -> Result<&'a AtomicU64, Stop> {
     match call.nearest()? {
         Shared::Count(count) => Ok(count),
-        Shared::Inner | Shared::Unclosable => Err(call.fail("no count is shared")),
+        Shared::Inner | Shared::Unclosable | Shared::Text => Err(call.fail("no count is shared")),
     }
 }
 
@@ -300,5 +401,5 @@ fn meet(call: &Scope<Task, Shared>, count: &AtomicU64, others: u64) -> Result<()
 }
 
 fn main(rt: HostRuntime) -> ExitCode {
-    main_of(&rt, &rt, "trial", &Trial, tests(&rt))
+    main_in_folder::<HostRuntime, Trial>(&rt, &rt, "trial", tests(&rt))
 }

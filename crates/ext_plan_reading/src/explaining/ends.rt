@@ -1,8 +1,8 @@
 //! The end of an explanation: the node's id, and the line of the plan with the fault.
 use crate::explaining::fields::table_of;
-use crate::explaining::line_at;
 use crate::explaining::spots::{Spot, byte_of};
 use crate::explaining::words::Meaning;
+use crate::explaining::{Place, line_at};
 use crate::fault::{PlanFault, PlanPart};
 use crate::fields::{tables_at, text_at};
 use std::alloc::Global;
@@ -10,7 +10,8 @@ use toml::Table;
 
 /// Appends the end of an explanation: the node's id as the plan spells it, and the line of the field
 /// or the step at fault, or else that where the table of the key or the node begins, each if it is
-/// known. The explanation of a bad id contains the id already.
+/// known; of a field of the plan itself line and column. The explanation of a bad id contains the id
+/// already.
 pub(crate) fn with_end(
     alloc: Global,
     text: &str,
@@ -19,6 +20,12 @@ pub(crate) fn with_end(
     meaning: &Meaning,
 ) -> Result<String, PlanFault> {
     let part = meaning.part.unwrap_or(fault.part());
+    if let (PlanPart::Whole, Some(spot)) = (part, &meaning.spot)
+        && let Some(at) = byte_at_top(text, spot)
+    {
+        let place = Place::of(text, at);
+        return Ok(format!(in alloc; "{} ({place})", meaning.words.as_str())?);
+    }
     let line = line_of(alloc, text, part, &meaning.spot)?;
     let words = meaning.words.as_str();
     let id = id_of(alloc, top, fault)?;
@@ -67,6 +74,48 @@ fn line_of(
         return Ok(Some(line_at(text, byte_at(text, end, spot))));
     }
     Ok(None)
+}
+
+/// The byte at which a field of the plan itself stands, or the header of a table with its name.
+fn byte_at_top(text: &str, spot: &Spot) -> Option<usize> {
+    let from = if text.starts_with('\u{feff}') { 3 } else { 0 };
+    match byte_of(text, from, spot) {
+        None => byte_of_header(text, spot.field.as_str()),
+        Some(at) => Some(begin_of_line(text, at)),
+    }
+}
+
+/// The byte of the first character, but white ones, of the line with this byte.
+fn begin_of_line(text: &str, at: usize) -> usize {
+    let before = text.get(..at).unwrap_or("");
+    let line = match before.rsplit_once('\n') {
+        None => before,
+        Some((_, line)) => line,
+    };
+    at.saturating_sub(line.trim_start_matches('\u{feff}').trim_start().len())
+}
+
+/// The byte of the first header of a table with this name, or of one below it.
+fn byte_of_header(text: &str, name: &str) -> Option<usize> {
+    let mut begin: usize = 0;
+    for line in text.split('\n') {
+        if let Some(header) = line.trim().strip_prefix('[')
+            && is_name_of(header.trim_start_matches('['), name)
+        {
+            let white = line.len().saturating_sub(line.trim_start().len());
+            return Some(begin.saturating_add(white));
+        }
+        begin = begin.saturating_add(line.len()).saturating_add(1);
+    }
+    None
+}
+
+/// Tests whether what follows the bracket of a header begins with this name.
+fn is_name_of(header: &str, name: &str) -> bool {
+    match header.split([']', '.']).next() {
+        None => false,
+        Some(first) => first.trim().trim_matches('"') == name,
+    }
 }
 
 /// The byte at which a spot in the table stands whose header ends here, or else this one.

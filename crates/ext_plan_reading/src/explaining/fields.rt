@@ -105,12 +105,32 @@ fn unknown_among(alloc: Global, name: &str, fields: &[&str]) -> Result<Option<St
             "it may not have a field {name:?}, which stands before all tables. Allowed are {all}"
         )?));
     }
-    Ok(Some(match nearest(fields, name) {
+    if fields.contains(&"id") && is_nested(name) {
+        return Ok(Some(format!(in alloc;
+            "it may not have a field {name:?}: nodes do not nest, and a node's id makes it the child of another. Allowed are {all}"
+        )?));
+    }
+    Ok(Some(match meant_by(fields, name) {
         None => format!(in alloc; "it may not have a field {name:?}. Allowed are {all}")?,
         Some(near) => format!(in alloc;
             "it may not have a field {name:?}: did you mean {near:?}? Allowed are {all}"
         )?,
     }))
+}
+
+/// Tests whether a field of a node is likely meant for the nodes below it.
+fn is_nested(name: &str) -> bool {
+    matches!(name, "node" | "nodes" | "child" | "children")
+}
+
+/// The field of these that was meant by another name.
+fn meant_by<'a>(fields: &[&'a str], name: &str) -> Option<&'a str> {
+    let other = match name {
+        "steps" => "test",
+        "concurrent" | "parallel" => "mode",
+        _ => name,
+    };
+    nearest(fields, other)
 }
 
 /// Tests whether a field is one of the plan's own that is no array of tables.
@@ -119,7 +139,7 @@ fn stands_at_top(name: &str) -> bool {
 }
 
 /// The names, with a comma and a space between two.
-fn listed(alloc: Global, names: &[&str]) -> Result<String, PlanFault> {
+pub(crate) fn listed(alloc: Global, names: &[&str]) -> Result<String, PlanFault> {
     let mut list = String::new(alloc);
     for name in names {
         if !list.is_empty() {
@@ -179,9 +199,7 @@ fn no_type(
     kind: FieldType,
 ) -> Result<Option<String>, PlanFault> {
     let wrong = what_is_wrong(kind);
-    if let FieldType::TablesIfGiven = kind
-        && is_table(table, name)
-    {
+    if let FieldType::TablesIfGiven = kind {
         return Ok(Some(format!(in alloc; "its field {name:?}{wrong}: write [[{name}]]")?));
     }
     if let FieldType::KeysIfGiven = kind
@@ -190,9 +208,9 @@ fn no_type(
         return Ok(Some(format!(in alloc; "its field {name:?}{wrong}: did you mean [[key]]?")?));
     }
     match (kind, table.get(name)) {
-        (FieldType::TruthIfGiven, Some(value)) if is_quoted_truth(value) => Ok(Some(
-            format!(in alloc; "its field {name:?}{wrong}: write it without quotes")?,
-        )),
+        (kind, Some(value)) if is_quoted(kind, value) => Ok(Some(format!(in alloc;
+            "its field {name:?}{wrong}: write it without quotes"
+        )?)),
         (FieldType::TextsIfGiven, Some(value)) => no_texts(alloc, name, wrong, value.as_str()),
         (FieldType::TextListsIfGiven, Some(_)) => Ok(Some(format!(in alloc;
             "its field {name:?}{wrong}, such as [[\"put a x\"], [\"put b y\"]]"
@@ -201,9 +219,20 @@ fn no_type(
     }
 }
 
-/// Tests whether a value is `true` or `false` in quotes.
-fn is_quoted_truth(value: &Value) -> bool {
-    matches!(value.as_str(), Some("true" | "false"))
+/// Tests whether a value is one of this type in quotes: `true` or `false`, or a number.
+fn is_quoted(kind: FieldType, value: &Value) -> bool {
+    let Some(text) = value.as_str() else {
+        return false;
+    };
+    match kind {
+        FieldType::TruthIfGiven => matches!(text, "true" | "false"),
+        FieldType::KeysIfGiven | FieldType::RepeatsIfGiven => is_number(text),
+        _ => false,
+    }
+}
+
+fn is_number(text: &str) -> bool {
+    !text.is_empty() && text.chars().all(|c| c.is_ascii_digit())
 }
 
 /// Says that a field is no array of texts, and how one is written if it is a text.

@@ -170,17 +170,28 @@ fn in_the_way(
     }
 }
 
-/// Says something of a node that has no parent before it, and whether its parent stands behind it.
+/// Says something of a node that has no parent before it, with the parent's id, and whether that
+/// stands behind it.
 fn without_parent(
     alloc: Global,
     sketches: &[NodeSketch<'_>],
     node: usize,
     why: &str,
 ) -> Result<Option<Meaning>, PlanFault> {
-    if !has_parent(sketches, node) {
+    let Some(sketch) = sketches.get(node) else {
         return named(alloc, sketches, node, why);
-    }
-    let why = format!(in alloc; "{why}: its parent stands further down")?;
+    };
+    let mut id = String::new(alloc);
+    sketch.id.write_to(&mut id)?;
+    let Some((parent, _)) = id.as_str().rsplit_once('/') else {
+        return named(alloc, sketches, node, why);
+    };
+    let place = if has_parent(sketches, node) {
+        "stands further down"
+    } else {
+        "stands nowhere"
+    };
+    let why = format!(in alloc; "{why}: {parent:?} {place}")?;
     named(alloc, sketches, node, why.as_str())
 }
 

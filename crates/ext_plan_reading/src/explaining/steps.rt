@@ -5,6 +5,7 @@ ghost use Rattle.ext_plan_reading.specs.NodeReading.{ids_of};
 ghost use Rattle.ext_plan_reading.specs.StepReading.{step_at};
 
 use crate::depths::least_test_depth;
+use crate::explaining::fields::listed;
 use crate::explaining::near::nearest;
 use crate::explaining::nodes::{keys_in, nodes_in};
 use crate::explaining::spots::TextNo;
@@ -192,7 +193,7 @@ fn reason(alloc: Global, labels: &Labels<'_>, text: &str) -> Result<String, Plan
     if is_step(alloc, labels, text)? {
         return Ok(String::from_str(alloc, "goes up past the root")?);
     }
-    Ok(reason_of_text(alloc, text)?)
+    reason_of_text(alloc, text)
 }
 
 /// Tests whether a text is a step.
@@ -201,57 +202,85 @@ fn is_step(alloc: Global, labels: &Labels<'_>, text: &str) -> Result<bool, PlanF
 }
 
 /// Why a text is no step, wherever it stands.
-fn reason_of_text(alloc: Global, text: &str) -> Result<String, AllocError> {
+fn reason_of_text(alloc: Global, text: &str) -> Result<String, PlanFault> {
     if text.is_empty() {
-        return String::from_str(alloc, "is an empty step");
+        return Ok(String::from_str(alloc, "is an empty step")?);
     }
     let why = reason_of_words(alloc, text)?;
-    if text.as_bytes().contains(&b'\t') {
-        return format!(in alloc; "has a tab, and {}", why.as_str());
+    if text.contains('\t') {
+        return Ok(format!(in alloc; "has a tab, and {}", why.as_str())?);
+    }
+    if text.chars().any(|c| c.is_whitespace() && c != ' ') {
+        return Ok(format!(in alloc;
+            "has a white character that is no space, and {}",
+            why.as_str()
+        )?);
     }
     Ok(why)
 }
 
 /// Why the words of a text are no step.
-fn reason_of_words(alloc: Global, text: &str) -> Result<String, AllocError> {
+fn reason_of_words(alloc: Global, text: &str) -> Result<String, PlanFault> {
     if text.split(' ').any(|word| word.is_empty()) {
-        return String::from_str(alloc, "has a space too many");
+        return Ok(String::from_str(alloc, "has a space too many")?);
     }
     match words_of(text).as_slice() {
         [name, rest @ ..] => match reason_of(name, rest) {
             None => no_step_word(alloc, name),
-            Some(why) => String::from_str(alloc, why),
+            Some(NoStep::Said(why)) => Ok(String::from_str(alloc, why)?),
+            Some(NoStep::Shape(takes, shape)) => Ok(format!(in alloc;
+                "{takes}: {name} {shape}, or {name} {shape} up N"
+            )?),
+            Some(NoStep::Alone) => Ok(format!(in alloc;
+                "takes one word as its text, and no up: {name} TEXT"
+            )?),
         },
         [] => no_step_word(alloc, ""),
     }
 }
 
-/// Says that no step begins with the word, and which one is near.
-fn no_step_word(alloc: Global, word: &str) -> Result<String, AllocError> {
-    match meant_by(word) {
-        None => String::from_str(alloc, "is none of the steps"),
-        Some(near) => format!(in alloc; "is none of the steps: did you mean {near:?}?"),
-    }
+/// Says that no step begins with the word, which one is near, and which there are.
+fn no_step_word(alloc: Global, word: &str) -> Result<String, PlanFault> {
+    let all = listed(alloc, &STEP_WORDS)?;
+    let all = all.as_str();
+    Ok(match meant_by(word) {
+        None => format!(in alloc; "is none of the steps. The steps are {all}")?,
+        Some(near) => format!(in alloc;
+            "is none of the steps: did you mean {near:?}? The steps are {all}"
+        )?,
+    })
 }
 
 /// The word of a step that was meant by another one.
 fn meant_by(word: &str) -> Option<&'static str> {
     match word {
-        "get" => Some("want"),
+        "get" | "assert" | "expect" => Some("want"),
         "set" => Some("put"),
         "delete" => Some("remove"),
         _ => nearest(&STEP_WORDS, word),
     }
 }
 
-const NO_HEIGHT: &str = "has an up that is no number from 1 to 15";
+/// Why a text is no step.
+enum NoStep {
+    /// What is said of it.
+    Said(&'static str),
+    /// What its first word takes, and how that is written.
+    Shape(&'static str, &'static str),
+    /// Its first word takes one word alone.
+    Alone,
+}
+
+const NO_HEIGHT: NoStep = NoStep::Said("has an up that is no number from 1 to 15");
 
 /// Why a text is no step, by its first word and the words after it, unless no step begins so.
-fn reason_of(name: &str, rest: &[&str]) -> Option<&'static str> {
+fn reason_of(name: &str, rest: &[&str]) -> Option<NoStep> {
     match name {
-        "fail" | "abort" => Some("takes one word as its text, and no up"),
+        "fail" | "abort" => Some(NoStep::Alone),
         "none" | "remove" => Some(no_key_alone(rest)),
-        "put" | "compute" if rest.first() == Some(&"!") => Some("has a space before its !"),
+        "put" | "compute" if rest.first() == Some(&"!") => {
+            Some(NoStep::Said("has a space before its !"))
+        }
         "put" | "put!" | "want" | "compute" | "compute!" | "computefail" => {
             Some(no_key_and_text(rest))
         }
@@ -260,17 +289,17 @@ fn reason_of(name: &str, rest: &[&str]) -> Option<&'static str> {
 }
 
 /// Why these words do not follow the name of a step with a key.
-fn no_key_alone(rest: &[&str]) -> &'static str {
+fn no_key_alone(rest: &[&str]) -> NoStep {
     match rest {
         [_, up, _] if *up == "up" => NO_HEIGHT,
-        _ => "takes a key and no text",
+        _ => NoStep::Shape("takes a key and no text", "KEY"),
     }
 }
 
 /// Why these words do not follow the name of a step with a key and a text.
-fn no_key_and_text(rest: &[&str]) -> &'static str {
+fn no_key_and_text(rest: &[&str]) -> NoStep {
     match rest {
         [_, _, up, _] if *up == "up" => NO_HEIGHT,
-        _ => "takes a key and one text",
+        _ => NoStep::Shape("takes a key and one word as its text", "KEY TEXT"),
     }
 }

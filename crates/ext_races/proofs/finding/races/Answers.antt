@@ -1,6 +1,7 @@
-use Rattle.std.proofs.Common.{◌∙◌, [], Err, map, length, ap, subst, sym, arith, All, ◌<◌}
+use Rattle.std.proofs.Common.{◌∙◌, [], Err, map, length, ap, refl, subst, sym, arith, All, ◌<◌}
 use Rattle.std.specs.List.{count_by}
 use Rattle.ext_plan.specs.Plans.{keys_view, plan_view}
+use Rattle.ext_plan.specs.ReadPlans.{ids_of_nodes}
 use Rattle.ext_plan.specs.StepCalls.{keys_in}
 use Rattle.ext_races.specs.Acts.{draws}
 use Rattle.ext_races.specs.InnerGroups.{IsGrouped, groups_view}
@@ -19,6 +20,12 @@ standing_of-requires-clause-keys c = c.of-keys.ensures ∙ ap keys_view c.as_sli
 
 pub standing_of-requires-clause-made : goal.standing_of-requires-clause-made
 standing_of-requires-clause-made c = ap (made_views []) c.as_slice-5.ensures.value ∙ c.in_ok-made.ensures
+
+pub standing_of-requires-clause-nodes : goal.standing_of-requires-clause-nodes
+standing_of-requires-clause-nodes c =
+    let plan = plan_view c.args.plan.now in
+    let ids = ids_of_nodes plan.nodes in
+    subst (All (λ m. m.node < length ids)) (sym c.as_slice-5.ensures.value) (nodes_in plan c.in_ok-made.made.items ids c.in_ok-made.ensures refl)
 
 pub groups_of-requires-clause-nodes : goal.groups_of-requires-clause-nodes
 groups_of-requires-clause-nodes c =

@@ -8,6 +8,6 @@ pub loop-node-preserved : goal.loop-node-preserved
 loop-node-preserved c =
     let more = lines-more (json_line c.args.extras.now) c.args.tree.now c.args.results.now c.loop-node.node-index c.node-item.result c.id.result.now (search rules) c.node-item.is c.id.ensures in
     c.in_ok-extend_from_slice.ensures.items
-    ∙ ap (λ line. c.loop-node.lines.items ++ line) (c.as_slice.ensures.value ∙ c.in_ok-line.ensures)
+    ∙ ap (λ line. c.loop-node.lines.items ++ line) (c.as_bytes.ensures.value ∙ c.in_ok-line.ensures)
     ∙ ap (λ before. before ++ json_line c.args.extras.now c.id.result.now (result_view c.node-item.result)) c.loop-node.invariant
     ∙ sym more
