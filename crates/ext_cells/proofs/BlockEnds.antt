@@ -52,10 +52,10 @@ low_bits found k few =
     let one : bit_at 4294967295 k ≡ 1 = bit_at_ones 32 k few in
     let most = bit_at-lt (found / 2) k in omega (arith, all, one, most)
 
-block_of : (cells block index cell : ℕ) → index ≡ cells + 1 + block → block_index cells cell ≡ index → cell / 32 ≡ block
+block_of : (cells block index cell : ℕ) → index ≡ cells + 16 + block → block_index cells cell ≡ index → cell / 32 ≡ block
 block_of cells block index cell at here = omega (arith, at, here)
 
-in_block : (cells block index cell : ℕ) → index ≡ cells + 1 + block → cell / 32 ≡ block → block_index cells cell ≡ index
+in_block : (cells block index cell : ℕ) → index ≡ cells + 16 + block → cell / 32 ≡ block → block_index cells cell ≡ index
 in_block cells block index cell at here = omega (arith, at, here)
 
 -- a cell without a mark is open, or has ended
@@ -77,7 +77,7 @@ ended_calls limits lane h cells on below may =
     calls_moved lane_of lane ((h ++ events) ∷ []) events (prefix_trans (seen_by lane) h (h ++ events) on.begins (events, refl), tt) (end_own h n cells ∙ ap (λ z. z ++ events) on.own_same)
 
 module _ (table table' : TableId) (me after : Me (Act ℕ) View) (number block index found marks_are : ℕ) (lane : Lane) (is : lane_with table me.0 number ≡ lane) (inv : IsLaneView me.0 number) (same : table' ≡ table)
-    (at : index ≡ me.0.limits.cells + 1 + block) (bits : (k : ℕ) → k < 32 → bit_at marks_are k ≡ bit_at (found / 2) k) (did : EndOf (marks me.0.limits.cells) me after number index found) where
+    (at : index ≡ me.0.limits.cells + 16 + block) (bits : (k : ℕ) → k < 32 → bit_at marks_are k ≡ bit_at (found / 2) k) (did : EndOf (marks me.0.limits.cells) me after number index found) where
   abbrev limits : Limits
   limits = limits_of me.0.limits
 

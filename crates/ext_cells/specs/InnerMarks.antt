@@ -1,6 +1,6 @@
--- Marks: each cell has a word of its own, at its number; behind these is the count, and then one word for each 32
--- cells, the word of their block. Bit 0 of that word is set once the block has ended, and a further bit for each cell,
--- its mark, once the cell stands at its word. No public contract cites it.
+-- Marks: each cell has a word of its own, at its number; behind these is the count, and then, on other lines of the
+-- cache, one word for each 32 cells, the word of their block. Bit 0 of that word is set once the block has ended, and a
+-- further bit for each cell, its mark, once the cell stands at its word. No public contract cites it.
 use Rattle.std.specs.Prelude.{ℕ, zero, suc, ◌+◌, ◌/◌, ◌%◌, ◌^◌, nat_eq, nat_lt, Bool, true, false, if◌then◌else◌, List, slice_index, Some, None}
 use Rattle.std.specs.Int.{bit_at}
 use Rattle.std.specs.Int.Bits.{bit_or}
@@ -13,7 +13,7 @@ block_count cells = (cells + 31) / 32
 
 -- the index of a cell's block, of so many cells
 abbrev pub block_index : ℕ → ℕ → ℕ
-block_index cells cell = cells + 1 + cell / 32
+block_index cells cell = cells + 16 + cell / 32
 
 -- ---- the word of a block
 
@@ -65,7 +65,7 @@ is_bare cells words cell = if has_mark (slice_index words (block_index cells cel
 -- Marks of so many cells
 abbrev pub marks : ℕ → Layout
 marks cells = record {
-  width = cells + 1 + block_count cells;
+  width = cells + 16 + block_count cells;
   count = cells;
   is_block = λ index. nat_lt cells index;
   sound = λ words. all_below (is_bare cells words) cells;

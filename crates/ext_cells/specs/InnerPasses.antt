@@ -37,7 +37,7 @@ pub record ReadPass (limits : Limits) (before after : LaneView) (cells words : L
 
 -- So stand the marks of a column, behind so many cells and their count.
 pub record IsColumn (cells : ℕ) (column : Column) : Type 0 where
-  pub marks : column.marks ≡ cells + 1 + column.index / 32
+  pub marks : column.marks ≡ cells + 16 + column.index / 32
   pub bits : column.bits ≡ bits_of column.index
 
 -- ---- what is kept of the words

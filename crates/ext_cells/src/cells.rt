@@ -20,6 +20,7 @@ use crate::cell_steps::CellSteps;
 use crate::cell_word::{next_word, parts};
 use crate::decision::{Decision, decide};
 use crate::limits::CellLimits;
+use crate::marks::TO_BLOCKS;
 use crate::opening::{are_limits, give_out, open_words};
 use crate::stood::{Stood, any_number, value_number};
 use crate::{CellLane, CellRefusal, Claim, Claimed, Words};
@@ -366,7 +367,7 @@ impl Cells {
         ensures ended { EndsBlock lane.old lane.new block result }
         ensures steps { length (call_fronts lane.old.view lane.new.view) ≡ 1 }
     {
-        let index = self.limits.cells + 1 + block;
+        let index = self.limits.cells + TO_BLOCKS + block;
         let found = self.table.end(&mut lane.seat, index);
         (found >> 1 & 0xffff_ffff) as u32
     }

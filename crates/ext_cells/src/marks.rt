@@ -9,6 +9,10 @@ use ext_model::CellNo;
 /// What a block's end sets in its word.
 pub(crate) const END: u64 = 1;
 
+/// How far behind the cells the words of blocks begin: the count of numbers stands before them, on
+/// a line of the cache of its own, so that who draws a number slows no look-up.
+pub(crate) const TO_BLOCKS: usize = 16;
+
 /// The word of a cell that its block's end sealed.
 pub(crate) const ENDED_WORD: u64 = 16_777_219;
 
@@ -27,7 +31,7 @@ pub(crate) fn block_index(cells: usize, cell: CellNo) -> usize
     requires cell { cell < cells }
     ensures index { result ≡ block_index_of cells cell }
 {
-    cells + 1 + cell / 32
+    cells + TO_BLOCKS + cell / 32
 }
 
 /// Whether the block of this word has ended.

@@ -9,7 +9,7 @@ ghost use Rattle.ext_cells.specs.InnerSteps.{stepped, Finds};
 ghost use Rattle.ext_cells.specs.WordChanges.{HasState, IsEmptyWord, version_in};
 
 use crate::cell_word::{is_empty, version, what_stands};
-use crate::marks::bits_of;
+use crate::marks::{TO_BLOCKS, bits_of};
 use crate::{CellLane, CellRefusal, Cells, Standing};
 
 /// A row, of some that were named in order, in whose cell anything stands.
@@ -134,7 +134,7 @@ impl Cells {
         let cells = Column {
             blocks,
             index: column,
-            marks: self.limits.cells + 1 + column / 32,
+            marks: self.limits.cells + TO_BLOCKS + column / 32,
             bits: bits_of(column),
         };
         let empty = self.read_empty(lane, rows, cells);

@@ -6,7 +6,7 @@ ghost use Rattle.ext_cells.specs.InnerMarks.{marks};
 
 use crate::CellLane;
 use crate::limits::CellLimits;
-use crate::marks::block_count;
+use crate::marks::{TO_BLOCKS, block_count};
 use crate::rule::{CellTable, LaneSeat, NewLane, SharedWords};
 use ext_model::{LaneNo, Size};
 use std::alloc::{AllocError, Global};
@@ -42,7 +42,7 @@ pub(crate) fn open_words(
     ensures table { IfOk result (λ r. r.1.table_id ≡ r.0.shared.table_id) }
     ensures first { IfOk result (λ r. r.1.me.0 ≡ first_lane limits.now) }
 {
-    let words = zero_words(alloc, limits.cells + 1 + block_count(limits.cells))?;
+    let words = zero_words(alloc, limits.cells + TO_BLOCKS + block_count(limits.cells))?;
     CellTable::of_words(alloc, words.as_slice(), limits)
 }
 

@@ -7,8 +7,9 @@ use Rattle.std.proofs.lemmas.Bool.Decides.{nat_tests}
 use Rattle.std.proofs.lemmas.List.{take_more}
 use Rattle.ext_locks.specs.declared.event.LockMode.{LockMode}
 use Rattle.ext_locks.specs.History.{same_mode}
-use Rattle.ext_locks.specs.Sets.{locks_from, locks_of, locks_below, wants}
+use Rattle.ext_locks.specs.Sets.{AllBelow, is_lock, locks_from, locks_of, locks_below, wants}
 use Rattle.ext_locks.specs.InnerSteps.{has_mode}
+use Rattle.ext_locks.proofs.Histories.{same_mode_self}
 
 -- the locks from a number on have no lower one
 pub wants_low : (n : ℕ) (modes : List (Option LockMode)) (lock : ℕ) (mode : LockMode) → lock < n → wants (locks_from n modes) lock mode ≡ false
@@ -85,6 +86,23 @@ below_from n (suc j) k (Some m ∷ modes) is =
 -- the locks below a number are those of the modes below it
 pub below_take : (modes : List (Option LockMode)) (k : ℕ) → locks_below k (locks_of modes) ≡ locks_of (take k modes)
 below_take modes k = below_from 0 k k modes (omega arith)
+
+-- a set whose locks are below a number is that of the modes below it
+all_below : (k : ℕ) (set : List (ℕ × LockMode)) → AllBelow k set → locks_below k set ≡ set
+all_below k [] all = refl
+all_below k (x ∷ set) all =
+    cond-true (nat_lt x.0 k) (x ∷ locks_below k set) (locks_below k set) (lt_true x.0 k (all.each x.0 x.1 here))
+    ∙ ap (λ t. x ∷ t) (all_below k set (record { each = λ lock mode is. all.each lock mode (ap (λ b. is_lock lock mode x || b) is ∙ or_true (is_lock lock mode x)) }))
+  where
+    here : wants (x ∷ set) x.0 x.1 ≡ true
+    here = ap (λ b. (b && same_mode x.1 x.1) || wants set x.0 x.1) (eq-eqb x.0 x.0 refl) ∙ ap (λ b. b || wants set x.0 x.1) (same_mode_self x.1)
+
+    or_true : (b : Bool) → (b || true) ≡ true
+    or_true true = refl
+    or_true false = refl
+
+pub take_low : (modes : List (Option LockMode)) (k : ℕ) → AllBelow k (locks_of modes) → locks_of (take k modes) ≡ locks_of modes
+take_low modes k all = sym (below_take modes k) ∙ all_below k (locks_of modes) all
 
 -- a lock that has a mode stands behind those below it
 get_from : (n : ℕ) (modes : List (Option LockMode)) (k : ℕ) (m : LockMode) → slice_index_or modes k None ≡ Some m → slice_get (locks_from n modes) (length (locks_from n (take k modes))) ≡ Some (n + k, m)

@@ -178,11 +178,11 @@ impl Locks {
             &self.table,
             &mut lane.seat,
             lane.number,
-            &set.modes,
+            set.modes(),
             self.tries,
         ) {
             Ok(()) => Ok(Held {
-                set: LockSet { modes: set.modes },
+                set: set.copied(),
                 taken: Snapshot::of(lane),
                 names: Snapshot::of(&self.names),
             }),
@@ -218,9 +218,9 @@ impl Locks {
             waiters: &self.waiters,
             tries: self.tries,
         };
-        wait_for_locks(rt, &shared, &mut lane.seat, lane.number, &set.modes);
+        wait_for_locks(rt, &shared, &mut lane.seat, lane.number, set.modes());
         Held {
-            set: LockSet { modes: set.modes },
+            set: set.copied(),
             taken: Snapshot::of(lane),
             names: Snapshot::of(&self.names),
         }
@@ -242,7 +242,7 @@ impl Locks {
             taken: _,
             names: _,
         } = held;
-        let modes: &[Option<LockMode>] = &set.modes;
+        let modes = set.modes();
         give_locks(&self.table, &mut lane.seat, lane.number, modes, modes.len());
         self.waiters.wake_all();
     }

@@ -55,5 +55,8 @@ pub(crate) fn merge_requests(
         };
         modes[lock] = Some(stronger(modes[lock], request.mode));
     }
-    Ok(LockSet { modes })
+    Ok(LockSet {
+        modes,
+        locks: names.len() + 1,
+    })
 }

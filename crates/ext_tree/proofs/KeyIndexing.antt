@@ -1,10 +1,10 @@
 -- The index of the keys that a lane knows: what a search tells, and what adding a key keeps.
-use Rattle.std.proofs.Common.{ℕ, ◌≡◌, ◌≢◌, ◌<◌, ◌≤◌, ◌+◌, ◌-◌, ◌*◌, ◌%◌, inl, inr, ◌∙◌, Bool, true, false, List, Option, Some, IsSome, length, get_or, set, replicate, slice_index_or, sym, ap, subst, refl, arith, below_more}
+use Rattle.std.proofs.Common.{ℕ, ◌≡◌, ◌≢◌, ◌<◌, ◌≤◌, ◌+◌, ◌-◌, ◌*◌, ◌/◌, ◌%◌, inl, inr, ◌∙◌, Bool, true, false, List, Option, Some, IsSome, length, get_or, set, replicate, slice_index_or, sym, ap, subst, refl, arith, below_more}
 use Rattle.std.proofs.lemmas.Bool.{cases_order}
 use Rattle.std.proofs.lemmas.List.{get_or-set_same, get_or-set_other, get_or_default, length-replicate, length-set}
 use Rattle.std.proofs.lemmas.List.Elements.{All-replicate, All-set}
 use Rattle.ext_tree.specs.Keys.{KeyValue, KnownPlace, HoldsOther, PassedBefore, IsKeyNumber, KeepsKeys, Tells, key_at}
-use Rattle.ext_tree.specs.InnerIndexing.{AreHints, AreNotes, Ends, Finds, FindsAt, IsHint, IsIndexed, MeetsHints, hint_at, short_hash, slot_at}
+use Rattle.ext_tree.specs.InnerIndexing.{AreHints, AreNotes, Ends, Finds, FindsAt, IsHint, IsIndexed, MeetsHints, first_slot, hint_at, short_hash, slot_at}
 use Rattle.ext_tree.proofs.KeyPlacing.{hints_stay, one_key, same_length}
 
 -- ---- a search
@@ -34,10 +34,10 @@ pub hint_is : (notes : List KnownPlace) (hints : List ℕ) (slot hint : ℕ) →
 hint_is notes hints slot hint are within read = subst (λ h. IsHint notes h) (sym read) (are slot hint within)
 
 -- the hint that was read in this step
-pub met_here : (hints : List ℕ) (key : KeyValue) (first step count hint : ℕ) → first ≡ short_hash key → count ≡ length hints → step < length hints → hint ≡ get_or hints ((first + step) % count) hint → hint_at hints key step ≡ hint
+pub met_here : (hints : List ℕ) (key : KeyValue) (first step count hint : ℕ) → first ≡ first_slot hints key → count ≡ length hints → step < length hints → hint ≡ get_or hints ((first + step) % count) hint → hint_at hints key step ≡ hint
 met_here hints key first step count hint is long below read =
     let within : (first + step) % count < length hints = omega (arith, long, below) in
-    sym (read ∙ (get_or_default hints ((first + step) % count) hint 0 within ∙ ap (λ f. slice_index_or hints ((f + step) % count) 0) is ∙ ap (λ n. slice_index_or hints ((short_hash key + step) % n) 0) long))
+    sym (read ∙ (get_or_default hints ((first + step) % count) hint 0 within ∙ ap (λ f. slice_index_or hints ((f + step) % count) 0) is ∙ ap (λ n. slice_index_or hints ((first_slot hints key + step) % n) 0) long))
 
 pub hint_number : (notes : List KnownPlace) (hint : ℕ) (key : KeyValue) → IsHint notes hint → hint ≢ 0 → key_at notes (hint - 1) ≡ Some key → IsKeyNumber notes key (hint - 1)
 hint_number notes hint key is there known =
@@ -139,7 +139,7 @@ module _ (notes : List KnownPlace) (hints : List ℕ) (key : KeyValue) (slot num
   long = length-set hints slot (number + 1)
 
   slot_same : (k : KeyValue) (step : ℕ) → slot_at written k step ≡ slot_at hints k step
-  slot_same k step = ap (λ n. (short_hash k + step) % n) long
+  slot_same k step = ap (λ n. (short_hash k * n / 65536 + step) % n) long
 
   here : slot < length hints
   here = let (step, end) = ends in let is = end.slot_is in omega (arith, end.within, is)

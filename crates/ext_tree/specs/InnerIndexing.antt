@@ -1,6 +1,6 @@
 -- How a lane finds the keys that it knows: a table of hints, which a search goes through from the key's hash on. Only
 -- contracts of private functions cite it.
-use Rattle.std.specs.Prelude.{ℕ, ◌≡◌, ◌≢◌, ◌<◌, ◌≤◌, ◌+◌, ◌-◌, ◌*◌, ◌%◌, ◌⊎◌, All, List, [], Some, length, slice_index_or}
+use Rattle.std.specs.Prelude.{ℕ, ◌≡◌, ◌≢◌, ◌<◌, ◌≤◌, ◌+◌, ◌-◌, ◌*◌, ◌/◌, ◌%◌, ◌⊎◌, All, List, [], Some, length, slice_index_or}
 use Rattle.std.specs.Hash.FoldHasher.{initial, write, finish}
 use Rattle.ext_tree.specs.Keys.{KeyValue, KnownPlace, NamespaceValue, IsKeyNumber, key_at}
 
@@ -19,9 +19,13 @@ IsHint notes hint = (hint ≡ 0) ⊎ ((key : KeyValue) × IsKeyNumber notes key 
 abbrev pub AreHints : List KnownPlace → List ℕ → Type 0
 AreHints notes hints = All (λ hint. IsHint notes hint) hints
 
--- The slot that a search for a key looks at in this step. It begins at the key's hash, and goes round.
+-- The slot at which a search for a key begins: as far among all as its hash is among hashes.
+abbrev pub first_slot : List ℕ → KeyValue → ℕ
+first_slot hints key = short_hash key * length hints / 65536
+
+-- The slot that a search for a key looks at in this step. It goes round.
 abbrev pub slot_at : List ℕ → KeyValue → ℕ → ℕ
-slot_at hints key step = (short_hash key + step) % length hints
+slot_at hints key step = (first_slot hints key + step) % length hints
 
 -- The hint that a search for a key meets in this step.
 abbrev pub hint_at : List ℕ → KeyValue → ℕ → ℕ

@@ -1,8 +1,8 @@
 //! Where a lane finds the numbers of the keys that it knows.
-ghost use Rattle.std.specs.Prelude.{◌≡◌, ◌*◌, ◌<◌, ◌≤◌, IfErr, IfOk, IfSome, IsSome, map, replicate};
+ghost use Rattle.std.specs.Prelude.{◌≡◌, ◌*◌, ◌<◌, ◌≤◌, IfErr, IfOk, IfSome, IsSome, length, map, replicate};
 ghost use Rattle.once_cell.specs.Once.{cell_name};
 ghost use Rattle.ext_tree.specs.Keys.{AreKeyNotesOf, IsKeyNumber, PassedBefore, key_at};
-ghost use Rattle.ext_tree.specs.InnerIndexing.{AreNotes, Ends, Finds};
+ghost use Rattle.ext_tree.specs.InnerIndexing.{AreNotes, Ends, Finds, first_slot};
 
 use crate::Key;
 use crate::key_entry::KeyEntry;
@@ -33,6 +33,17 @@ impl KeyIndex {
         Ok(KeyIndex { hints, next: 0 })
     }
 
+    /// The slot at which a search for the key begins.
+    #[inline(always)]
+    fn first_slot(&self, key: &Key) -> usize
+        requires some { 0 < length self.now.hints.items }
+        requires few { length self.now.hints.items ≤ 2048 }
+        ensures slot { result ≡ first_slot self.now.hints.items key.now }
+        ensures within { result < length self.now.hints.items }
+    {
+        key.short_hash() * self.hints.len() / 65_536
+    }
+
     /// The number of the key, if the search finds it at its first slot, as it mostly does.
     #[inline(always)]
     pub fn first(
@@ -46,12 +57,10 @@ impl KeyIndex {
         ensures number { IfSome result (IsKeyNumber entries.old key.now) }
         ensures unchanged { entries.new ≡ entries.old }
     {
-        let first = key.short_hash();
-        let slots = self.hints.len();
-        if slots == 0 {
+        if self.hints.is_empty() {
             return None;
         }
-        let hint = self.hints[first % slots];
+        let hint = self.hints[self.first_slot(key)];
         if hint == 0 {
             return None;
         }
@@ -78,7 +87,10 @@ impl KeyIndex {
         ensures free { IfErr result (λ slot. IfSome slot (Ends self.now.hints.items key.now)) }
         ensures unchanged { entries.new ≡ entries.old }
     {
-        let first = key.short_hash();
+        if self.hints.is_empty() {
+            return Err(None);
+        }
+        let first = self.first_slot(key);
         for step in 0..self.hints.len() {
             let slot = (first + step) % self.hints.len();
             let hint = self.hints[slot];

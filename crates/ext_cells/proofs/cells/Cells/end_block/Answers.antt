@@ -3,10 +3,10 @@ use Rattle.ext_cells.proofs.BlockEnds.{low_bits, ends_block, end_stays, end_cell
 use Rattle.ext_cells.proofs.cells.Cells.end_block.Goals as goal
 
 -- where the block's word stands, as the lane knows the cells
-at_block : (c : goal.After-end-found) → c.self.inside.limits.cells + 1 + c.args.block ≡ c.lane.inside.seat.me.0.limits.cells + 1 + c.args.block
+at_block : (c : goal.After-end-found) → c.self.inside.limits.cells + 16 + c.args.block ≡ c.lane.inside.seat.me.0.limits.cells + 16 + c.args.block
 at_block c =
     let cells : c.lane.inside.seat.me.0.limits.cells ≡ c.self.inside.limits.cells = ap (λ z. z.cells.limits.cells) c.lane.view_is ∙ ap (λ z. z.limits.cells) c.requires.lane ∙ ap (λ z. z.id.limits.cells) (sym c.self.view_is) in
-    ap (λ n. n + 1 + c.args.block) (sym cells)
+    ap (λ n. n + 16 + c.args.block) (sym cells)
 
 pub invariant_of-lane : goal.invariant_of-lane
 invariant_of-lane c =

@@ -8,7 +8,7 @@ use Rattle.ext_locks.proofs.set.LockSet.get.Goals.{in-Some+else-left-eq0, in_def
 
 pub returns-then-left-eq0 : goal.returns-then-left-eq0
 returns-then-left-eq0 c =
-    get_lock c.self.inside.modes c.args.self.now c.loop-lock.lock c.args.i c.in-Some.mode c.self.view_is c.in-Some.is
+    get_lock c.modes-modes.result.now c.args.self.now c.loop-lock.lock c.args.i c.in-Some.mode c.modes-modes.ensures c.in-Some.is
     (let e = c.loop-lock.invariant in let z = c.if-left-eq0.true in omega arith)
 
 pub loop-lock-preserved : goal.loop-lock-preserved
@@ -17,17 +17,17 @@ loop-lock-preserved c =
       | in-Some+else-left-eq0 w ↦ (
           let e = c.loop-lock.invariant in
           let l = w.left-is in
-          let m = ap length (locks_more c.self.inside.modes c.loop-lock.lock w.in-Some.mode c.loop-lock-test.true w.in-Some.is) in
-          let a = length-append (locks_of (take c.loop-lock.lock c.self.inside.modes)) ((c.loop-lock.lock, w.in-Some.mode) ∷ []) in
+          let m = ap length (locks_more c.modes-modes.result.now c.loop-lock.lock w.in-Some.mode c.loop-lock-test.true w.in-Some.is) in
+          let a = length-append (locks_of (take c.loop-lock.lock c.modes-modes.result.now)) ((c.loop-lock.lock, w.in-Some.mode) ∷ []) in
           omega arith)
       | in_default w ↦ (
           let e = c.loop-lock.invariant in
           let l = w.left-is in
-          let m = ap length (locks_same c.self.inside.modes c.loop-lock.lock c.loop-lock-test.true w.in_default.is) in
+          let m = ap length (locks_same c.modes-modes.result.now c.loop-lock.lock c.loop-lock-test.true w.in_default.is) in
           omega arith)
     ]
 
 pub returns : goal.returns
 returns c =
-    let whole = take_all c.loop-lock.lock c.self.inside.modes c.loop-lock-test.false in
-    sym (slice_get_past c.args.self.now c.args.i (let e = c.loop-lock.invariant in let l = ap (λ m. length (locks_of m)) whole in let v = ap length c.self.view_is in omega arith))
+    let whole = take_all c.loop-lock.lock c.modes-modes.result.now c.loop-lock-test.false in
+    sym (slice_get_past c.args.self.now c.args.i (let e = c.loop-lock.invariant in let l = ap (λ m. length (locks_of m)) whole in let v = ap length c.modes-modes.ensures in omega arith))

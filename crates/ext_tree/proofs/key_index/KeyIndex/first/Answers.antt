@@ -6,14 +6,12 @@ use Rattle.ext_tree.proofs.key_index.KeyIndex.first.Goals as goal
 
 pub known_key-requires-clause-known : goal.known_key-requires-clause-known
 known_key-requires-clause-known c =
-    let within : c.short_hash-first.result % c.len-slots.result < length c.args.self.now.hints.items = omega (arith, c.if-slots-eq0.false) in
-    let is : IsHint c.args.entries.now c.index-hint.result.now = hint_is c.args.entries.now c.args.self.now.hints.items (c.short_hash-first.result % c.len-slots.result) c.index-hint.result.now c.requires.notes.right within c.index-hint.ensures in
+    let is : IsHint c.args.entries.now c.index-hint.result.now = hint_is c.args.entries.now c.args.self.now.hints.items c.first_slot.result c.index-hint.result.now c.requires.notes.right c.first_slot.ensures.within c.index-hint.ensures in
     let (key, number) = hint_known c.args.entries.now c.index-hint.result.now is c.if-hint-eq0.false in
     some_at c.args.entries.now key (c.index-hint.result.now - 1) number.there
 
 pub returns-then-eq-clause-number : goal.returns-then-eq-clause-number
 returns-then-eq-clause-number c =
-    let within : c.short_hash-first.result % c.len-slots.result < length c.args.self.now.hints.items = omega (arith, c.if-slots-eq0.false) in
-    let is : IsHint c.args.entries.now c.index-hint.result.now = hint_is c.args.entries.now c.args.self.now.hints.items (c.short_hash-first.result % c.len-slots.result) c.index-hint.result.now c.requires.notes.right within c.index-hint.ensures in
+    let is : IsHint c.args.entries.now c.index-hint.result.now = hint_is c.args.entries.now c.args.self.now.hints.items c.first_slot.result c.index-hint.result.now c.requires.notes.right c.first_slot.ensures.within c.index-hint.ensures in
     hint_number c.args.entries.now c.index-hint.result.now c.args.key.now is c.if-hint-eq0.false
     (c.known_key.ensures.key ∙ ap (λ k. Some k) ((keys_Decides c.known_key.result.now c.args.key.now).0 (sym c.eq.ensures ∙ c.if-eq.true)))
