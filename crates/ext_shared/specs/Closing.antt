@@ -1,5 +1,7 @@
 -- In which order the texts of a folder are closed: the latest first, each once. What the folder's file of names holds no
--- clause can say; so the clauses say it of any lines. An own rule, for Javadoc `ExtensionContext.Store.CloseableResource`.
+-- clause can say; so the clauses say it of any lines, and where there are none nothing is closed. That a run's texts are
+-- closed, and the latest first, is tested; that lines are ordered so is proved of `closing_order` (src/closing.rt). An own
+-- rule, for Javadoc `ExtensionContext.Store.CloseableResource`.
 use Rattle.std.specs.Prelude.{◌≡◌, ◌⊎◌, ℕ, ◌&&◌, not, Bool, List, [], ◌∷◌, ◌++◌, if◌then◌else◌}
 use Rattle.std.specs.List.{FoldsTo, list_any}
 use Rattle.std.specs.Str.{bytes_eq}

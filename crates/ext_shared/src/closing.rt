@@ -16,8 +16,9 @@ pub trait TextCloser {
     /// What becomes of the closer with the end of a text: anything, unless it says otherwise.
     ghost closes: { Self → List ℕ → List ℕ → Self → Type 0 } = { λ before name text after. Unit {0} };
 
-    /// Ends what the text of this name stands for, and notes a fault where there is one. It comes
-    /// twice for a text where the process was killed during the first call.
+    /// Ends what the text of this name stands for, and notes a fault where there is one. It comes again
+    /// for a text where the process was killed during a call or right behind it, or where the text's
+    /// file was not removed.
     fn close_text(&mut self, rt: &HostRuntime, name: &str, text: &str)
         ensures { closes self.old name.now text.now self.new };
 }

@@ -7,6 +7,7 @@
 #![tactic(auto)]
 
 mod closing;
+mod files;
 mod name;
 mod run_folder;
 mod sharing;

@@ -3,12 +3,12 @@ ghost use Rattle.std.specs.Prelude.{◌≡◌, ◌↔◌, Err, IfErr, IfOk, IsEr
 ghost use Rattle.ext_shared.specs.Making.{IfNotMade, IsNameFault};
 ghost use Rattle.ext_shared.specs.Names.{is_text_name};
 
+use crate::files::{add_line, is_at, open_to_lock, open_to_write, standing};
 use crate::is_text_name;
-use crate::run_folder::{open_folder, order_file};
 use std::alloc::AllocError;
 use std::fmt::{self, Display, Formatter};
-use std::fs::{self, OpenOptions};
-use std::io::{self, ErrorKind, Write};
+use std::fs::{self, File};
+use std::io::{self, ErrorKind};
 
 /// A text that the processes of a run share.
 #[derive(Debug, Drop, PartialEq, Eq)]
@@ -68,9 +68,10 @@ impl<E> From<AllocError> for SharedFault<E> {
 /// Of the processes and threads that come at once one makes it, and the others wait; where that one
 /// fails or is killed, the next makes it. Takes memory, and may wait.
 ///
-/// The system holds the locks, and gives them back when a process dies. A process that is killed
-/// after `make` has started something and before the text stands leaves that behind, and nobody closes
-/// it. `make` may ask for other texts of the folder; two that ask for each other's wait for ever.
+/// The system holds the locks, and gives them back when a process dies. A process that is killed or
+/// cannot write after `make` has started something, and before the text stands, leaves that behind, and
+/// nobody closes it. `make` may ask for other texts of the folder; two that ask for each other's wait
+/// for ever.
 pub fn shared_text<E: Drop, F: FnOnce() -> Result<String, E>>(
     rt: &HostRuntime,
     folder: &str,
@@ -105,14 +106,8 @@ fn made<E: Drop, F: FnOnce() -> Result<String, E>>(
     ensures not_made { IfErr result (λ why. IfNotMade why (λ fault. F.post make (Err fault))) }
     ensures name { ¬ IsErrAnd result IsNameFault }
 {
-    let using = open_folder(rt, folder)?;
-    using.lock_shared()?;
-    let path = format!(in rt.alloc(); "{value}.lock")?;
-    let lock = OpenOptions::new()
-        .write(true)
-        .create(true)
-        .open(rt, path.as_str())?;
-    lock.lock()?;
+    let _using = held_folder(rt, folder)?;
+    let _lock = held_name(rt, folder, name, value)?;
     // Whoever held it before may have made the text.
     if let Some(text) = standing(rt, value)? {
         return Ok(found(text));
@@ -134,13 +129,26 @@ fn found(text: String) -> SharedText
     }
 }
 
-/// What stands in this file, if there is one.
-pub(crate) fn standing(rt: &HostRuntime, value: &str) -> io::Result<Option<String>> {
-    match fs::read_to_string(rt, value) {
-        Ok(text) => Ok(Some(text)),
-        Err(why) if why.kind() == ErrorKind::NotFound => Ok(None),
-        Err(why) => Err(why),
+/// The folder with its lock, which makers share.
+fn held_folder(rt: &HostRuntime, folder: &str) -> io::Result<File> {
+    let using = open_to_lock(rt, folder)?;
+    using.lock_shared()?;
+    if is_at(rt, &using, folder)? {
+        Ok(using)
+    } else {
+        // It was closed meanwhile, and may have been made anew.
+        Err(io::Error::from(ErrorKind::NotFound))
     }
+}
+
+/// The file that keeps other makers of this text out, with its lock.
+fn held_name(rt: &HostRuntime, folder: &str, name: &str, value: &str) -> io::Result<File> {
+    let line = format!(in rt.alloc(); "{name}.lock")?;
+    add_line(rt, folder, line.as_str())?;
+    let path = format!(in rt.alloc(); "{value}.lock")?;
+    let lock = open_to_write(rt, path.as_str())?;
+    lock.lock()?;
+    Ok(lock)
 }
 
 /// Writes the text: all of it stands there, or nothing. Its place in the order of the closes comes
@@ -148,12 +156,6 @@ pub(crate) fn standing(rt: &HostRuntime, value: &str) -> io::Result<Option<Strin
 fn write(rt: &HostRuntime, folder: &str, name: &str, value: &str, text: &str) -> io::Result<()> {
     let part = format!(in rt.alloc(); "{value}.part")?;
     fs::write(rt, part.as_str(), text)?;
-    let line = format!(in rt.alloc(); "{name}\n")?;
-    let order = order_file(rt, folder)?;
-    let mut order = OpenOptions::new()
-        .append(true)
-        .create(true)
-        .open(rt, order.as_str())?;
-    order.write_all(line.as_bytes())?;
+    add_line(rt, folder, name)?;
     fs::rename(rt, part.as_str(), value)
 }

@@ -3,56 +3,102 @@ import contextlib
 import fcntl
 import os
 import pathlib
-import shutil
+import re
+import sys
 import time
+
+ORDER = "texts.order"  # lists what a folder holds: NAME.lock before that file is made, NAME before a text stands. Who owns the folder has its lock
 
 
 @contextlib.contextmanager
-def held(path, kind):
+def held(path, kind, flags=os.O_RDONLY):
     """A file or folder under a lock, which the system gives back where this process dies."""
-    lock = os.open(path, os.O_RDONLY if os.path.isdir(path) else os.O_WRONLY | os.O_CREAT)
+    lock = os.open(path, flags, 0o666)
     try:
         fcntl.flock(lock, kind)
-        yield lock
+        if not os.path.samestat(os.fstat(lock), os.stat(path)):
+            raise FileNotFoundError(f"{path} was made anew meanwhile")
+        yield
     finally:
         os.close(lock)
 
 
 def shared_text(folder, name, make):
     """The text of a name. Whichever process comes first makes it while the others wait; if that one is killed, the next does."""
+    if not re.fullmatch("[a-zA-Z0-9_-]{1,64}", name):
+        raise ValueError(f"no name of a shared text: {name!r}")
     value = pathlib.Path(folder, name)
     if not value.exists():
-        with held(folder, fcntl.LOCK_SH), held(f"{value}.lock", fcntl.LOCK_EX):
-            if not value.exists():
-                pathlib.Path(f"{value}.part").write_text(make())
-                with open(value.parent / "texts.order", "a") as order:
-                    order.write(f"{name}\n")
-                os.rename(f"{value}.part", value)  # all of it stands there, or nothing
+        with held(folder, fcntl.LOCK_SH):
+            add_line(folder, f"{name}.lock")
+            with held(f"{value}.lock", fcntl.LOCK_EX, os.O_WRONLY | os.O_CREAT):
+                if not value.exists():
+                    pathlib.Path(f"{value}.part").write_text(make())
+                    add_line(folder, name)
+                    os.rename(f"{value}.part", value)  # all of it stands there, or nothing
     return value.read_text()
+
+
+def add_line(folder, line):
+    with open(pathlib.Path(folder, ORDER), "a") as order:
+        order.write(f"\n{line}\n")  # the line before may be cut off
 
 
 @contextlib.contextmanager
 def run(root, close_text):
     """The folder of a run that begins, whose texts are closed in the end. Runs that died are closed first."""
-    folder = pathlib.Path(root, f"run-{os.getpid()}-{time.time_ns()}")
-    new = folder.with_name(f"new-{folder.name}")
-    new.mkdir(parents=True)
-    with held(new, fcntl.LOCK_SH) as lock:
-        new.rename(folder)  # nobody sees it before it is held
-        for other in pathlib.Path(root).glob("run-*"):
-            with contextlib.suppress(BlockingIOError, FileNotFoundError), held(other, fcntl.LOCK_EX | fcntl.LOCK_NB):
+    root = pathlib.Path(root).resolve()
+    with contextlib.ExitStack() as holding:
+        folder = begin(root, holding)
+        sweep(root, close_text)
+        try:
+            yield folder
+        finally:
+            with held(folder, fcntl.LOCK_EX):  # waits for texts that are being made
+                close(folder, close_text)
+
+
+def begin(root, holding):
+    """Makes the folder of a run, which is named so once it is held."""
+    for _ in range(100):
+        name = f"{os.getpid()}-{time.time_ns()}"
+        new, folder = root / f"new-{name}", root / f"run-{name}"
+        with contextlib.suppress(FileNotFoundError, FileExistsError):  # another run removed it
+            new.mkdir(parents=True)
+            holding.enter_context(held(new / ORDER, fcntl.LOCK_EX, os.O_WRONLY | os.O_CREAT))
+            new.rename(folder)
+            return folder
+    raise FileNotFoundError(f"no folder of a run can be made in {root}")
+
+
+def sweep(root, close_text):
+    """Closes what runs left that died."""
+    for other in [*root.glob("run-*"), *root.glob("new-*")]:
+        try:
+            with held(other / ORDER, fcntl.LOCK_EX | fcntl.LOCK_NB), held(other, fcntl.LOCK_EX | fcntl.LOCK_NB):
                 close(other, close_text)
-        yield folder
-        fcntl.flock(lock, fcntl.LOCK_EX)  # waits for texts that are being made
-        close(folder, close_text)
+        except BlockingIOError:  # its run lives, or makes a text still
+            pass
+        except (FileNotFoundError, NotADirectoryError):  # none of a run, unless it is the empty rest of one
+            with contextlib.suppress(OSError):
+                other.rmdir()
+        except OSError as why:
+            print(f"{other} was not closed: {why}", file=sys.stderr)
 
 
 def close(folder, close_text):
-    """Closes what stands, the latest first. If it is killed, the next run closes what still stands: so close_text may come twice for one text."""
-    with contextlib.suppress(FileNotFoundError):
-        for name in reversed((folder / "texts.order").read_text().split()):
-            value = folder / name
-            if value.exists():
+    """Closes what stands, the latest first, and removes what the run wrote. If it is killed, the next run closes what still stands: so close_text may come twice for one text."""
+    lines = (folder / ORDER).read_text().split()
+    for name in dict.fromkeys(reversed(lines)):
+        value = folder / name
+        if "." not in name and value.exists():
+            try:
                 close_text(name, value.read_text())
-                value.unlink()
-        shutil.rmtree(folder)
+            except Exception as why:
+                print(f"the shared text {name} was not closed: {why!r}", file=sys.stderr)
+            value.unlink()
+    for name in {it.removesuffix(".lock") for it in lines}:
+        for beside in (".part", ".lock"):
+            (folder / f"{name}{beside}").unlink(missing_ok=True)
+    (folder / ORDER).unlink()
+    folder.rmdir()
