@@ -706,7 +706,8 @@ static void calls_that_take_no_memory(void) {
     allocations_left = -1;
 }
 
-/* A store that is left gives back all memory, with values in it and with a call of a factory that never ended. */
+/* A store that is left gives back all memory, with values in it and with a call of a factory that never ended. Under valgrind and AddressSanitizer
+   mallinfo2 tells nothing: they tell of what is lost themselves. */
 static void stores_leave_no_memory(void) {
     texts list = ids();
     size_t before = 0;
@@ -719,6 +720,7 @@ static void stores_leave_no_memory(void) {
         CODE(ext_begin(&slots[1], CLASS, key(&slots[1], "other"), &value), EXT_RUN);
         left(slots, 2);
     }
+    if (before == 0) printf("stores_leave_no_memory: skipped: mallinfo2 tells nothing\n");
     WANT(mallinfo2().uordblks == before);
 }
 

@@ -69,6 +69,11 @@ JNIEXPORT jint JNICALL JNI_OnLoad(JavaVM *machine, void *unused) {
     return JNI_VERSION_10;
 }
 
+NATIVE(jint, version)(JNIEnv *env, jclass type) {
+    (void)env, (void)type;
+    return (jint)ext_version();
+}
+
 /* The store's address, or the code of the refusal with a minus. */
 NATIVE(jlong, open)
 (JNIEnv *env, jclass type, jbyteArray bytes, jintArray lengths, jint tries, jint numbers, jint keys, jboolean large, jint count) {

@@ -14,6 +14,7 @@ use std::mem;
 
 impl Seat {
     // Looks for the key in the contexts of the path.
+    #[inline(always)]
     pub(crate) fn get_along(&mut self, path: &[usize], key: usize, found: &mut ExtValue) -> Code
         ensures store { self.new.store ≡ self.old.store }
         ensures keys { self.new.lane.keys ≡ self.old.lane.keys }
@@ -45,6 +46,7 @@ impl Seat {
     }
 
     // Why a call along the path is not made, or `None` if it is.
+    #[inline(always)]
     fn bar_along(&self, path: &[usize], key: usize) -> Option<Code>
         ensures barred { IfSome result (NotAskedAlong path.now key self.now) }
         ensures idle { result ≡ None → self.now.claim ≡ None }
@@ -69,6 +71,7 @@ impl Seat {
     }
 
     // `Store::get_along`.
+    #[inline(always)]
     fn look_along(&mut self, path: &[usize], key: usize) -> Result<Look, Refusal>
         requires some { 1 ≤ length path.now }
         requires path { IsTrail (store_of self.old) path.now }

@@ -19,6 +19,7 @@ use std::mem;
 
 impl Seat {
     // Why a call on a place is not made, or `None` if it is.
+    #[inline(always)]
     pub(crate) fn bar(&self, context: usize, key: usize) -> Option<Code>
         ensures barred { IfSome result (NotAsked context key self.now) }
         ensures idle { result ≡ None → self.now.claim ≡ None }
@@ -39,6 +40,7 @@ impl Seat {
     }
 
     // `Store::get_numbered`.
+    #[inline(always)]
     pub(crate) fn look(&mut self, context: usize, key: usize) -> Result<Look, Refusal>
         requires context { context < length (store_of self.old).tree }
         requires key { key < length (store_of self.old).id.keys }
@@ -160,6 +162,7 @@ impl Seat {
     }
 
     // `Store::show`: the handle of a value's number, which the lane knows from now on.
+    #[inline(always)]
     pub(crate) fn tell_value(&mut self, context: usize, number: u32, told: &mut ExtValue) -> bool
         requires idle { self.old.claim ≡ None }
         ensures store { self.new.store ≡ self.old.store }

@@ -74,6 +74,7 @@ pub enum Code {
 
 impl Code {
     /// The number of the code, which C sees.
+    #[inline(always)]
     pub(crate) fn number(self) -> u32
         ensures { result ≡ code_number self }
     {

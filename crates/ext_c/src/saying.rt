@@ -16,6 +16,7 @@ use std::mem;
 
 impl Seat {
     // Looks for the key in the context and its ancestors.
+    #[inline(always)]
     pub(crate) fn get(&mut self, context: usize, key: usize, found: &mut ExtValue) -> Code
         ensures store { self.new.store ≡ self.old.store }
         ensures keys { self.new.lane.keys ≡ self.old.lane.keys }

@@ -19,6 +19,7 @@ pub struct ExtSlot {
 
 impl ExtSlot {
     /// Takes out the lane's seat, and leaves the slot empty until it is given back.
+    #[inline(always)]
     pub(crate) fn take(&mut self, alloc: Global) -> Option<Box<Seat>>
         ensures taken { IfSome result (λ b. self.old.lane.seat ≡ Some b.value) }
         ensures empty { IfSome result (λ _. self.new.lane.seat ≡ None) }
@@ -38,6 +39,7 @@ impl ExtSlot {
     }
 
     /// Gives the seat to the slot.
+    #[inline(always)]
     pub(crate) fn give(&mut self, seat: Box<Seat>)
         ensures state { self.new.state ≡ 1 }
         ensures seat { self.new.lane.seat ≡ Some seat.value }

@@ -10,6 +10,7 @@ use ext_store::{Kept, Refusal, Unused};
 
 impl Seat {
     // Reports a value that was found.
+    #[inline(always)]
     pub(crate) fn tell_found(&mut self, context: usize, number: u32, told: &mut ExtValue) -> Code
         requires idle { self.old.claim ≡ None }
         ensures store { self.new.store ≡ self.old.store }
@@ -63,6 +64,7 @@ impl Seat {
         }
     }
 
+    #[inline(always)]
     pub(crate) fn tell_look(&mut self, looked: Result<Look, Refusal>, found: &mut ExtValue) -> Code
         requires idle { self.old.claim ≡ None }
         ensures store { self.new.store ≡ self.old.store }

@@ -12,7 +12,10 @@ import java.util.Locale;
 final class Library {
     private static final String GIVEN = "extensionstore.library";
 
-    /** Why it is not loaded; null where it is. */
+    /** That of these classes, as the library tells its own. */
+    private static final int VERSION = 100;
+
+    /** Why there is none that fits; null where it is loaded. */
     static final String MISSING = load();
 
     private Library() {}
@@ -28,12 +31,17 @@ final class Library {
             } else {
                 System.loadLibrary("extension_store");
             }
-            return null;
+            int version = Native.version();
+            return version == VERSION ? null : "the native library is of version " + text(version) + ", and these classes of " + text(VERSION);
         } catch (IOException | UnsatisfiedLinkError | InvalidPathException fault) {
             String what = given == null ? "for this machine, " + inJar + "," : given;
             String instead = "; the property " + GIVEN + " may name its file, as where no code may run in " + System.getProperty("java.io.tmpdir");
             return "the native library " + what + " is not loaded: " + fault.getMessage() + (given == null ? instead : "");
         }
+    }
+
+    private static String text(int version) {
+        return version / 10_000 + "." + version / 100 % 100 + "." + version % 100;
     }
 
     // The virtual machine loads a file for one class loader alone.

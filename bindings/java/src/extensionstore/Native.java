@@ -27,6 +27,9 @@ final class Native {
 
     private Native() {}
 
+    /** The version of the library: of 1.2.3 it is 10203. */
+    static native int version();
+
     static native long open(byte[] bytes, int[] lengths, int tries, int numbers, int keys, boolean large, int lanes);
 
     static native void leave(long store);

@@ -39,10 +39,15 @@ final class Own implements ExtensionContext.Store.CloseableResource, AutoCloseab
         HERE
     }
 
-    /** The context that a thread asked for last, and what it has. JUnit hands one object of a context to all callbacks of a test. */
-    private record Last(WeakReference<ExtensionContext> context, WeakReference<Own> own) {}
+    /** A context for which a thread asked, and what it has. JUnit hands one object of a context to all callbacks of a test. */
+    private record Asked(WeakReference<ExtensionContext> context, WeakReference<Own> own) {
+        Asked(ExtensionContext context, Own own) {
+            this(new WeakReference<>(context), new WeakReference<>(own));
+        }
+    }
 
-    private static final ThreadLocal<Last> LAST = new ThreadLocal<>();
+    /** The last two of a thread, since many extensions ask for a context and its root in turn. */
+    private static final ThreadLocal<Asked[]> LAST = ThreadLocal.withInitial(() -> new Asked[2]);
 
     private final Own above;
     private final ExtensionContext.Store junits;
@@ -79,12 +84,16 @@ final class Own implements ExtensionContext.Store.CloseableResource, AutoCloseab
 
     /** That of the context. */
     static Own of(ExtensionContext context) {
-        Last last = LAST.get();
-        Own own = last != null && last.context().get() == context ? last.own().get() : null;
-        if (own == null) {
-            own = kept(context);
-            LAST.set(new Last(new WeakReference<>(context), new WeakReference<>(own)));
+        Asked[] last = LAST.get();
+        for (Asked each : last) {
+            Own own = each != null && each.context().get() == context ? each.own().get() : null;
+            if (own != null) {
+                return own;
+            }
         }
+        Own own = kept(context);
+        last[1] = last[0];
+        last[0] = new Asked(context, own);
         return own;
     }
 

@@ -27,6 +27,8 @@ import org.junit.platform.commons.PreconditionViolationException;
  * <p>From the close of the first resource on nothing more is stored or removed in the context. What is refused is refused by a {@link StoreException}; so is
  * each call after the context was closed. The close waits while a creator runs for the context, as JUnit does.
  *
+ * <p>Creators that wait for one another, each for what another makes, are refused; not so where one of them waits for JUnit's own store, or for a lock.
+ *
  * <p>A context of a test method stores 4,095 values, a class's 65,535 and the root 262,143, those that are replaced, removed or refused among them; or as
  * many as the configuration parameter {@code extensionstore.numbers} says, 1 to 1,048,575. Keys have no limit: for each 1,024 more a store is opened, which
  * has as many numbers.
