@@ -1,11 +1,11 @@
 -- Computes of keys that are removed are forgotten.
 use Rattle.std.proofs.Common.{◌≡◌, ℕ, ◌+◌, ◌<◌, Bool, true, false, cond, List, [], ◌∷◌, ◌++◌, length, map, drop, take, get_or, set, Option, Some, None, refl, sym, ap, ◌∙◌, arith, append-nil, inl, inr, get_or-set_other, get_or-set_same}
-use Rattle.std.specs.Prelude.{◌==◌, ◌&&◌, ◌||◌, find, not, option_map, if◌then◌else◌}
+use Rattle.std.specs.Prelude.{◌==◌, ◌&&◌, ◌||◌, find, is_some, not, option_map, if◌then◌else◌}
 use Rattle.std.specs.List.{filter, flat_map, list_any}
 use Rattle.std.specs.declared.alloc.Global.{Global}
 use Rattle.std.specs.Prelude.{Vec}
 use Rattle.std.proofs.Math.Bool.{or-false}
-use Rattle.std.proofs.lemmas.Bool.{cases_eq, eq-eqb, ne_eqb}
+use Rattle.std.proofs.lemmas.Bool.{cases_eq, eq-eqb, ne_eqb, true≢false}
 use Rattle.std.proofs.lemmas.Grind.{flat_map-append}
 use Rattle.std.proofs.lemmas.List.{length-map, map-set}
 use Rattle.std.proofs.lemmas.List.Folds.{list_any-append, list_any_more}
@@ -63,6 +63,12 @@ module _ (key : Option ℕ) (number : ℕ) (first : Compute) (more : List Comput
         ap (λ b. found b (without key more)) here ∙ sym (ap (λ b. found b more) here) ∙ sym (ap (λ b. unless b (compute_at (first ∷ more) number)) stays)
     | inr differ ↦ other (without key more) differ ∙ rest ∙ ap (unless (is_number key number)) (sym (other more differ))
   ]
+
+-- where there is no key none is forgotten
+pub without_no_key : (key : Option ℕ) (computes : List Compute) → is_some key ≡ false → without key computes ≡ computes
+without_no_key (Some number) computes none = absurd (true≢false none)
+without_no_key None [] none = refl
+without_no_key None (first ∷ more) none = ap (λ list. first ∷ list) (without_no_key None more none)
 
 pub filtered_at : (key : Option ℕ) (number : ℕ) (computes : List Compute) → compute_at (without key computes) number ≡ unless (is_number key number) (compute_at computes number)
 filtered_at key number [] = by (is_number key number)

@@ -1,7 +1,7 @@
--- Which tests never run at one moment: both take one lock, one of them to write, or one of both is isolated (JUnit 5 User
--- Guide, "Synchronization"). Either of them may go first all the same, so they may race. A test takes the locks that are
--- named at it and above it, and a container takes none.
-use Rattle.std.specs.Prelude.{ℕ, Bool, true, false, ◌&&◌, ◌||◌, List, length, nat_lt, is_some}
+-- Which tests never run at one moment: both take one lock, one of them to write, or one of the two is isolated (JUnit 5
+-- User Guide, "Synchronization"). Either of them may go first all the same, so they may race. A test takes the locks that
+-- are named at it and above it, and a container takes none.
+use Rattle.std.specs.Prelude.{ℕ, Bool, true, false, ◌&&◌, ◌||◌, List, is_some}
 use Rattle.std.specs.List.{list_any}
 use Rattle.std.specs.Str.{bytes_eq}
 use Rattle.ext_plan.specs.LockNames.{lock_name}
@@ -40,5 +40,4 @@ module _ (plan : PlanText) where
   -- So do two nodes of the plan, both of them tests.
   abbrev pub locked_apart : ℕ → ℕ → Bool
   locked_apart first second = is_some (test_of plan first) && is_some (test_of plan second)
-      && nat_lt first (length plan.nodes) && nat_lt second (length plan.nodes)
       && paths_exclude (plan_path plan first) (plan_path plan second)

@@ -4,10 +4,11 @@
 --
 -- with no space between tokens, and all members in this order. A race is
 --
---     {"first":{"node":ID,"word":WORD,"key":KEY},"second":{"node":ID,"word":WORD,"key":KEY},"context":ID}
+--     {"first":{"node":ID,"word":WORD,"key":KEY},"second":{"node":ID,"word":WORD,"key":KEY},"context":ID,"locked":false}
 --
--- with what its line has (`RaceLines`): the first 20 are there, and `more` is true if there are more. If there is none,
--- `proved` says what is proved of the plan's report: `one report`, or `one report but for computed and found`.
+-- with what its line has (`RaceLines`): the first 20 are there, and `more` is true if there are more. `locked` is true
+-- where the line tells of a lock. If there is no race, `proved` says what is proved of the plan's report: `one report`,
+-- or `one report but for computed and found`.
 --
 -- If the plan exceeds a limit, `limit` names it and tells how many there are, as `{"of":"keys","most":64}`, and the
 -- other members are null. `print` of the kit's JSON says how a text is written, and a text reads back as it was. The
@@ -28,6 +29,7 @@ use Rattle.ext_races.specs.declared.proved.Proved.{Proved}
 use Rattle.ext_races.specs.declared.proved.Proved.TheVariants as proved
 use Rattle.ext_races.specs.declared.race.Race.{Race}
 use Rattle.ext_races.specs.declared.race.Side.{Side}
+use Rattle.ext_races.specs.LockedApart.{locked_apart}
 use Rattle.ext_races.specs.RaceLines.{id_of_node, line_limit, name_if}
 
 -- A member whose value is a text.
@@ -62,6 +64,11 @@ module _ (plan : PlanText) where
   abbrev pub id_member : List ℕ → ℕ → List Token
   id_member name node = text_member name (id_of_node plan node)
 
+  -- The members that tell where a race is, and whether a lock keeps its tests apart.
+  unfoldable pub place_members : Race → List Token
+  place_members race = id_member (codes "context") race.context ++ key (codes "locked")
+      ∷ boolean (locked_apart plan race.first.node race.second.node) ∷ []
+
   -- ---- objects
 
   module _ (names : List (Bor StepKey)) where
@@ -73,7 +80,7 @@ module _ (plan : PlanText) where
     unfoldable pub race_object : Race → List Token
     race_object race =
         begin_object ∷ key (codes "first") ∷ (side_object race.first ++ key (codes "second") ∷ (side_object race.second
-        ++ id_member (codes "context") race.context ++ end_object ∷ []))
+        ++ place_members race ++ end_object ∷ []))
 
     -- The first races.
     abbrev pub races_array : List Race → List Token

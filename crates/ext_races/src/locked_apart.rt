@@ -10,14 +10,11 @@ use ext_model::ContextNo;
 use ext_plan::{Plan, PlanLock};
 
 /// Tests whether two nodes are tests that never run at one moment: both take one lock, one of them
-/// to write, or one of both is isolated.
+/// to write, or one of the two is isolated.
 pub(crate) fn locked_apart(plan: &Plan, first: ContextNo, second: ContextNo) -> bool
     ensures { result ≡ locked_apart (plan_view plan.now) first second }
 {
     if !plan.is_test(first) || !plan.is_test(second) {
-        return false;
-    }
-    if first >= plan.nodes.len() || second >= plan.nodes.len() {
         return false;
     }
     paths_exclude(

@@ -6,8 +6,9 @@ ghost use Rattle.json.specs.Token.{begin_array, end_array, key, number, string};
 ghost use Rattle.json.specs.Print.{print};
 ghost use Rattle.ext_plan.specs.Plans.{plan_view};
 ghost use Rattle.ext_races.specs.RaceLines.{id_of_node, line_limit};
-ghost use Rattle.ext_races.specs.RaceJson.{found_json, found_object, id_member, limit_object, limit_value, more_value, proved_value, proved_word, race_members, race_object, races_array, races_value, side_object, text_member};
+ghost use Rattle.ext_races.specs.RaceJson.{found_json, found_object, id_member, limit_object, limit_value, more_value, place_members, proved_value, proved_word, race_members, race_object, races_array, races_value, side_object, text_member};
 
+use crate::locked_apart::locked_apart;
 use crate::text::{LINES, first_of, name_at, push_id};
 use crate::{Found, Proved, Race, Side};
 use ext_model::ContextNo;
@@ -17,8 +18,9 @@ use std::alloc::{AllocError, Global};
 
 /// Returns what `races` found as an object of JSON on a line, as UTF-8 bytes. Its members are
 /// `races`, `more`, `proved` and `limit`, in this order. They tell what `races_text` does: the first
-/// 20 races and whether there are more; if there are none, what is proved of the plan's report; or
-/// the limit that the plan exceeds, and then the others are null.
+/// 20 races, of each in `locked` whether a lock keeps its tests apart, and whether there are more; if
+/// there are none, what is proved of the plan's report; or the limit that the plan exceeds, and then
+/// the others are null.
 ///
 /// Takes memory for the text, and fails with `AllocError` only if that is refused.
 pub fn races_json(alloc: Global, plan: &Plan, found: &Found<'_>) -> Result<Vec<u8>, AllocError>
@@ -140,8 +142,25 @@ fn write_race(
     write_side(writer, alloc, plan, &race.first, names)?;
     writer.key("second")?;
     write_side(writer, alloc, plan, &race.second, names)?;
-    write_id(writer, alloc, plan, "context", race.context)?;
+    write_place(writer, alloc, plan, race)?;
     writer.end_object()
+}
+
+/// Writes where a race is, and whether a lock keeps its tests apart.
+#[tactic(auto, unfolding(crate::specs::RaceJson::place_members))]
+fn write_place(
+    writer: &mut Writer,
+    alloc: Global,
+    plan: &Plan,
+    race: &Race,
+) -> Result<(), AllocError>
+    ensures before { OnOk result (writer.new.before ≡ writer.old.before) }
+    ensures tokens { OnOk result
+        (writer.new.tokens ≡ writer.old.tokens ++ place_members (plan_view plan.now) race.now) }
+{
+    write_id(writer, alloc, plan, "context", race.context)?;
+    writer.key("locked")?;
+    writer.boolean(locked_apart(plan, race.first.node, race.second.node))
 }
 
 /// Writes a step's node, word and key.

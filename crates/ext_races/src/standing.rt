@@ -34,8 +34,8 @@ pub(crate) struct Compute<'p> {
 /// What is noted of a plan.
 #[derive(Drop)]
 pub(crate) struct Standing<'p> {
-    /// For each node with children the first compute of each key in its callbacks before them, if no
-    /// step removes the key.
+    /// For each node with children the first compute of each key in its callbacks before them, if
+    /// neither these remove the key, nor a step of a node below it in its context or above.
     computes: Vec<Vec<Compute<'p>>>,
 }
 
@@ -96,8 +96,9 @@ fn compute_at<'p>(computes: &[Compute<'p>], key: KeyNo) -> Option<Compute<'p>>
 
 // ---- what is noted
 
-/// Notes what the callbacks before all children compute, for keys in the directory that no step
-/// removes. Takes memory for each node, and for each key that it computes, 40 bytes.
+/// Notes what the callbacks before all children compute, for keys in the directory that neither
+/// these remove, nor a step of a node below in their node's context or above. Takes memory for each
+/// node, and for each key that it computes, 40 bytes.
 pub(crate) fn standing_of<'p>(
     alloc: Global,
     keys: &StepKeys<'_>,
@@ -383,11 +384,14 @@ fn is_on(path: &[ContextNo], context: ContextNo) -> bool
     path.iter().any(|at| *at == context)
 }
 
-/// Forgets the compute of the key with this number.
+/// Forgets the compute of the key with this number. Most steps remove nothing, and no compute is gone
+/// over for them.
 fn forget_key(computes: &mut Vec<Compute<'_>>, key: Option<KeyNo>)
     ensures { computes.new.items ≡ filter (λ c. not (is_number key c.key)) computes.old.items }
 {
-    computes.retain(|compute| !is_of(key, compute));
+    if key.is_some() {
+        computes.retain(|compute| !is_of(key, compute));
+    }
 }
 
 /// Tests whether the compute is of the key with this number.

@@ -19,9 +19,9 @@ pub(crate) const LINES: usize = 20;
 /// Returns the text of what `races` found, in which each of the first 20 races has a line. Such a
 /// line is `put a of [engine:x]/[test:m] and want a of [engine:x]/[test:n] in [engine:x]`, and
 /// `: a lock keeps them apart, not in order` behind it where both are tests under a common lock of
-/// which one is for writing, or one of both is isolated. The line `and more` follows if there are more. If there are none, the only line is `no races: one report`
-/// or `no races: one report but for computed and found`. If the plan exceeds a limit, the only line
-/// names it.
+/// which one is for writing, or one of the two is isolated. The line `and more` follows if there are
+/// more. If there are none, the only line is `no races: one report` or `no races: one report but for
+/// computed and found`. If the plan exceeds a limit, the only line names it.
 ///
 /// Takes memory for the text, and fails with `AllocError` only if that is refused.
 pub fn races_text(alloc: Global, plan: &Plan, found: &Found<'_>) -> Result<String, AllocError>

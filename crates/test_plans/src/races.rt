@@ -20,7 +20,7 @@ const ONE: &str = "no races: one report\n";
 const NEAR: &str = "no races: one report but for computed and found\n";
 
 /// The fields of these six nodes, and what is told of the plan's races.
-const PLANS: [([&str; 6], &str); 37] = [
+const PLANS: [([&str; 6], &str); 41] = [
     // each test puts into its own context
     (
         [
@@ -346,6 +346,54 @@ const PLANS: [([&str; 6], &str); 37] = [
         ],
         "put a of [e:x]/[c:A]/[t:m] and want a of [e:x]/[c:A]/[t:n] in [e:x]/[c:A]: a lock keeps them apart, not in order\n",
     ),
+    // so does a lock that the class names for its tests
+    (
+        [
+            "",
+            "locks = ['READ_WRITE db']",
+            "test = ['put a x up 1']",
+            "test = ['want a x']",
+            "",
+            "test = []",
+        ],
+        "put a of [e:x]/[c:A]/[t:m] and want a of [e:x]/[c:A]/[t:n] in [e:x]/[c:A]: a lock keeps them apart, not in order\n",
+    ),
+    // an isolated test is kept apart from all
+    (
+        [
+            "",
+            "",
+            "isolated = true\ntest = ['put a x up 2']",
+            "test = []",
+            "",
+            "test = ['want a x']",
+        ],
+        "put a of [e:x]/[c:A]/[t:m] and want a of [e:x]/[c:B]/[t:k] in [e:x]: a lock keeps them apart, not in order\n",
+    ),
+    // locks to read keep nobody apart, nor do locks of two names
+    (
+        [
+            "",
+            "locks = ['READ db']",
+            "locks = ['READ_WRITE log']\ntest = ['put a x up 1']",
+            "locks = ['READ_WRITE net']\ntest = ['want a x']",
+            "",
+            "test = []",
+        ],
+        "put a of [e:x]/[c:A]/[t:m] and want a of [e:x]/[c:A]/[t:n] in [e:x]/[c:A]\n",
+    ),
+    // nor is a class kept apart, as it takes no locks
+    (
+        [
+            "",
+            "isolated = true\nbefore_all = [['put a x up 1']]",
+            "test = []",
+            "test = []",
+            "locks = ['READ_WRITE db']",
+            "test = ['want a x']",
+        ],
+        "put a of [e:x]/[c:A] and want a of [e:x]/[c:B]/[t:k] in [e:x]\n",
+    ),
     // one finds what the class computed, and so does the other's compute
     (
         [
@@ -524,7 +572,7 @@ fn texts_of_plan(alloc: Global, text: &str, size: Size) -> Result<RaceTexts, All
 }
 
 /// The fields of the six nodes, and the JSON that tells of the plan's races.
-const OBJECTS: [([&str; 6], &str); 3] = [
+const OBJECTS: [([&str; 6], &str); 4] = [
     // a key with a mark that has to be escaped
     (
         [
@@ -535,7 +583,19 @@ const OBJECTS: [([&str; 6], &str); 3] = [
             "",
             "test = []",
         ],
-        r#"{"races":[{"first":{"node":"[e:x]/[c:A]/[t:m]","word":"put","key":"a\"b"},"second":{"node":"[e:x]/[c:A]/[t:n]","word":"want","key":"a\"b"},"context":"[e:x]/[c:A]"}],"more":false,"proved":null,"limit":null}"#,
+        r#"{"races":[{"first":{"node":"[e:x]/[c:A]/[t:m]","word":"put","key":"a\"b"},"second":{"node":"[e:x]/[c:A]/[t:n]","word":"want","key":"a\"b"},"context":"[e:x]/[c:A]","locked":false}],"more":false,"proved":null,"limit":null}"#,
+    ),
+    // tests that a lock keeps apart
+    (
+        [
+            "",
+            "locks = ['READ_WRITE db']",
+            "test = ['put a x up 1']",
+            "test = ['want a x']",
+            "",
+            "test = []",
+        ],
+        r#"{"races":[{"first":{"node":"[e:x]/[c:A]/[t:m]","word":"put","key":"a"},"second":{"node":"[e:x]/[c:A]/[t:n]","word":"want","key":"a"},"context":"[e:x]/[c:A]","locked":true}],"more":false,"proved":null,"limit":null}"#,
     ),
     (
         ["", "", "test = ['put a x']", "test = []", "", "test = []"],
@@ -554,8 +614,8 @@ const OBJECTS: [([&str; 6], &str); 3] = [
     ),
 ];
 
-/// Plans with a race, with none, and with computes that share a value are told as JSON, with a mark
-/// in a key escaped.
+/// Plans with a race, with one that a lock keeps apart, with none, and with computes that share a
+/// value are told as JSON, with a mark in a key escaped.
 /// Tests `races_json`.
 #[test]
 fn races_as_json(rt: HostRuntime) -> Result<(), AllocError> {
