@@ -29,17 +29,36 @@ MADE = [
     (
         "bytes 0",
         b"\0" * 9,
-        ["plan: P2", f"the plan: it is no TOML in line 1, column 1: {NO_KEY}: the character NUL stands in this line"],
+        ["plan: P2", f"the plan: it is no TOML in line 1, column 1: {NO_KEY}: the character NUL stands there"],
     ),
     (
         "line ends of carriage returns alone",
         ROOT.replace("\n", "\r"),
-        ["plan: P2", f"the plan: it is no TOML in line 1, column 9: {NO_KEY}: a carriage return stands alone in it, and a line ends with a line feed"],
+        ["plan: P2", f"the plan: it is no TOML in line 1, column 9: {NO_KEY}: a carriage return stands alone there, and a line ends with a line feed"],
     ),
     (
         "two files with byte order marks in one",
         "\ufeff" + ROOT + "\ufeff" + ROOT.replace("x", "y"),
-        ["plan: P2", f"the plan: it is no TOML in line 3, column 1: {NO_KEY}: a byte order mark stands in this line, as between two files that were joined"],
+        ["plan: P2", f"the plan: it is no TOML in line 3, column 1: {NO_KEY}: a byte order mark stands there, as between two files that were joined"],
+    ),
+    (
+        "a byte order mark before a colon",
+        "\ufeffkeys: 5\n" + ROOT,
+        ["plan: P2", "the plan: it is no TOML in line 1, column 5: key with no value, expected `=`: behind a name stands =, and no colon"],
+    ),
+    (
+        "a byte order mark in a step",
+        ROOT + 'test = ["\ufeffnone db"]\n',
+        [
+            "plan: P8 node 0",
+            'node 0: step 0 of its test, "\\u{feff}none db", has a byte order mark, and is none of the steps. '
+            'The steps are put, put!, want, none, remove, compute, compute!, computefail, fail, abort ("[engine:x]", line 3)',
+        ],
+    ),
+    (
+        "a byte order mark in an id",
+        ROOT.replace("[engine", "\ufeff[engine"),
+        ["plan: P6 node 0", 'node 0: id: I2 at 0 in "\\u{feff}[engine:x]": a segment begins with `[`. It has a byte order mark (line 2)'],
     ),
     (
         "a space that does not break",

@@ -10,7 +10,7 @@ use Rattle.ext_lint.specs.declared.note.Note.TheVariants as variants
 use Rattle.ext_lint.specs.declared.said.Said.{Said}
 use Rattle.ext_lint.specs.declared.said_set.SaidSet.{SaidSet}
 use Rattle.ext_lint.specs.declared.speech.Speech.{Speech}
-use Rattle.ext_lint.specs.Notes.{NoteText, idle, missing, empty, unnamed, crowded, lone}
+use Rattle.ext_lint.specs.Notes.{NoteText, idle, missing, empty, untested, unnamed, crowded, lone}
 use Rattle.ext_lint.specs.NodeSteps.{node_step_view}
 use Rattle.ext_lint.specs.Said.{SaidText}
 
@@ -23,6 +23,7 @@ abbrev pub note_view : Note → NoteText
 note_view (variants.Idle p) = idle (node_step_view p)
 note_view (variants.Missing p s) = missing (node_step_view p) (said_view s)
 note_view (variants.Empty call) = empty call
+note_view variants.Untested = untested
 note_view (variants.Unnamed label) = unnamed label.now
 note_view variants.Crowded = crowded
 note_view (variants.Lone name) = lone name.now

@@ -3,8 +3,10 @@
 --
 --     [engine:x]/[test:a]: step 0 of its test, want srever up: no step stores srever: did you mean server?
 --     [engine:x]/[test:a]: step 1 of its test, want server upp: no step stores upp under server: did you mean up?
+--     [engine:x]/[test:a]: step 2 of its test, none srever: no step stores srever: did you mean server?
 --     [engine:x]: before_each 0: no test is below
 --     [engine:x]: after_each 0: it has no steps
+--     the plan: it has no test
 --     key disk: no step names it
 --     the steps name more than 64 keys
 --     lock db: one test alone takes it
@@ -17,12 +19,13 @@ use Rattle.ext_lifecycle.specs.declared.call.Call.{Call}
 use Rattle.ext_lifecycle.specs.declared.call.Kind.{Kind}
 use Rattle.ext_lifecycle.specs.declared.call.Kind.TheVariants as kinds
 use Rattle.ext_plan.specs.Plans.{PlanText}
+use Rattle.ext_plan.specs.StepWords.{word_text}
 use Rattle.ext_plan_reading.specs.Nearest.{nearest}
 use Rattle.ext_races.specs.RaceLines.{found_text, id_of_node, line_limit}
 use Rattle.ext_races.specs.declared.found.Found.TheVariants as found
-use Rattle.ext_lint.specs.Notes.{NoteText, idle, missing, empty, unnamed, crowded, lone, notes, stored_by}
+use Rattle.ext_lint.specs.Notes.{NoteText, idle, missing, empty, unnamed, crowded, lone, notes, stored_by, untested}
 use Rattle.ext_lint.specs.NodeSteps.{NodeStepText, call_at, node_steps}
-use Rattle.ext_lint.specs.Said.{SaidText}
+use Rattle.ext_lint.specs.Said.{SaidText, wants}
 
 -- A callback by its kind and its number, or the test.
 abbrev pub call_words : Kind → ℕ → List ℕ
@@ -41,6 +44,10 @@ hint (Some near) = codes ": did you mean " ++ near ++ codes "?"
 abbrev pub texts_of : ℕ → List SaidText → List (List ℕ)
 texts_of key said = map (λ s. s.text) (filter (λ s. s.key == key) said)
 
+-- What a step asks for: its word and its key, and the text that it wants.
+abbrev pub asked_words : SaidText → List ℕ
+asked_words s = word_text s.word ++ codes " " ++ s.name ++ (if wants s.word then codes " " ++ s.text else [])
+
 -- Why a text is missing, where these texts are stored under its key, and keys with these names are stored.
 abbrev pub missing_words : SaidText → List (List ℕ) → List (List ℕ) → List ℕ
 missing_words s [] names = codes "no step stores " ++ s.name ++ hint (nearest names s.name)
@@ -54,7 +61,7 @@ module _ (plan : PlanText) where
 
   unfoldable pub missing_line : List SaidText → NodeStepText → SaidText → List ℕ
   missing_line stored p s =
-      node_step_words p ++ codes ", want " ++ s.name ++ codes " " ++ s.text ++ codes ": "
+      node_step_words p ++ codes ", " ++ asked_words s ++ codes ": "
       ++ missing_words s (texts_of s.key stored) (map (λ other. other.name) stored) ++ codes "\n"
 
   -- The line of a callback that ends in these words.
@@ -67,6 +74,7 @@ module _ (plan : PlanText) where
   note_line stored (idle p) = callback_line (call_at p) (codes "no test is below")
   note_line stored (missing p s) = missing_line stored p s
   note_line stored (empty call) = callback_line call (codes "it has no steps")
+  note_line stored untested = codes "the plan: it has no test\n"
   note_line stored (unnamed label) = codes "key " ++ label ++ codes ": no step names it\n"
   note_line stored crowded = found_text plan found.TooManyKeys
   note_line stored (lone name) = codes "lock " ++ name ++ codes ": one test alone takes it\n"

@@ -9,17 +9,21 @@ use Rattle.ext_tree.specs.Keys.{KeyValue}
 use Rattle.ext_plan.specs.Plans.{KeyText, NodeText, PlanText, StepText}
 use Rattle.ext_plan.specs.LockNames.{lock_name, lock_names}
 use Rattle.ext_plan.specs.StoreKeys.{is_there, named_key}
+use Rattle.ext_plan_reading.specs.Nearest.{nearest}
 use Rattle.ext_lint.specs.Live.{has_test}
 use Rattle.ext_lint.specs.NodeSteps.{NodeStepText, numbered, node_steps}
-use Rattle.ext_lint.specs.Said.{SaidText, is_said, keys_said, said_by, said_of, stores, wants}
+use Rattle.ext_lint.specs.Said.{SaidText, asks, is_key_said, is_said, keys_said, said_by, said_of, stores, wants}
 
 pub data NoteText : Type 0 where
   -- The callback that begins with this step has no test at or below its node.
   idle : NodeStepText → NoteText
-  -- This step wants a text that no step of the plan stores under its key.
+  -- This step wants a text that no step of the plan stores under its key; or it is a `none` or `remove` of a key under
+  -- which no step stores, and steps store under one with a near name.
   missing : NodeStepText → SaidText → NoteText
-  -- This callback has no steps.
+  -- This callback or test has no steps.
   empty : Call → NoteText
+  -- The plan has no test.
+  untested : NoteText
   -- No step names the key with this label.
   unnamed : List ℕ → NoteText
   -- The steps name more keys than there are places.
@@ -29,6 +33,12 @@ pub data NoteText : Type 0 where
 
 -- ---- of one step
 
+-- Where these are stored, a step stores what is wanted; or, for a key alone, one stores under it, or under none with a
+-- near name.
+abbrev pub is_met_by : List SaidText → SaidText → Bool
+is_met_by stored s = if wants s.word then is_said stored s.key s.text
+    else (is_key_said stored s.key || not (is_some (nearest (map (λ other. other.name) stored) s.name)))
+
 module _ (plan : PlanText) where
   abbrev pub is_idle : NodeStepText → Bool
   is_idle p = (p.at == 0) && not (has_test plan p.node)
@@ -37,32 +47,32 @@ module _ (plan : PlanText) where
   abbrev pub stored_by : List NodeStepText → List SaidText
   stored_by steps = said_by plan.keys (keys_said plan) stores steps
 
-  abbrev pub wanted_by : List NodeStepText → List SaidText
-  wanted_by steps = said_by plan.keys (keys_said plan) wants steps
+  abbrev pub asked_by : List NodeStepText → List SaidText
+  asked_by steps = said_by plan.keys (keys_said plan) asks steps
 
-  -- What a step wants was noted already, if a step before it wanted it; or a step of the plan stores it.
+  -- What a step asks for was noted already, if a step before it asked for it; or a step of the plan stores it.
   abbrev pub is_known : (ℕ → List ℕ → Bool) → SaidText → Bool
-  is_known wanted s = wanted s.key s.text || is_said (stored_by (node_steps plan)) s.key s.text
+  is_known asked s = asked s.key s.text || is_met_by (stored_by (node_steps plan)) s
 
   abbrev pub idle_if : NodeStepText → List NoteText
   idle_if p = if is_idle p then idle p ∷ [] else []
 
   abbrev pub missing_if : (ℕ → List ℕ → Bool) → NodeStepText → Option SaidText → List NoteText
-  missing_if wanted p None = []
-  missing_if wanted p (Some s) = if wants s.word && not (is_known wanted s) then missing p s ∷ [] else []
+  missing_if asked p None = []
+  missing_if asked p (Some s) = if asks s.word && not (is_known asked s) then missing p s ∷ [] else []
 
-  -- The notes of a step, where this was wanted before.
+  -- The notes of a step, where this was asked for before.
   abbrev pub notes_of_step : (ℕ → List ℕ → Bool) → NodeStepText → List NoteText
-  notes_of_step wanted p = idle_if p ++ missing_if wanted p (said_of plan.keys (keys_said plan) p.step)
+  notes_of_step asked p = idle_if p ++ missing_if asked p (said_of plan.keys (keys_said plan) p.step)
 
   -- The notes of the step with this number among all steps.
   abbrev pub notes_at : ℕ → NodeStepText → List NoteText
-  notes_at at p = notes_of_step (is_said (wanted_by (take at (node_steps plan)))) p
+  notes_at at p = notes_of_step (is_said (asked_by (take at (node_steps plan)))) p
 
   abbrev pub step_notes : List NoteText
   step_notes = numbered notes_at 0 (node_steps plan)
 
--- ---- of callbacks without steps
+-- ---- of callbacks and tests without steps
 
 abbrev pub empty_if : Call → List StepText → List NoteText
 empty_if call steps = if length steps == 0 then empty call ∷ [] else []
@@ -74,15 +84,23 @@ empty_at node kind index steps = empty_if (record { kind = kind; from = node; in
 abbrev pub empty_of_kind : ℕ → Kind → List (List StepText) → List NoteText
 empty_of_kind node kind callbacks = numbered (empty_at node kind) 0 callbacks
 
+abbrev pub empty_of_test : ℕ → Option (List StepText) → List NoteText
+empty_of_test node None = []
+empty_of_test node (Some steps) = empty_at node kinds.Test 0 steps
+
 abbrev pub empty_of_node : ℕ → NodeText → List NoteText
 empty_of_node number node =
     empty_of_kind number kinds.BeforeAll node.before_all
     ++ empty_of_kind number kinds.BeforeEach node.before_each
+    ++ empty_of_test number node.test
     ++ empty_of_kind number kinds.AfterEach node.after_each
     ++ empty_of_kind number kinds.AfterAll node.after_all
 
 abbrev pub callback_notes : PlanText → List NoteText
 callback_notes plan = numbered empty_of_node 0 plan.nodes
+
+abbrev pub test_notes : List NodeText → List NoteText
+test_notes nodes = if list_any (λ node. is_some node.test) nodes then [] else untested ∷ []
 
 -- ---- of keys and locks
 
@@ -114,5 +132,5 @@ lock_notes nodes = flat_map (lock_note nodes) (lock_names nodes)
 -- More keys than a plan can have places for are the only note.
 abbrev pub notes : PlanText → List NoteText
 notes plan = if nat_lt 1024 (length (keys_said plan)) then crowded ∷ []
-    else step_notes plan ++ callback_notes plan ++ key_notes (keys_said plan) plan.keys
+    else step_notes plan ++ callback_notes plan ++ test_notes plan.nodes ++ key_notes (keys_said plan) plan.keys
     ++ crowd_notes plan.key_places (keys_said plan) ++ lock_notes plan.nodes

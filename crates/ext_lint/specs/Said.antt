@@ -68,6 +68,17 @@ wants words.Compute = false
 wants words.ComputeCloseable = false
 wants words.ComputeFail = false
 
+-- A step with this word asks for its text, or names its key alone, as one that is there.
+abbrev pub asks : Word → Bool
+asks words.Put = false
+asks words.PutCloseable = false
+asks words.Want = true
+asks words.None = true
+asks words.Remove = true
+asks words.Compute = false
+asks words.ComputeCloseable = false
+asks words.ComputeFail = false
+
 abbrev pub said_if : (Word → Bool) → Option SaidText → List SaidText
 said_if test None = []
 said_if test (Some said) = if test said.word then said ∷ [] else []
@@ -75,6 +86,10 @@ said_if test (Some said) = if test said.word then said ∷ [] else []
 -- What those of the steps say whose words pass.
 abbrev pub said_by : List KeyText → List KeyValue → (Word → Bool) → List NodeStepText → List SaidText
 said_by declared keys test steps = flat_map (λ p. said_if test (said_of declared keys p.step)) steps
+
+-- One of them speaks of this key.
+abbrev pub is_key_said : List SaidText → ℕ → Bool
+is_key_said said key = list_any (λ s. s.key == key) said
 
 -- One of them says this text of this key.
 abbrev pub is_said : List SaidText → ℕ → List ℕ → Bool

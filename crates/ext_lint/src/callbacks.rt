@@ -1,8 +1,8 @@
-//! The notes of callbacks without steps.
-ghost use Rattle.std.specs.Prelude.{◌≡◌, ◌++◌, map, OnOk};
+//! The notes of callbacks and tests without steps.
+ghost use Rattle.std.specs.Prelude.{◌≡◌, ◌++◌, map, option_map, OnOk};
 ghost use Rattle.ext_plan.specs.Plans.{node_view, plan_view, step_view, steps_view};
 ghost use Rattle.ext_lint.specs.InnerLists.{note_view};
-ghost use Rattle.ext_lint.specs.Notes.{callback_notes, empty_if, empty_of_kind, empty_of_node};
+ghost use Rattle.ext_lint.specs.Notes.{callback_notes, empty_if, empty_of_kind, empty_of_node, empty_of_test};
 
 use crate::note::Note;
 use ext_lifecycle::{Call, Kind};
@@ -10,7 +10,7 @@ use ext_model::ContextNo;
 use ext_plan::{Plan, PlanNode, Step};
 use std::alloc::AllocError;
 
-/// Adds a note for each callback without steps, in the order of the plan.
+/// Adds a note for each callback and test without steps, in the order of the plan.
 pub(crate) fn note_callbacks(plan: &Plan, notes: &mut Vec<Note<'_>>) -> Result<(), AllocError>
     ensures { OnOk result (map note_view notes.new.items ≡ map note_view notes.old.items ++ callback_notes (plan_view plan.now)) }
 {
@@ -20,7 +20,7 @@ pub(crate) fn note_callbacks(plan: &Plan, notes: &mut Vec<Note<'_>>) -> Result<(
     Ok(())
 }
 
-/// Adds the notes of a node's callbacks without steps.
+/// Adds the notes of a node's callbacks and test without steps.
 fn note_node(
     number: ContextNo,
     node: &PlanNode,
@@ -30,6 +30,7 @@ fn note_node(
 {
     note_kind(number, Kind::BeforeAll, node.before_all.as_slice(), notes)?;
     note_kind(number, Kind::BeforeEach, node.before_each.as_slice(), notes)?;
+    note_test(number, &node.test, notes)?;
     note_kind(number, Kind::AfterEach, node.after_each.as_slice(), notes)?;
     note_kind(number, Kind::AfterAll, node.after_all.as_slice(), notes)
 }
@@ -49,7 +50,32 @@ fn note_kind(
     Ok(())
 }
 
-/// Adds the note of a callback, if it has no steps.
+/// Adds the note of a node's test, if it is one and has no steps.
+fn note_test(
+    from: ContextNo,
+    test: &Option<Vec<Step>>,
+    notes: &mut Vec<Note<'_>>,
+) -> Result<(), AllocError>
+    ensures { OnOk result (map note_view notes.new.items ≡ map note_view notes.old.items ++ empty_of_test from (option_map steps_view test.now)) }
+{
+    match test {
+        None => Ok(()),
+        Some(steps) => {
+            let kind = Kind::Test;
+            note_callback(
+                Call {
+                    kind,
+                    from,
+                    index: 0,
+                },
+                steps.as_slice(),
+                notes,
+            )
+        }
+    }
+}
+
+/// Adds the note of a callback or test, if it has no steps.
 fn note_callback(call: Call, steps: &[Step], notes: &mut Vec<Note<'_>>) -> Result<(), AllocError>
     ensures { OnOk result (map note_view notes.new.items ≡ map note_view notes.old.items ++ empty_if call (map step_view steps.now)) }
 {

@@ -10,7 +10,7 @@ use crate::keys::keys_of;
 use crate::live::nodes_with_tests;
 use crate::node_step::node_steps_of;
 use crate::note::Note;
-use crate::noting::{StepRules, note_crowd, note_keys, note_locks};
+use crate::noting::{StepRules, note_crowd, note_keys, note_locks, note_tests};
 use crate::said_set::SaidSet;
 use crate::speech::Speech;
 use crate::text::text_of;
@@ -33,8 +33,11 @@ pub struct PlanNotes {
 ///
 /// - for each step, in the order of the plan: that it begins a callback with no test at or below its
 ///   node; and that it wants a text that no step of the plan stores under its key, if no step before
-///   it wanted the same, with the text or the key that may have been meant;
-/// - for each callback without steps, in the order of the plan, that it has none;
+///   it wanted the same, with the text or the key that may have been meant; or that it is a `none` or
+///   `remove` of a key under which no step stores, if no step before it was one, and a near name has
+///   a key under which one stores;
+/// - for each callback and each test without steps, in the order of the plan, that it has none;
+/// - that the plan has no test;
 /// - for each declared key that no step names it;
 /// - that the steps name more keys than there are places;
 /// - for each lock that one test alone names it.
@@ -43,7 +46,7 @@ pub struct PlanNotes {
 ///
 /// Takes memory for the steps, the keys, what is stored and wanted, the nodes and the lines, and
 /// fails with `AllocError` only if that is refused. The time grows with the number of steps and its
-/// logarithm.
+/// logarithm, and with how many store for each key that `none` or `remove` names.
 pub fn lint(alloc: Global, plan: &Plan) -> Result<PlanNotes, AllocError>
     requires { IsRunnablePlan (plan_view plan.now) }
     ensures text { IfOk result (λ notes. string_bytes notes.text ≡ lint_text (plan_view plan.now)) }
@@ -61,15 +64,16 @@ pub fn lint(alloc: Global, plan: &Plan) -> Result<PlanNotes, AllocError>
     let speech = Speech::of(plan.keys.as_slice(), keys, &directory);
     let stored = speech.stored(alloc, node_steps.as_slice())?;
     let set = SaidSet::of(alloc, stored.as_slice())?;
-    let rules = StepRules::of(plan, speech, live, set);
+    let rules = StepRules::of(plan, speech, live, set, stored);
     let mut notes = Vec::new(alloc);
     rules.note_steps(alloc, node_steps.as_slice(), &mut notes)?;
     note_callbacks(plan, &mut notes)?;
+    note_tests(plan.nodes.as_slice(), &mut notes)?;
     note_keys(alloc, plan.keys.as_slice(), &directory, &mut notes)?;
     note_crowd(plan.key_places, &directory, &mut notes)?;
     note_locks(alloc, plan, &mut notes)?;
     Ok(PlanNotes {
-        text: text_of(alloc, plan, stored.as_slice(), notes.as_slice())?,
+        text: text_of(alloc, plan, rules.stored(), notes.as_slice())?,
         found: !notes.is_empty(),
     })
 }

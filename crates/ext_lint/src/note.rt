@@ -8,10 +8,13 @@ use ext_lifecycle::Call;
 pub(crate) enum Note<'p> {
     /// The callback that begins with this step has no test at or below its node.
     Idle(NodeStep<'p>),
-    /// The step wants a text that no step stores under its key.
+    /// The step wants a text that no step stores under its key; or it names a key alone under which
+    /// no step stores, and steps store under one with a near name.
     Missing(NodeStep<'p>, Said<'p>),
-    /// The callback has no steps.
+    /// The callback or test has no steps.
     Empty(Call),
+    /// The plan has no test.
+    Untested,
     /// No step names the key with this label.
     Unnamed(&'p str),
     /// The steps name more keys than there are places.

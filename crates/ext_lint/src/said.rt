@@ -1,6 +1,6 @@
 //! What steps say of keys and texts.
 ghost use Rattle.std.specs.Prelude.{◌≡◌};
-ghost use Rattle.ext_lint.specs.Said.{stores, wants};
+ghost use Rattle.ext_lint.specs.Said.{asks, stores, wants};
 
 use ext_model::KeyNo;
 use ext_plan::Word;
@@ -30,4 +30,11 @@ pub(crate) fn wants(word: Word) -> bool
     ensures { result ≡ wants word }
 {
     matches!(word, Word::Want)
+}
+
+/// Tests whether a step of this word wants to find its text, or names its key alone.
+pub(crate) fn asks(word: Word) -> bool
+    ensures { result ≡ asks word }
+{
+    matches!(word, Word::Want | Word::None | Word::Remove)
 }

@@ -5,12 +5,12 @@ ghost use Rattle.std.specs.List.{flat_map};
 ghost use Rattle.ext_plan.specs.Plans.{plan_view};
 ghost use Rattle.ext_races.specs.RaceLines.{found_text, id_of_node, line_limit};
 ghost use Rattle.ext_lint.specs.InnerLists.{note_view, said_view};
-ghost use Rattle.ext_lint.specs.NoteLines.{call_words, callback_line, hint, missing_line, missing_words, note_line, note_lines, node_step_words, texts_of};
+ghost use Rattle.ext_lint.specs.NoteLines.{asked_words, call_words, callback_line, hint, missing_line, missing_words, note_line, note_lines, node_step_words, texts_of};
 ghost use Rattle.ext_lint.specs.NodeSteps.{node_step_view};
 
 use crate::node_step::NodeStep;
 use crate::note::Note;
-use crate::said::Said;
+use crate::said::{Said, wants};
 use ext_lifecycle::{Call, Kind};
 use ext_model::{ContextNo, KeyNo};
 use ext_plan::Plan;
@@ -85,6 +85,7 @@ fn push_note(
         Note::Idle(node_step) => push_callback(text, plan, node_step.call(), "no test is below"),
         Note::Missing(node_step, said) => push_missing(alloc, text, plan, stored, node_step, said),
         Note::Empty(call) => push_callback(text, plan, *call, "it has no steps"),
+        Note::Untested => text.push_str("the plan: it has no test\n"),
         Note::Unnamed(label) => push_named(text, "key ", label, ": no step names it\n"),
         Note::Crowded => push_crowded(alloc, text, plan),
         Note::Lone(name) => push_named(text, "lock ", name, ": one test alone takes it\n"),
@@ -118,7 +119,7 @@ fn push_callback(text: &mut String, plan: &Plan, call: Call, end: &str) -> Resul
     push_named(text, ": ", end, "\n")
 }
 
-/// Adds the line of a step that wants what no step stores.
+/// Adds the line of a step that asks for what no step stores.
 fn push_missing(
     alloc: Global,
     text: &mut String,
@@ -130,11 +131,23 @@ fn push_missing(
     ensures { OnOk result (string_bytes text.new ≡ string_bytes text.old ++ missing_line (plan_view plan.now) (map said_view stored.now) (node_step_view node_step.now) (said_view said.now)) }
 {
     push_node_step(text, plan, node_step)?;
-    push_named(text, ", want ", said.name, " ")?;
-    text.push_str(said.text)?;
+    text.push_str(", ")?;
+    push_asked(text, said)?;
     text.push_str(": ")?;
     push_why(alloc, text, stored, said)?;
     text.push_str("\n")
+}
+
+/// Adds what a step asks for.
+fn push_asked(text: &mut String, said: &Said<'_>) -> Result<(), AllocError>
+    ensures { OnOk result (string_bytes text.new ≡ string_bytes text.old ++ asked_words (said_view said.now)) }
+{
+    push_named(text, said.word.text(), " ", said.name)?;
+    if wants(said.word) {
+        text.push_str(" ")?;
+        text.push_str(said.text)?;
+    }
+    Ok(())
 }
 
 /// Adds the words for a step of a callback or of a test.
@@ -235,7 +248,7 @@ fn texts_of<'p>(alloc: Global, key: KeyNo, stored: &[Said<'p>]) -> Result<Vec<&'
 }
 
 /// The words by which steps name the keys that they store. Takes memory for the list.
-fn names_of<'p>(alloc: Global, stored: &[Said<'p>]) -> Result<Vec<&'p str>, AllocError>
+pub(crate) fn names_of<'p>(alloc: Global, stored: &[Said<'p>]) -> Result<Vec<&'p str>, AllocError>
     ensures { IfOk result (λ v. map (λ t. t.now) v.items ≡ map (λ other. other.name) (map said_view stored.now)) }
 {
     let mut names = Vec::new(alloc);

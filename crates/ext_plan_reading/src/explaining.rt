@@ -19,7 +19,7 @@ use ext_model::Size;
 use fields::{bad_field, bad_label, unknown_field};
 use headers::{Hint, hint_at};
 pub use ids::explain_id;
-use marks::{column_at, mark_in_line};
+use marks::{column_at, mark_at};
 pub use near::nearest;
 use nodes::{bad_id, bad_nodes, too_many};
 use std::alloc::{AllocError, Global};
@@ -142,7 +142,7 @@ fn no_toml(alloc: Global, text: &str, error: &Error) -> Result<Option<String>, P
             "it is no TOML in {place}: {message}: in line {single} write {meant}"
         )?));
     }
-    Ok(Some(match mark_in_line(text, span.start) {
+    Ok(Some(match mark_at(text, span.start, message) {
         None => format!(in alloc; "it is no TOML in {place}: {message}")?,
         Some(hint) => format!(in alloc; "it is no TOML in {place}: {message}: {hint}")?,
     }))

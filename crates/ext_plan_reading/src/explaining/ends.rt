@@ -1,6 +1,8 @@
 //! The end of an explanation: the node's id, and the line of the plan with the fault.
 use crate::explaining::fields::table_of;
-use crate::explaining::spots::{Spot, byte_of};
+use crate::explaining::headers::Header;
+use crate::explaining::marks::end_of;
+use crate::explaining::spots::{Spot, byte_of, byte_of_header};
 use crate::explaining::words::Meaning;
 use crate::explaining::{Place, line_at};
 use crate::fault::{PlanFault, PlanPart};
@@ -62,16 +64,16 @@ fn line_of(
     part: PlanPart,
     spot: &Option<Spot>,
 ) -> Result<Option<usize>, PlanFault> {
-    let (header, name, number) = match part {
+    let (name, number) = match part {
         PlanPart::Whole => return Ok(None),
-        PlanPart::Key(key) => ("[[key]]", "key", key),
-        PlanPart::Node(node) => ("[[node]]", "node", node),
+        PlanPart::Key(key) => ("key", key),
+        PlanPart::Node(node) => ("node", node),
     };
-    let Some(end) = end_of_header(text, header, number) else {
+    let Some(end) = end_of_header(text, Header::Of(name, number)) else {
         return Ok(None);
     };
     if has_tables(alloc, text, end, name, number.saturating_add(1))? {
-        return Ok(Some(line_at(text, byte_at(text, end, spot))));
+        return Ok(Some(line_at(text, byte_at(text, end, name, spot))));
     }
     Ok(None)
 }
@@ -80,67 +82,39 @@ fn line_of(
 fn byte_at_top(text: &str, spot: &Spot) -> Option<usize> {
     let from = if text.starts_with('\u{feff}') { 3 } else { 0 };
     match byte_of(text, from, spot) {
-        None => byte_of_header(text, spot.field.as_str()),
+        None => byte_of_header(text, from, Header::Under(spot.field.as_str())),
         Some(at) => Some(begin_of_line(text, at)),
     }
 }
 
 /// The byte of the first character, but white ones, of the line with this byte.
 fn begin_of_line(text: &str, at: usize) -> usize {
-    let before = text.get(..at).unwrap_or("");
-    let line = match before.rsplit_once('\n') {
-        None => before,
-        Some((_, line)) => line,
-    };
+    let line = end_of(text.get(..at).unwrap_or(""));
     at.saturating_sub(line.trim_start_matches('\u{feff}').trim_start().len())
 }
 
-/// The byte of the first header of a table with this name, or of one below it.
-fn byte_of_header(text: &str, name: &str) -> Option<usize> {
-    let mut begin: usize = 0;
-    for line in text.split('\n') {
-        if let Some(header) = line.trim().strip_prefix('[')
-            && is_name_of(header.trim_start_matches('['), name)
-        {
-            let white = line.len().saturating_sub(line.trim_start().len());
-            return Some(begin.saturating_add(white));
+/// The byte at which a spot stands in the table of this name whose header ends here, or the header of
+/// the spot's field, or else this byte.
+fn byte_at(text: &str, end: usize, name: &str, spot: &Option<Spot>) -> usize {
+    let Some(spot) = spot else {
+        return end;
+    };
+    match byte_of(text, end, spot) {
+        Some(at) => at,
+        None => {
+            let header = Header::Field(name, spot.field.as_str());
+            byte_of_header(text, end, header).unwrap_or(end)
         }
-        begin = begin.saturating_add(line.len()).saturating_add(1);
-    }
-    None
-}
-
-/// Tests whether what follows the bracket of a header begins with this name.
-fn is_name_of(header: &str, name: &str) -> bool {
-    match header.split([']', '.']).next() {
-        None => false,
-        Some(first) => first.trim().trim_matches('"') == name,
     }
 }
 
-/// The byte at which a spot in the table stands whose header ends here, or else this one.
-fn byte_at(text: &str, end: usize, spot: &Option<Spot>) -> usize {
-    match spot {
-        None => end,
-        Some(spot) => byte_of(text, end, spot).unwrap_or(end),
-    }
-}
-
-/// The byte at which the line of the header with this number ends.
-fn end_of_header(text: &str, header: &str, number: usize) -> Option<usize> {
-    let mut end: usize = 0;
-    let mut before: usize = 0;
-    for line in text.split('\n') {
-        end = end.saturating_add(line.len());
-        if line.trim().starts_with(header) {
-            if before == number {
-                return Some(end);
-            }
-            before = before.saturating_add(1);
-        }
-        end = end.saturating_add(1);
-    }
-    None
+/// The byte at which the line of this header ends.
+fn end_of_header(text: &str, header: Header<'_>) -> Option<usize> {
+    let Some(at) = byte_of_header(text, 0, header) else {
+        return None;
+    };
+    let line = text.get(at..).unwrap_or("").split('\n').next();
+    Some(at.saturating_add(line.unwrap_or("").len()))
 }
 
 /// Tests whether the text up to this byte is a document with `count` tables of this name.

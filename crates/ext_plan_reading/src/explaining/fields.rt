@@ -110,6 +110,11 @@ fn unknown_among(alloc: Global, name: &str, fields: &[&str]) -> Result<Option<St
             "it may not have a field {name:?}: nodes do not nest, and a node's id makes it the child of another. Allowed are {all}"
         )?));
     }
+    if fields.contains(&"node") && is_a_node(name) {
+        return Ok(Some(format!(in alloc;
+            "it may not have a field {name:?}: engines, classes and tests are all written [[node]]. Allowed are {all}"
+        )?));
+    }
     Ok(Some(match meant_by(fields, name) {
         None => format!(in alloc; "it may not have a field {name:?}. Allowed are {all}")?,
         Some(near) => format!(in alloc;
@@ -128,9 +133,18 @@ fn meant_by<'a>(fields: &[&'a str], name: &str) -> Option<&'a str> {
     let other = match name {
         "steps" => "test",
         "concurrent" | "parallel" => "mode",
+        "name" => "id",
         _ => name,
     };
-    nearest(fields, other)
+    nearest(fields, if fields.contains(&other) { other } else { name })
+}
+
+/// Tests whether a field of the plan itself is likely meant as a node.
+fn is_a_node(name: &str) -> bool {
+    matches!(
+        name,
+        "engine" | "suite" | "class" | "classes" | "method" | "methods" | "test" | "tests"
+    )
 }
 
 /// Tests whether a field is one of the plan's own that is no array of tables.
@@ -219,20 +233,26 @@ fn no_type(
     }
 }
 
-/// Tests whether a value is one of this type in quotes: `true` or `false`, or a number.
+/// Tests whether a value is one of this type in quotes: `true` or `false`, or a number that may stand
+/// there.
 fn is_quoted(kind: FieldType, value: &Value) -> bool {
     let Some(text) = value.as_str() else {
         return false;
     };
     match kind {
         FieldType::TruthIfGiven => matches!(text, "true" | "false"),
-        FieldType::KeysIfGiven | FieldType::RepeatsIfGiven => is_number(text),
+        FieldType::KeysIfGiven => is_number_up_to(1_024, text),
+        FieldType::RepeatsIfGiven => is_number_up_to(65_535, text),
         _ => false,
     }
 }
 
-fn is_number(text: &str) -> bool {
-    !text.is_empty() && text.chars().all(|c| c.is_ascii_digit())
+/// Tests whether a text is a whole number from 1 to `most`, as TOML writes it.
+fn is_number_up_to(most: u32, text: &str) -> bool {
+    match text.parse::<u32>() {
+        Ok(number) => 1 <= number && number <= most && !text.starts_with(['0', '+']),
+        Err(_) => false,
+    }
 }
 
 /// Says that a field is no array of texts, and how one is written if it is a text.

@@ -6,13 +6,12 @@ ghost use Rattle.ext_plan_reading.specs.InnerSketches.{HasRoom, sketch_view};
 
 use crate::explaining::fields::table_of;
 use crate::explaining::ids::words_of_id;
+use crate::explaining::near::nearest;
 use crate::explaining::spots::TextNo;
-use crate::explaining::words::{
-    Meaning, of_field, of_field_at, of_no_field, of_text, quoted, said,
-};
+use crate::explaining::words::{Meaning, of_field, of_field_at, of_no_field, of_text, said};
 use crate::fault::{PlanFault, PlanPart};
 use crate::fields::{key_places_at, tables_at, text_at};
-use crate::keys::{Keys, keys_of};
+use crate::keys::{Keys, is_word, keys_of};
 use crate::locks::lock_at;
 use crate::modes::mode_at;
 use crate::nodes::{NodeSketch, ids_of, sketches_of};
@@ -79,7 +78,12 @@ fn no_id(alloc: Global, table: &Table, text: &str) -> Result<Option<String>, Pla
 /// Explains the fault of a text that is no id.
 fn bad_id_text(alloc: Global, text: &str, fault: IdFault) -> Result<Option<String>, PlanFault> {
     let words = words_of_id(alloc, text, fault)?;
-    Ok(Some(format!(in alloc; "{fault} in {text:?}: {}", words.as_str())?))
+    let mark = if text.contains('\u{feff}') {
+        ". It has a byte order mark"
+    } else {
+        ""
+    };
+    Ok(Some(format!(in alloc; "{fault} in {text:?}: {}{mark}", words.as_str())?))
 }
 
 /// Explains a fault that follows the first pass: of the nodes' ids as a tree, or of a node's mode,
@@ -264,13 +268,28 @@ fn bad_lock(
     if let Some(mode) = sketch.mode
         && mode_at(node, Some(mode)).is_err()
     {
-        let why = " is neither same_thread nor concurrent";
-        return of_field(alloc, "mode", quoted(alloc, "its mode ", mode, why)?);
+        return of_field(alloc, "mode", no_mode(alloc, mode)?);
     }
     match &sketch.locks {
         None => Ok(None),
         Some(texts) => first_bad_lock(alloc, node, texts.as_slice()),
     }
+}
+
+/// Says that a text is no mode, and which was meant, where that is likely.
+fn no_mode(alloc: Global, mode: &str) -> Result<Option<String>, PlanFault> {
+    let small = mode.to_ascii_lowercase(alloc)?;
+    let meant = match small.as_str() {
+        "parallel" => Some("concurrent"),
+        "sequential" | "serial" => Some("same_thread"),
+        other => nearest(&["same_thread", "concurrent"], other),
+    };
+    Ok(Some(match meant {
+        None => format!(in alloc; "its mode {mode:?} is neither same_thread nor concurrent")?,
+        Some(meant) => format!(in alloc;
+            "its mode {mode:?} is neither same_thread nor concurrent: did you mean {meant:?}?"
+        )?,
+    }))
 }
 
 /// Explains the first of a node's texts that is no lock.
@@ -288,8 +307,50 @@ fn first_bad_lock(
     Ok(None)
 }
 
+/// Says that a text is no lock, and how what was meant is written, where that is likely.
 fn no_lock(alloc: Global, i: usize, text: &str) -> Result<Option<String>, PlanFault> {
-    Ok(Some(format!(in alloc; "its lock {i}, {text:?}, is neither READ NAME nor READ_WRITE NAME")?))
+    Ok(Some(match lock_meant(alloc, text)? {
+        None => format!(in alloc;
+            "its lock {i}, {text:?}, is neither READ NAME nor READ_WRITE NAME"
+        )?,
+        Some(meant) => format!(in alloc;
+            "its lock {i}, {text:?}, is neither READ NAME nor READ_WRITE NAME: did you mean {:?}?",
+            meant.as_str()
+        )?,
+    }))
+}
+
+/// The lock that was meant by a name alone, or by one behind a mode that is written otherwise.
+fn lock_meant(alloc: Global, text: &str) -> Result<Option<String>, PlanFault> {
+    let (mode, name) = match text.split_once(' ') {
+        None => ("READ_WRITE", text),
+        Some(parts) => parts,
+    };
+    let small = mode.to_ascii_lowercase(alloc)?;
+    let Some(mode) = lock_mode(small.as_str().trim_end_matches(':')) else {
+        return Ok(None);
+    };
+    if is_word(name) && lock_mode(name).is_none() && !is_lock_mode(name) {
+        return Ok(Some(format!(in alloc; "{mode} {name}")?));
+    }
+    Ok(None)
+}
+
+/// Tests whether a word is a mode of locks in capitals, and so no name.
+fn is_lock_mode(word: &str) -> bool {
+    matches!(word, "READ" | "READ_WRITE" | "WRITE")
+}
+
+/// The mode of a lock that was meant by a word in small letters.
+fn lock_mode(word: &str) -> Option<&'static str> {
+    match word {
+        "write" => Some("READ_WRITE"),
+        other => match nearest(&["read", "read_write"], other) {
+            None => None,
+            Some("read") => Some("READ"),
+            Some(_) => Some("READ_WRITE"),
+        },
+    }
 }
 
 /// Tests whether a text of a node is a lock.

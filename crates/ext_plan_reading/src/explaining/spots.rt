@@ -1,4 +1,6 @@
-//! Where in the text of a table its fields stand, and the texts in their arrays.
+//! Where in the text of a document the headers of its tables stand, and in a table its fields and the
+//! texts in their arrays.
+use crate::explaining::headers::{Header, Met, rest_behind};
 
 /// A spot in a table: a field, or a text in the field's array, by its number.
 #[derive(Debug, Drop)]
@@ -19,7 +21,25 @@ pub(crate) enum TextNo {
 /// The byte of `text` at which the spot of a table stands, if that is found. The table's fields
 /// begin behind the byte `from`, and end with the next header.
 pub(crate) fn byte_of(text: &str, from: usize, spot: &Spot) -> Option<usize> {
-    let mut search = Search::new(text, from, spot);
+    first_of(text, from, Sought::Spot(spot))
+}
+
+/// The byte of `text` at which this header stands, if that is found behind the byte `from`, which
+/// stands in no value.
+pub(crate) fn byte_of_header(text: &str, from: usize, header: Header<'_>) -> Option<usize> {
+    first_of(text, from, Sought::Header(header))
+}
+
+/// What is looked for.
+#[derive(Clone, Copy)]
+enum Sought<'a> {
+    Spot(&'a Spot),
+    Header(Header<'a>),
+}
+
+/// The byte at which that stands which is looked for.
+fn first_of(text: &str, from: usize, sought: Sought<'_>) -> Option<usize> {
+    let mut search = Search::new(text, from, sought);
     let mut inside = Inside::Table;
     for (at, byte) in text.as_bytes().iter().enumerate().skip(from) {
         let (next, mark) = inside.read(*byte);
@@ -170,11 +190,13 @@ enum Step {
     End,
 }
 
-/// A search for a spot in a table.
+/// A search for a spot in a table, or for a header.
 #[derive(Drop)]
 struct Search<'a> {
     text: &'a str,
-    spot: &'a Spot,
+    sought: Sought<'a>,
+    /// How many headers came before the one that is looked for.
+    headers: usize,
     /// The byte at which the line begins, if it is no line of a value.
     line: usize,
     /// How many arrays and inline tables are open.
@@ -189,10 +211,11 @@ struct Search<'a> {
 }
 
 impl<'a> Search<'a> {
-    fn new(text: &'a str, from: usize, spot: &'a Spot) -> Search<'a> {
+    fn new(text: &'a str, from: usize, sought: Sought<'a>) -> Search<'a> {
         Search {
             text,
-            spot,
+            sought,
+            headers: 0,
             line: from,
             depth: 0,
             is_value: false,
@@ -207,7 +230,7 @@ impl<'a> Search<'a> {
         match mark {
             Mark::LineFeed => self.feed(at),
             Mark::Equals => return self.name(at),
-            Mark::Open => return self.open(),
+            Mark::Open => return self.open(at),
             Mark::Close => self.depth = self.depth.saturating_sub(1),
             Mark::Quote => return self.count_text(),
             Mark::Other => {}
@@ -230,29 +253,33 @@ impl<'a> Search<'a> {
             return Step::Further;
         }
         self.is_value = true;
-        self.is_field = self.is_named(at);
-        if self.is_field && self.spot.text.is_none() {
+        let Sought::Spot(spot) = self.sought else {
+            return Step::Further;
+        };
+        self.is_field = self.is_named(spot, at);
+        if self.is_field && spot.text.is_none() {
             return Step::Found;
         }
         Step::Further
     }
 
-    /// Tests whether the line up to this byte is the name of the field, in quotes or not.
-    fn is_named(&self, at: usize) -> bool {
-        match self.text.get(self.line..at) {
+    /// Tests whether the line up to this `=` is the name of the field, in quotes or not, or begins with
+    /// it and a dot.
+    fn is_named(&self, spot: &Spot, at: usize) -> bool {
+        match self.text.get(self.line..at.saturating_add(1)) {
             None => false,
             Some(name) => {
-                let name = name.trim();
-                let bare = name.trim_matches('"').trim_matches('\'');
-                bare == self.spot.field.as_str()
+                let rest = rest_behind(name, spot.field.as_str());
+                rest.starts_with('=') || spot.text.is_none() && rest.starts_with('.')
             }
         }
     }
 
     /// Begins an array or an inline table; where no value stands, it is a header.
-    fn open(&mut self) -> Step {
-        if !self.is_value {
-            return Step::End;
+    fn open(&mut self, at: usize) -> Step {
+        if !self.is_value && self.depth == 0 {
+            self.depth = 1;
+            return self.header(at);
         }
         self.depth = self.depth.saturating_add(1);
         self.texts = 0;
@@ -260,6 +287,22 @@ impl<'a> Search<'a> {
             self.lists = self.lists.saturating_add(1);
         }
         Step::Further
+    }
+
+    /// Begins a header, and tests whether it is the one that is looked for.
+    fn header(&mut self, at: usize) -> Step {
+        let Sought::Header(header) = self.sought else {
+            return Step::End;
+        };
+        match header.meets(self.text.get(at..).unwrap_or("")) {
+            Met::Other => Step::Further,
+            Met::Last => Step::End,
+            Met::Wanted if self.headers == header.number() => Step::Found,
+            Met::Wanted => {
+                self.headers = self.headers.saturating_add(1);
+                Step::Further
+            }
+        }
     }
 
     /// Begins a text, and tests whether it is the one that is looked for.
@@ -273,7 +316,10 @@ impl<'a> Search<'a> {
 
     /// Tests whether the text that begins is the one that is looked for.
     fn is_here(&self) -> bool {
-        match self.spot.text {
+        let Sought::Spot(spot) = self.sought else {
+            return false;
+        };
+        match spot.text {
             None => false,
             Some(TextNo::In(text)) => self.depth == 1 && self.texts == text,
             Some(TextNo::InList(list, text)) => {

@@ -207,6 +207,9 @@ fn reason_of_text(alloc: Global, text: &str) -> Result<String, PlanFault> {
         return Ok(String::from_str(alloc, "is an empty step")?);
     }
     let why = reason_of_words(alloc, text)?;
+    if text.contains('\u{feff}') {
+        return Ok(format!(in alloc; "has a byte order mark, and {}", why.as_str())?);
+    }
     if text.contains('\t') {
         return Ok(format!(in alloc; "has a tab, and {}", why.as_str())?);
     }
