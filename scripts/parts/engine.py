@@ -1,7 +1,8 @@
 """Runs the example engine, the proved one if no other is given, and looks at its report in JSON and at its page.
 
-Where a test ran is read from the page's data: what has one lock is apart, what is isolated is alone, what runs in turn comes last. Once more it runs where no file can
-grow: the factory of the database fails, and each test by its kept fault. Nothing is left of the run's folder. Of what `--list` prints `rt ci` makes sure.
+Where a test ran is read from the page's data: what has one lock is apart, what is isolated is alone, what runs in turn comes last. The page of the proved engine stays as an
+example, crates/demo_engine/out/page.html. Once more it runs where no file can grow: the factory of the database fails, and each test by its kept fault. Nothing is left of the
+run's folder. Of what `--list` prints `rt ci` makes sure.
 """
 import json
 import pathlib
@@ -12,6 +13,7 @@ import tempfile
 
 TOP = pathlib.Path(__file__).resolve().parent.parent.parent
 PROVED = TOP / "crates" / "demo_engine" / "out" / "demo_engine"
+PAGE = PROVED.with_name("page.html")
 DATA = re.compile(r'id="data">(.*)</script>')
 POST = "no post at attempt 1"
 FAULTS = {
@@ -26,12 +28,13 @@ TESTS = [
 ]  # fmt: skip
 
 
-def run(program, *which, may_write=True):
-    """What is reported of each of these tests, the page's data, the exit status, and what is left in the folder for temporary files. Where it may not write, each write to a file fails."""
+def run(program, *which, may_write=True, kept=None):
+    """What is reported of each of these tests, the page's data, the exit status, and what is left in the folder for temporary files. The page is kept in a file, if one is given. Where
+    it may not write, each write to a file fails."""
     limits = [] if may_write else [(resource.RLIMIT_FSIZE, (0, 0))]
     words = [*which, "--lanes", "4", "--report", "json"]
     with tempfile.TemporaryDirectory(prefix="engine-example-") as folder, tempfile.TemporaryDirectory() as other:
-        page = pathlib.Path(other) / "page.html"
+        page = kept or pathlib.Path(other) / "page.html"
         ran = subprocess.run(
             [program, *words, *(["--html", page] if may_write else [])], env={"TMPDIR": folder}, capture_output=True, text=True, timeout=120,
             restore_signals=may_write, preexec_fn=lambda: [resource.setrlimit(*it) for it in limits],
@@ -53,6 +56,11 @@ def spans_of(shown):
     return {id_of(node): (begun, ended) for node, _, begun, ended, _ in shown["attempts"] if shown["nodes"][node][2]}
 
 
+def drawn(shown):
+    """The tests of a page of which an attempt is drawn as failed, in order."""
+    return sorted(shown["nodes"][node][1] for node, *_, status in shown["attempts"] if status == 1)
+
+
 def are_apart(spans, one, other):
     return spans[one][1] <= spans[other][0] or spans[other][1] <= spans[one][0]
 
@@ -64,7 +72,7 @@ def value_of(shown, name):
 
 def main(given, _words):
     program = given if pathlib.Path(given).name == PROVED.name else PROVED
-    nodes, shown, status, left = run(program)
+    nodes, shown, status, left = run(program, kept=PAGE if program == PROVED else None)
     failing, _, failing_status, failing_left = run(program, may_write=False)
     # Alone they have a lane each, so nothing but the lock keeps them apart.
     spans, of_accounts = spans_of(shown), spans_of(run(program, "Accounts")[1])
@@ -73,6 +81,7 @@ def main(given, _words):
     checks = {
         "its tests are those that have to come": list(nodes) == TESTS == [it for it in TESTS if it in spans],
         "those fail that have to, each with its fault": {it: row["fault"] for it, row in nodes.items() if row["status"] == "failed"} == FAULTS,
+        "each of them is drawn as failed": drawn(shown) == ["[test:eve]", "[test:lease]", "[test:letter]", "[test:parcel]"],
         "its exit status is 1, since tests fail": status == failing_status == 1,
         "nothing is left of its folder": left == failing_left == [],
         "two tests that have one lock are apart": are_apart(of_accounts, TESTS[0], TESTS[1]),

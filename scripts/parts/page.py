@@ -1,6 +1,6 @@
 """Reads the pages that engines and `extrun run` write (`--html`): the data in them by Python's JSON parser, the whole by its HTML parser, and by chromium where that is there.
 
-The runs are those of crates/trial_engine and of plans: of one alone where its program is given, and else of both proved programs. Prints a line for each case.
+What is clicked there is written by a script that stands behind that of a copy of the page. The runs are those of crates/trial_engine and of plans: of one alone where its program is given, and else of both proved programs. Prints a line for each case.
 """
 import functools
 import html.parser
@@ -18,6 +18,33 @@ PROVED = TOP / "crates" / "trial_engine" / "out" / "trial_engine"
 DATA = re.compile(r'<script type="application/json" id="data">(.*?)</script>', re.S)
 STATUSES = ["successful", "failed", "aborted", "skipped"]
 VOID = {"meta", "link", "input", "path", "circle", "br"}
+CLICKS = """<script>
+addEventListener('error', it => console.error(it.message));
+setTimeout(() => {
+  const shown = () => document.getElementById('shown').textContent, rows = () => document.querySelectorAll('#tree li[data-n]').length, told = [];
+  const text = document.getElementById('text');
+  text.value = 'BOTH';
+  text.dispatchEvent(new Event('input'));
+  setTimeout(() => {
+    told.push(shown(), rows());
+    clear();
+    [...document.querySelectorAll('#statuses button')].find(it => it.textContent.includes('aborted')).click();
+    told.push(shown(), rows());
+    clear();
+    const root = document.querySelector('#tree details');
+    told.push(shown(), root.open);
+    root.querySelector('summary').click();
+    told.push(root.open);
+    root.querySelector('summary').click();
+    told.push(root.open);
+    choose({ kind: 'bar', i: 0, lane: D.attempts[0][1] });
+    told.push(document.getElementById('card').textContent.includes('[test:lines]'));
+    document.body.append(Object.assign(document.createElement('pre'), { id: 'clicked', textContent: told.join('; ') }));
+  }, 500);
+}, 1000);
+</script>
+"""
+CLICKED = "1 of 4 tests; 3; 1 of 4 tests; 3; 4 tests; true; false; true; true"
 HOSTILE = '</script><!-- & "\u202e \U0001f600 \x7f'
 
 
@@ -43,10 +70,10 @@ class Nesting(html.parser.HTMLParser):
 class Page:
     """A page of a run, and the data in it."""
 
-    def __init__(self, program, words, given="", many=0):
+    def __init__(self, program, words, given="", many=0, course=False):
         with tempfile.TemporaryDirectory() as folder:
             self.file = pathlib.Path(folder) / "page.html"
-            environment = {"PATH": os.environ["PATH"], "TRIAL_TESTS": str(many)}
+            environment = {"PATH": os.environ["PATH"], "TRIAL_TESTS": str(many), **({"TRIAL_COURSE": "1"} if course else {})}
             ran = subprocess.run([program, *words, "--html", self.file], input=given, capture_output=True, text=True, env=environment, timeout=300)
             self.status = ran.returncode
             self.text = self.file.read_text(encoding="utf-8")
@@ -62,6 +89,11 @@ class Page:
         for parent, name, _, _ in self.data["nodes"]:
             ids.append(name if parent is None else f"{ids[parent]}/{name}")
         return ids
+
+    def named(self, table, name):
+        """The rows of a table whose node has this id below the engine."""
+        at = 1 if table in ("waits", "values") else 0
+        return [it for it in self.of(table) if it[at].partition("/")[2] == name]
 
     def of(self, table):
         """The rows of a table, whose first field that is a node is its id."""
@@ -92,7 +124,8 @@ def json_of(program, words):
 def of_all(program):
     page = Page(program, ["--lanes", "3"])
     told = [(name, bool(row[2]), STATUSES[row[3]]) for name, row in zip(page.ids(), page.data["nodes"])]
-    ran = {it[0] for it in page.of("attempts")}
+    tests = {name for name, is_test, _ in told if is_test}
+    ran = {it[0] for it in page.of("attempts") if it[0] in tests}
     faults = [(node.partition("/")[2], attempt, place, text) for node, attempt, place, text in page.of("faults")]
     values = {row[1].rpartition(":")[2]: row for row in page.of("values")}
     yield "the nodes are those of the report", told == json_of(program, ["--lanes", "3"])
@@ -112,16 +145,16 @@ def of_all(program):
 
 def of_waits(program):
     meeting, locked, alone = (Page(program, [name, "--lanes", "2"]) for name in ("Meeting", "Locked", "Slow"))
-    [[_, _, maker, _, begun, ended, *_]] = meeting.data["values"]
-    [[lane, waiting, since, until, kind, what, by]] = meeting.data["waits"]
-    yield "a wait for a value is told with who made it", (kind, what, by) == (1, 0, maker) and waiting != maker and begun <= until and ended - begun >= 50_000
-    yield "it ends when the value is there", since < ended <= until
-    [[_, waiting, since, until, kind, what, by]] = locked.data["waits"]
-    holder = next(it for it in locked.data["attempts"] if it[0] == by)
-    yield "a wait for a lock is told with who held it", (kind, locked.data["locks"][what]) == (0, "count") and waiting != by and until - since >= 50_000
-    yield "it ends when that one has ended", holder[3] <= until
-    [[_, _, since, until, kind, what, by]] = alone.data["waits"]
-    yield "so is that of a test that is alone", (kind, what) == (0, None) and by is not None and until - since >= 9_000
+    [(key, _, maker, _, begun, ended, *_)] = meeting.data["values"]
+    waits = meeting.data["waits"]
+    yield "a wait for a value is told with who made it", len(waits) == 1 and all(it[4:] == [1, 0, maker] and it[1] != maker and begun <= it[3] for it in waits) and ended - begun >= 50_000
+    yield "it ends when the value is there", all(it[2] < ended <= it[3] for it in waits)
+    yield "its key is the name of the node that shares it", key == "[class:Meeting]"
+    waits, ends = locked.data["waits"], {it[0]: it[3] for it in locked.data["attempts"]}
+    yield "a wait for a lock is told with who held it", len(waits) == 1 and all(it[4:6] == [0, 0] and it[6] not in (None, it[1]) and it[3] - it[2] >= 50_000 for it in waits) and locked.data["locks"] == ["count"]
+    yield "it ends when that one has ended", all(ends[it[6]] <= it[3] for it in waits)
+    waits = alone.data["waits"]
+    yield "so is that of a test that is alone", len(waits) == 1 and all(it[4:6] == [0, None] and it[6] is not None and it[3] - it[2] >= 9_000 for it in waits)
 
 
 def of_attempts(program):
@@ -132,12 +165,30 @@ def of_attempts(program):
     yield "an aborted test's attempt is aborted", [it[4] for it in Page(program, ["needs"]).data["attempts"]] == [2]
 
 
+def of_course(program):
+    """What is told of calls of containers, of tests whose bodies pass, and of what is closed."""
+    page, closing = Page(program, ["Staged", "Late"], course=True), Page(program, ["Closing", "--lanes", "2"], course=True)
+    (before, behind), [one] = ([it[2:] for it in page.named("attempts", name)] for name in ("[class:Staged]", "[class:Staged]/[test:one]"))
+    yield "calls of a container stand before its tests and behind them", before[1] - before[0] >= 60_000 and behind[1] - behind[0] >= 40_000 and before[1] <= one[0] and one[1] <= behind[0]
+    yield "each with its status", (before[2], one[2], behind[2]) == (0, 0, 1) and page.is_in_order()
+    late = {it: [row[4] for row in page.named("attempts", f"[class:Late]/[test:{it}]")] for it in ("before", "after", "close", "keeps")}
+    yield "a test whose body passes is shown as it ended", late == {"before": [2], "after": [1], "close": [1], "keeps": [1]}
+    [value] = page.named("values", "[class:Late]/[test:keeps]")
+    yield "another value's close is not that of what is shared", value[8] is not None and value[11] is None
+    [holds], waits = closing.data["values"], closing.data["waits"]
+    yield "a lock is held until its test has closed", [it[6] for it in waits] == [holds[1]] and all(holds[9] <= it[2] and holds[10] <= it[3] for it in waits)
+
+
 def of_plans(extrun):
     ids = [f"[test:{number}]" for number in range(1000)]
     plan = "".join(f'[[node]]\nid = "[engine:x]{it}"\n' + ("test = []\nmode = \"concurrent\"\n" if it else "") for it in ["", *(f"/{it}" for it in ids)])
     page = Page(extrun, ["run", "--lanes", "4", "--large"], plan)
     yield "of a plan of 1,000 tests, too", page.status == 0 and page.is_whole() and page.is_in_order() and page.ids()[1:] == [f"[engine:x]/{it}" for it in ids]
     yield "in less than 200 kB", len(page.text) < 200_000
+    yield "with nothing said of locks where there are none", page.data["run"]["note"] is None and page.data["locks"] == page.data["waits"] == []
+    held = "".join(f'[[node]]\nid = "[engine:x]/[test:{it}]"\nmode = "concurrent"\ntest = []\nlocks = ["READ_WRITE a"]\n' for it in range(4))
+    page = Page(extrun, ["run", "--lanes", "4"], f'[[node]]\nid = "[engine:x]"\n{held}')
+    yield "where there are it says what bars have of them", page.status == 0 and "waited for its locks" in page.data["run"]["note"] and page.is_in_order()
     step = json.dumps("fail " + HOSTILE.replace(" ", "_"), ensure_ascii=False).replace("\x7f", "\\u007F")
     page = Page(extrun, ["run", "--store", "plain"], f'[[node]]\nid = "[engine:x]"\ntest = [{step}]\n')
     yield "texts that look like HTML stay texts", page.is_whole() and [it[1:] for it in page.data["faults"]] == [[1, "test, step 0", HOSTILE.replace(" ", "_")]]
@@ -151,13 +202,24 @@ def in_browser(program):
         return
     with tempfile.TemporaryDirectory() as folder:
         file = pathlib.Path(folder) / "page.html"
-        subprocess.run([program, "Failing", "--html", file], capture_output=True, env={}, timeout=120)
+        subprocess.run([program, "Failing", "--lanes", "1", "--html", file], capture_output=True, env={}, timeout=120)
+        copy = pathlib.Path(folder) / "clicks.html"
+        copy.write_text(file.read_text(encoding="utf-8").replace("</body>", f"{CLICKS}</body>"), encoding="utf-8")
         words = ["--headless", "--no-sandbox", "--disable-gpu", f"--user-data-dir={folder}/user", "--virtual-time-budget=5000", "--enable-logging=stderr", "--dump-dom"]
-        ran = subprocess.run([browser, *words, file.as_uri()], capture_output=True, text=True, timeout=120)
+        ran, clicked = (subprocess.run([browser, *words, it.as_uri()], capture_output=True, text=True, timeout=120) for it in (file, copy))
     shown = re.sub(r"<[^>]*>", " ", ran.stdout.partition("<body")[2].partition("<script")[0])
     words = " ".join(shown.split())
     yield "in a browser it shows what failed", all(it in words for it in ["2 failed", "1 aborted", "1 passed", "wanted &lt;sum&gt; 7, got:"])
-    yield "without an error", "CONSOLE" not in ran.stderr
+    yield "its tests are filtered, folded and pointed at", f'<pre id="clicked">{CLICKED}</pre>' in clicked.stdout
+    yield "without an error", "CONSOLE" not in ran.stderr + clicked.stderr
+
+
+def told(part):
+    """The cases of a part. One fails where they end by an error."""
+    try:
+        yield from part
+    except (ArithmeticError, AttributeError, LookupError, OSError, TypeError, ValueError, subprocess.SubprocessError) as fault:
+        yield f"all is there that is looked at ({fault!r})", False
 
 
 def main(program, _words):
@@ -166,9 +228,9 @@ def main(program, _words):
         parts.append(of_plans(program))
     if is_trial or pathlib.Path(program) == TOP / "crates/extrun/out/extrun":
         trial = program if is_trial else PROVED
-        parts += [of_all(trial), of_waits(trial), of_attempts(trial), in_browser(trial)]
+        parts += [of_all(trial), of_waits(trial), of_attempts(trial), of_course(trial), in_browser(trial)]
     passed = failed = 0
-    for case, is_right in itertools.chain.from_iterable(parts):
+    for case, is_right in itertools.chain.from_iterable(map(told, parts)):
         passed, failed = passed + is_right, failed + (not is_right)
         print(f"page, {case}: " + ("as it has to be" if is_right else "NOT as it has to be"), flush=True)
     return passed, failed

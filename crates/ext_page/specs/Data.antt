@@ -99,8 +99,7 @@ unfoldable pub size_members : ℕ → ℕ → List Token
 size_members wall lanes = key (codes "wall") ∷ (count wall ++ key (codes "lanes") ∷ count lanes)
 
 unfoldable pub fact_members : RunHead → List Token
-fact_members h = text_member (codes "begun") (text_of h.begun) ++ (size_members h.wall h.lanes
-    ++ (text_member (codes "command") (text_of h.command) ++ text_member (codes "note") (text_of h.note)))
+fact_members h = size_members h.wall h.lanes ++ text_member (codes "note") (text_of h.note)
 
 unfoldable pub head_tokens : RunHead → List Token
 head_tokens h = key (codes "run") ∷ begin_object ∷ key (codes "name") ∷ string (string_bytes h.name) ∷ (fact_members h ++ end_object ∷ [])

@@ -75,9 +75,7 @@ fn write_facts(writer: &mut Writer, head: &RunHead) -> Result<(), AllocError>
     ensures before { OnOk result (writer.new.before ≡ writer.old.before) }
     ensures tokens { OnOk result (writer.new.tokens ≡ writer.old.tokens ++ fact_members head.now) }
 {
-    write_member(writer, "begun", &head.begun)?;
     write_sizes(writer, head.wall, head.lanes)?;
-    write_member(writer, "command", &head.command)?;
     write_member(writer, "note", &head.note)
 }
 

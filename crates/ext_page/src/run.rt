@@ -10,7 +10,8 @@ pub struct RunData {
     pub locks: Vec<String>,
     /// Each node, behind its parent, in the order in which they are shown.
     pub nodes: Vec<Node>,
-    /// One for each time that a test ran, and for a container with calls of its own.
+    /// One for each time that a test ran, and for the calls of a container before its children, and
+    /// behind them. Those of a node stand in their order.
     pub attempts: Vec<Attempt>,
     /// All faults and aborts, in the order in which they came.
     pub faults: Vec<FaultRow>,
@@ -24,14 +25,10 @@ pub struct RunData {
 #[derive(Drop)]
 pub struct RunHead {
     pub name: String,
-    /// When it began, as `2026-11-30T03:24:59Z`.
-    pub begun: Option<String>,
     /// How long it took.
     pub wall: u64,
     /// How many lanes it had. Lanes are numbered from 0.
     pub lanes: usize,
-    /// The command line.
-    pub command: Option<String>,
     /// What else is said of it.
     pub note: Option<String>,
 }
@@ -46,14 +43,17 @@ pub struct Node {
     pub status: Status,
 }
 
-/// A time that a test ran, or that the calls of a container took.
+/// A time that a test ran, or that calls of a container took, on one lane: those of a lane lie beside
+/// one another.
 #[derive(Clone, Copy, Debug, PartialEq, Eq)]
 pub struct Attempt {
     pub node: usize,
     pub lane: usize,
-    /// When it began; its locks were held then.
+    /// When it began. On an engine's page a test held its locks then; on that of a plan it may have
+    /// waited for them first.
     pub begun: u64,
-    /// When it ended; its context was not closed yet.
+    /// When it ended. On an engine's page the node's context was not closed yet; on that of a plan it
+    /// was.
     pub ended: u64,
     pub status: Status,
 }

@@ -90,7 +90,7 @@ const path = n => (parent[n] < 0 ? '' : path(parent[n]) + '/') + name[n];
 const took = n => isTest[n] ? (attemptsOf[n] || []).reduce((sum, a) => sum + D.attempts[a][3] - D.attempts[a][2], 0) : to[n] - from[n];
 /** An id, of which the last segment stands out. */
 const idOf = (n, whole = true) => el('span', { class: 'id', dir: 'ltr' }, whole && parent[n] >= 0 ? el('span', { class: 'up' }, path(parent[n]) + '/') : null, el('b', {}, name[n]));
-const lockName = i => D.locks[i] === null ? 'to run alone' : `for lock ${D.locks[i]}`;
+const lockName = i => i === null ? 'to run alone' : `for lock ${D.locks[i]}`;
 const waitText = ([, , begun, ended, kind, what, by]) => `waited ${time(ended - begun)} ${kind ? `for ${D.values[what][0]}` : lockName(what)}${by === null ? '' : (kind ? ', made by ' : ', held by ') + name[by]}`;
 
 /** Rows of a list, a page at a time, with a button for the next. */
@@ -121,7 +121,7 @@ const busy = D.attempts.reduce((sum, a) => sum + a[3] - a[2], 0) - D.waits.reduc
 for (const [what, value] of [
   ['tests', grouped(tests.length)], ['wall time', time(D.run.wall)], ['lanes', D.run.lanes],
   ['lanes busy', share(busy)], ['waiting', share(waited)],
-  ['begun', D.run.begun], ['command', D.run.command], ['note', D.run.note]])
+  ['note', D.run.note]])
   if (value !== null) $('facts').append(el('div', {}, el('dt', {}, what), el('dd', {}, value)));
 
 // --- Failures: those that failed by the same messages together.
@@ -166,7 +166,7 @@ const worst = n => status[n] === FAILED || status[n] === 2 ? status[n] : ORDER.f
 function row(n, open) {
   const kids = children.get(n), faults = faultsOf.get(n);
   const st = kids ? worst(n) : status[n], tries = attemptsOf[n]?.length || 0;
-  const line = [mark(st), idOf(n, false), kids ? summaryOf(n) : el('span', { class: 'tries num' }, tries > 1 ? `${tries} attempts` : tries ? `lane ${D.attempts[attemptsOf[n][0]][1]}` : ''), el('span', { class: 't num' }, to[n] < 0 ? '' : ms(took(n)))];
+  const line = [mark(st), idOf(n, false), kids ? summaryOf(n) : el('span', { class: 'tries num' }, isTest[n] && tries > 1 ? `${tries} attempts` : tries ? `lane ${D.attempts[attemptsOf[n][0]][1]}` : ''), el('span', { class: 't num' }, to[n] < 0 ? '' : ms(took(n)))];
   if (!kids && !faults) return el('li', { 'data-n': n }, el('div', { class: 'row' }, ...line));
   const details = el('details', {}, el('summary', {}, ...line));
   const atFirst = open(n);
@@ -429,12 +429,13 @@ function cardOf({ kind, i, lane }) {
   const when = `${time(b - a)}: ${ms(a)} to ${ms(b)} ms, lane ${lane}`;
   if (kind === 'make' || kind === 'close') {
     const v = D.values[i], fault = kind === 'make' ? v[6] : v[11];
-    return [line(el('b', {}, `${kind === 'make' ? 'made' : 'closed'} ${v[0]}`), ' of ', idOf(v[1])), line(when), kind === 'make' ? line('by ', idOf(v[2])) : null, fault === null ? null : line('failed: ', fault)];
+    return [line(el('b', {}, kind === 'make' ? 'made' : 'closed'), ' ', v[0] === name[v[1]] ? null : `${v[0]} of `, idOf(v[1])), line(when), kind === 'make' ? line('by ', idOf(v[2])) : null, fault === null ? null : line('failed: ', fault)];
   }
   const n = kind === 'bar' ? D.attempts[i][0] : D.waits[i][1], tries = attemptsOf[n] || [];
   const st = kind === 'bar' ? attemptStatus(i) : status[n];
-  const f = (faultsOf.get(n) || []).find(it => kind !== 'bar' || it[1] === null || tries[it[1] - 1] === i);
-  return [line(mark(st, false), ` ${STATUS[st]} `, idOf(n)), line(kind === 'bar' ? when : `waiting ${when}`, tries.length > 1 && kind === 'bar' ? `, attempt ${tries.indexOf(i) + 1} of ${tries.length}` : ''),
+  const f = st === PASSED ? null : (faultsOf.get(n) || []).find(it => kind !== 'bar' || it[1] === null || tries[it[1] - 1] === i);
+  const which = kind !== 'bar' ? '' : !isTest[n] ? ', calls of its own' : tries.length > 1 ? `, attempt ${tries.indexOf(i) + 1} of ${tries.length}` : '';
+  return [line(mark(st, false), ` ${STATUS[st]} `, idOf(n)), line(kind === 'bar' ? when : `waiting ${when}`, which),
     ...(waitsOf.get(n) || []).map(w => line(waitText(w))), f ? line(el('span', { class: 'id' }, f[3].split('\n', 1)[0])) : null];
 }
 function point(what, x, y) {
@@ -458,7 +459,7 @@ function choose(what) {
   point(what, box.left + GUTTER + Math.max(0, (a - view.a) / (view.b - view.a) * width), box.top + TOP + (what.lane + 1) * H - 12);
 }
 function lookAt(n) {
-  const i = attemptsOf[n]?.slice(-1)[0];
+  const all = attemptsOf[n] || [], i = all.find(it => !isTest[n] && D.attempts[it][4] !== PASSED) ?? all.at(-1);
   if (i === undefined) return;
   const [, lane, a, b] = D.attempts[i], span = Math.max(b - a, 10) * 8;
   $('lanes').scrollIntoView({ block: 'start' });

@@ -7,6 +7,7 @@ use Rattle.ext_lifecycle.specs.Results.{map_fault}
 use Rattle.ext_lifecycle.specs.declared.node_result.NodeResult.{NodeResult}
 use Rattle.ext_report.specs.Extras.{extra_by}
 use Rattle.ext_report.specs.Report.{any_failed}
+use Rattle.ext_report.specs.TerminalLines.{visible_lines}
 use Rattle.ext_report.specs.declared.extra.Extra.{Extra}
 use Rattle.ext_table.specs.declared.listener.LeftOut.{LeftOut}
 use Rattle.ext_table.specs.declared.listener.LeftOut.TheVariants as left_out
@@ -48,14 +49,19 @@ indented_character c = encode_utf8 c ++ (if c == 10 then codes "    " else codes
 abbrev pub indented : List ℕ → List ℕ
 indented text = flat_map indented_character (chars text)
 
+-- Lines as they are printed, at a terminal or elsewhere.
+abbrev pub shown_text : Bool → List ℕ → List ℕ
+shown_text at_terminal lines = if at_terminal then visible_lines lines else lines
+
 abbrev pub with_indented_fault : NodeOutcome → NodeOutcome
 with_indented_fault r = map_fault indented r
 
 -- ---- endings
 
--- How the program ends after a run with these results.
-abbrev pub ending_of : List NodeOutcome → Ending
-ending_of rs = if any_failed rs then Failed else Passed
+-- How the program ends after a run with these results, where all files were written, or not all.
+abbrev pub ending_of : Bool → List NodeOutcome → Ending
+ending_of false rs = NotRun
+ending_of true rs = if any_failed rs then Failed else Passed
 
 -- The exit status of the program.
 abbrev pub exit_code : Ending → ℕ

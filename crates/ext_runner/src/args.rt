@@ -24,7 +24,9 @@ pub(crate) fn command_line<'a>(
     let command = Command::new(alloc, name)
         .about("Runs the tests of an engine, all or those that the words select")
         .after_help(AFTER_HELP);
-    let command = with_telling(alloc, with_running(alloc, with_selecting(alloc, command)?)?)?;
+    let command = with_selecting(alloc, command)?;
+    let command = with_order(alloc, with_running(alloc, command)?)?;
+    let command = with_files(alloc, with_telling(alloc, command)?)?;
     if shares {
         with_sharing(alloc, command)
     } else {
@@ -63,7 +65,7 @@ fn with_selecting<'a>(alloc: Global, command: Command<'a>) -> Result<Command<'a>
             alloc,
             "failed",
             "FILE",
-            "Runs the tests that failed in an earlier run, which wrote this file by --json",
+            "Runs the tests that failed, or whose class did, in an earlier run, which wrote this file by --json",
         ))?
         .arg(flag(alloc, "list", "Prints the ids of the tests, and runs none"))
 }
@@ -104,7 +106,12 @@ fn with_running<'a>(alloc: Global, command: Command<'a>) -> Result<Command<'a>, 
             "N",
             "Runs all so many times, until a run fails",
         )
-        .value_parser(value_parser!(u32).range(1..1_000_000)))?
+        .value_parser(value_parser!(u32).range(1..1_000_000)))
+}
+
+/// Adds those that say in which order they are, and when one is slow.
+fn with_order<'a>(alloc: Global, command: Command<'a>) -> Result<Command<'a>, AllocError> {
+    command
         .arg(
             option(
                 alloc,
@@ -134,6 +141,25 @@ fn with_telling<'a>(alloc: Global, command: Command<'a>) -> Result<Command<'a>, 
         .value_parser(["text", "json", "tree"].as_slice()))?
         .arg(option(
             alloc,
+            "durations",
+            "N",
+            "Says how long the N slowest tests took, and what they waited for",
+        )
+        .value_parser(value_parser!(u32)))?
+        .arg(option(
+            alloc,
+            "color",
+            "WHEN",
+            "When there are colours: `auto` is at a terminal, unless NO_COLOR is set or TERM is dumb",
+        )
+        .value_parser(["auto", "always", "never"].as_slice()))
+}
+
+/// Adds those that name files.
+fn with_files<'a>(alloc: Global, command: Command<'a>) -> Result<Command<'a>, AllocError> {
+    command
+        .arg(option(
+            alloc,
             "junit",
             "FILE",
             "Writes JUnit's XML to this file, too",
@@ -148,22 +174,8 @@ fn with_telling<'a>(alloc: Global, command: Command<'a>) -> Result<Command<'a>, 
             alloc,
             "html",
             "FILE",
-            "Writes a page to this file that shows what failed, the tree, the lanes over time and what was shared",
-        ))?
-        .arg(option(
-            alloc,
-            "durations",
-            "N",
-            "Says how long the N slowest tests took, and what they waited for",
-        )
-        .value_parser(value_parser!(u32)))?
-        .arg(option(
-            alloc,
-            "color",
-            "WHEN",
-            "When there are colours: `auto` is at a terminal, unless NO_COLOR is set or TERM is dumb",
-        )
-        .value_parser(["auto", "always", "never"].as_slice()))
+            "Writes a page to this file that shows what failed, the tree, the lanes over time and what was shared; each run of --repeat writes it anew",
+        ))
 }
 
 /// Adds the options that say which processes share texts.

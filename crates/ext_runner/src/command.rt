@@ -1,8 +1,10 @@
 //! What the words of an engine's command line ask for.
-ghost use Rattle.std.specs.Prelude.{◌≡◌, IfSome, option_map};
-ghost use Rattle.ext_runner.specs.InnerCommand.{IsOrderOf, IsShardOf, color_of, form_of};
+ghost use Rattle.std.specs.Prelude.{◌≡◌, IfOk, IfSome, codes, map, option_map, string_bytes};
+ghost use Rattle.ext_runner.specs.InnerCommand.{IsFlag, IsOrderOf, IsShardOf, color_of, form_of, values_of};
+ghost use Rattle.clap.specs.Matches.{first_value, found_of, one_text};
 
 use crate::args::command_line;
+use crate::saying::shown_text;
 use clap::ArgMatches;
 use clap::error::ErrorKind;
 use ext_selection::Shard;
@@ -117,13 +119,15 @@ pub(crate) fn read_words(rt: &HostRuntime, name: &str, shares: bool) -> Result<A
     match command_line(rt.alloc(), name, shares)?.try_get_matches_from(words.as_slice()) {
         Ok(matches) => asked_by(rt, &matches, shares),
         Err(why) if why.kind() == ErrorKind::OutOfMemory => Err(AllocError),
-        Err(why) => {
+        Err(why) if why.exit_code() == 0 => {
             let _ = why.print(rt);
-            if why.exit_code() == 0 {
-                Ok(Asked::Helped)
-            } else {
-                Ok(Asked::Refused)
-            }
+            Ok(Asked::Helped)
+        }
+        Err(why) => {
+            let said = format!(in rt.alloc(); "{why}")?;
+            let shown = shown_text(rt.alloc(), said, true)?;
+            let _ = eprint!(rt; "{}", shown.as_str());
+            Ok(Asked::Refused)
         }
     }
 }
@@ -194,19 +198,44 @@ fn order_of(word: Option<&str>) -> Option<Order>
     }
 }
 
+/// What these words select by.
 fn selecting_in(
     alloc: Global,
     words: &ArgMatches<'_>,
     shard: Option<Shard>,
-) -> Result<Selecting, AllocError> {
+) -> Result<Selecting, AllocError>
+    ensures texts { IfOk result (λ s. map string_bytes s.texts.items ≡ values_of (found_of words.now) (codes "TEXT")) }
+    ensures skips { IfOk result (λ s. map string_bytes s.skips.items ≡ values_of (found_of words.now) (codes "skip")) }
+    ensures exact { IfOk result (λ s. IsFlag (one_text (found_of words.now) (codes "exact")) s.exact) }
+    ensures shard { IfOk result (λ s. s.shard ≡ shard) }
+    ensures failed { IfOk result (λ s. option_map string_bytes s.failed ≡ first_value (found_of words.now) (codes "failed")) }
+    ensures list { IfOk result (λ s. IsFlag (one_text (found_of words.now) (codes "list")) s.list) }
+{
     Ok(Selecting {
-        texts: owned(alloc, words.get_strs("TEXT").unwrap_or(&[]))?,
-        skips: owned(alloc, words.get_strs("skip").unwrap_or(&[]))?,
-        exact: words.get_flag("exact"),
+        texts: values_in(alloc, words, "TEXT")?,
+        skips: values_in(alloc, words, "skip")?,
+        exact: is_set(words, "exact"),
         shard,
         failed: file_in(alloc, words, "failed")?,
-        list: words.get_flag("list"),
+        list: is_set(words, "list"),
     })
+}
+
+/// Whether this flag is set.
+fn is_set(words: &ArgMatches<'_>, name: &str) -> bool
+    ensures { IsFlag (one_text (found_of words.now) name.now) result }
+{
+    words.get_flag(name)
+}
+
+/// The values of this option.
+fn values_in(alloc: Global, words: &ArgMatches<'_>, name: &str) -> Result<Vec<String>, AllocError>
+    ensures { IfOk result (λ values. map string_bytes values.items ≡ values_of (found_of words.now) name.now) }
+{
+    match words.get_strs(name) {
+        Some(values) => owned(alloc, values),
+        None => Ok(Vec::new(alloc)),
+    }
 }
 
 fn running_in(words: &ArgMatches<'_>, order: Order) -> Running {
@@ -232,11 +261,9 @@ fn telling_in(alloc: Global, words: &ArgMatches<'_>) -> Result<Telling, AllocErr
 }
 
 /// The name of the file that is the value of this option.
-fn file_in(
-    alloc: Global,
-    words: &ArgMatches<'_>,
-    name: &str,
-) -> Result<Option<String>, AllocError> {
+fn file_in(alloc: Global, words: &ArgMatches<'_>, name: &str) -> Result<Option<String>, AllocError>
+    ensures { IfOk result (λ file. option_map string_bytes file ≡ first_value (found_of words.now) name.now) }
+{
     match words.get_str(name) {
         Some(file) => Ok(Some(String::from_str(alloc, file)?)),
         None => Ok(None),
@@ -264,7 +291,10 @@ fn color_of(word: Option<&str>) -> ColorChoice
     }
 }
 
-fn owned(alloc: Global, texts: &[&str]) -> Result<Vec<String>, AllocError> {
+/// Copies of these texts.
+fn owned(alloc: Global, texts: &[&str]) -> Result<Vec<String>, AllocError>
+    ensures { IfOk result (λ all. map string_bytes all.items ≡ map (λ text. text.now) texts.now) }
+{
     let mut all = Vec::new(alloc);
     for text in texts {
         all.push(String::from_str(alloc, text)?)?;

@@ -95,5 +95,5 @@ pub(crate) fn progress_line(
     ended: usize,
     tests: usize,
 ) -> Result<String, AllocError> {
-    format!(in alloc; "{ended} of {tests} tests have ended\n")
+    format!(in alloc; "{ended} tests have ended, {tests} are selected\n")
 }

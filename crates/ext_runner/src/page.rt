@@ -2,7 +2,7 @@
 ghost use Rattle.std.specs.Prelude.{◌<◌, All, length};
 
 use crate::run_log::Listed;
-use crate::timeline::{Delay, Timeline};
+use crate::timeline::{Delay, End, Timeline};
 use ext_page::{
     Attempt, FaultRow, PlacedNodes, RunData, RunHead, SharedValue, Wait, Waited, page_of,
 };
@@ -10,7 +10,7 @@ use ext_table::{LockMode, NamedLock, NodeResult, Tree};
 use std::alloc::{AllocError, Global};
 use std::time::Duration;
 
-/// How many attempts that ended before a wait did, and how many behind it, are looked at for the one
+/// How many tests that ended before a wait did, and how many behind it, are looked at for the one
 /// that held the lock.
 const BEFORE: usize = 256;
 
@@ -76,10 +76,8 @@ fn head_of(
     };
     Ok(RunHead {
         name: String::from_str(alloc, about.name)?,
-        begun: None,
         wall: u64::try_from(wall).unwrap_or(u64::MAX),
         lanes: about.lanes,
-        command: None,
         note,
     })
 }
@@ -147,15 +145,21 @@ fn placed_values(
 ) -> Result<Vec<SharedValue>, AllocError> {
     let mut shown = Vec::new(alloc);
     for value in values {
-        let context = placed.place(value.context).unwrap_or(0);
-        let maker = placed.place(value.maker).unwrap_or(0);
-        shown.push(SharedValue {
-            context,
-            maker,
-            ..value
-        })?;
+        let mut value = value;
+        value.context = placed.place(value.context).unwrap_or(0);
+        value.maker = placed.place(value.maker).unwrap_or(0);
+        value.key = key_of(alloc, placed, value.context)?;
+        shown.push(value)?;
     }
     Ok(shown)
+}
+
+/// The key of the value of a node that is shown: the node's name, since a node shares one.
+fn key_of(alloc: Global, placed: &PlacedNodes, place: usize) -> Result<String, AllocError> {
+    match placed.nodes.get(place) {
+        Some(node) => String::from_str(alloc, node.name.as_str()),
+        None => Ok(String::new(alloc)),
+    }
 }
 
 /// The delays that were waits for locks.
@@ -166,52 +170,49 @@ fn lock_waits(
 ) -> Result<Vec<Wait>, AllocError> {
     let mut waits = Vec::new(alloc);
     for delay in timeline.delays.iter() {
-        if let Some(wait) = lock_wait(listed, timeline.attempts.as_slice(), delay) {
+        if let Some(wait) = lock_wait(listed, timeline.ends.as_slice(), delay) {
             waits.push(wait)?;
         }
     }
     Ok(waits)
 }
 
-/// The wait of a delay: for the lock of the test that kept it last, or else for its own first one. None
-/// if it holds none and no test that is alone kept it.
-fn lock_wait(listed: &[Listed], attempts: &[Attempt], delay: &Delay) -> Option<Wait> {
+/// The wait of a delay, for the lock of the test that kept it last. None if no test kept it: then
+/// its thread was late.
+fn lock_wait(listed: &[Listed], ends: &[End], delay: &Delay) -> Option<Wait> {
     let waiting = listed.get(delay.node)?;
-    let (lock, by) = match holder(listed, attempts, delay, waiting) {
-        Some((lock, node)) => (lock, Some(node)),
-        None if waiting.is_isolated => (None, None),
-        None => (Some(waiting.locks.first()?.name), None),
-    };
+    let (lock, by) = holder(listed, ends, delay, waiting)?;
     Some(Wait {
         lane: delay.lane,
         node: delay.node,
         begun: delay.begun,
         ended: delay.ended,
         waited: Waited::ForLock(lock),
-        by,
+        by: Some(by),
     })
 }
 
-/// The lock and the test that held it last before the delay ended.
+/// The lock and the test that held it last before the delay ended. It may have had to close what it
+/// shares by then, and its end may be told when the lock is taken already.
 fn holder(
     listed: &[Listed],
-    attempts: &[Attempt],
+    ends: &[End],
     delay: &Delay,
     waiting: &Listed,
 ) -> Option<(Option<usize>, usize)> {
-    let from = delay.attempts.saturating_sub(BEFORE);
+    let from = delay.ends.saturating_sub(BEFORE);
     let mut last = 0;
     let mut found = None;
-    for attempt in attempts.iter().skip(from).take(BEFORE + BEHIND) {
-        if attempt.ended >= last
-            && attempt.ended >= delay.begun
-            && attempt.ended <= delay.ended
-            && attempt.node != delay.node
-            && let Some(other) = listed.get(attempt.node)
+    for end in ends.iter().skip(from).take(BEFORE + BEHIND) {
+        if end.ended >= last
+            && end.ended >= delay.begun
+            && end.returned <= delay.ended
+            && end.node != delay.node
+            && let Some(other) = listed.get(end.node)
             && let Some(lock) = lock_between(waiting, other)
         {
-            last = attempt.ended;
-            found = Some((lock, attempt.node));
+            last = end.ended;
+            found = Some((lock, end.node));
         }
     }
     found

@@ -4,16 +4,18 @@ use crate::ending::Ending;
 use crate::page::About;
 use crate::results::reported_results;
 use crate::run_log::{Listed, RunLog, Watching};
-use crate::selecting::selected_by;
+use crate::saying::{not_run, print_lines};
+use crate::selecting::{SelectingFault, seed_of, selected_by};
 use crate::telling::{is_colored, tell};
 use ext_model::Size;
 use ext_store::Limits;
 use ext_table::{Engine, NamedLock, Row, RunLimits, TableFault, TableRun, TestTable, run_table};
-use std::io::IsTerminal;
+use std::alloc::{AllocError, Global};
+use std::io::{ErrorKind, IsTerminal};
 use std::process::ExitCode;
 use std::sync::Wait;
 use std::thread::{Threads, available_parallelism, join_mut};
-use std::time::{Clock, Instant};
+use std::time::{Clock, Duration, Instant};
 
 /// The most lanes of a run.
 const MOST_LANES: usize = 32;
@@ -46,8 +48,8 @@ pub(crate) fn ended(rt: &HostRuntime, name: &str, done: anyhow::Result<Ending>) 
     match done {
         Ok(ending) => ExitCode::from(ending.code()),
         Err(why) => {
-            let _ = eprintln!(rt; "{name}: {why}");
-            ExitCode::from(Ending::NotRun.code())
+            let why = format!(in rt.alloc(); "{why}");
+            ExitCode::from(not_run(rt, name, why).code())
         }
     }
 }
@@ -71,8 +73,9 @@ where
             };
             run_asked(rt, name, table?, &options, run)
         }
-        Asked::Helped | Asked::Close(_) => Ok(Ending::Passed),
-        Asked::Refused => Ok(Ending::WrongWords),
+        Asked::Helped => Ok(Ending::Passed),
+        // No word of such a program asks for a close.
+        Asked::Refused | Asked::Close(_) => Ok(Ending::WrongWords),
     }
 }
 
@@ -86,28 +89,47 @@ pub(crate) fn run_asked<T: Drop, F: Fn(&TestTable<T>) -> anyhow::Result<Ending>>
 ) -> anyhow::Result<Ending>
     requires { F.IsAlwaysCallable run }
 {
-    let table = selected_by(rt, table, &options.selecting, options.running.order)?;
+    let seed = seed_of(rt, options.running.order)?;
+    let table = match selected_by(rt, table, &options.selecting, seed) {
+        Ok(table) => table,
+        Err(SelectingFault::Memory) => return Ok(not_run(rt, name, Err(AllocError))),
+        Err(SelectingFault::Earlier(why)) => return Ok(not_run(rt, name, Ok(why))),
+    };
     if table.rows.is_empty() {
         eprintln!(rt; "{name}: no test is selected")?;
         Ok(Ending::NothingSelected)
     } else if options.selecting.list {
         list(rt, &table)?;
         Ok(Ending::Passed)
+    } else if table.rows.len() > Size::Large.contexts() {
+        let (count, most) = (table.rows.len(), Size::Large.contexts());
+        let why = format!(in rt.alloc();
+            "{count} nodes are selected, and a run has {most} at most"
+        );
+        Ok(not_run(rt, name, why))
     } else {
         run_repeated(rt, &table, options.running.repeat, run)
     }
 }
 
-/// Prints the ids of the tests of a table.
+/// Prints the ids of the tests of a table. A reader that wants no more of them is no fault.
 fn list<T>(rt: &HostRuntime, table: &TestTable<T>) -> anyhow::Result<()> {
+    match print_lines(rt, ids_of_tests(rt.alloc(), table)?) {
+        Err(why) if why.kind() != ErrorKind::BrokenPipe => Err(why.into()),
+        _ => Ok(()),
+    }
+}
+
+/// The ids of the tests of a table, each on a line.
+fn ids_of_tests<T>(alloc: Global, table: &TestTable<T>) -> Result<String, AllocError> {
+    let mut lines = String::new(alloc);
     for (id, row) in table.ids.iter().zip(table.rows.iter()) {
         if row.test.is_some() {
-            let mut text = String::new(rt.alloc());
-            id.write_to(&mut text)?;
-            println!(rt; "{}", text.as_str())?;
+            id.write_to(&mut lines)?;
+            lines.push('\n')?;
         }
     }
-    Ok(())
+    Ok(lines)
 }
 
 /// Runs a table so many times, until a run fails.
@@ -145,11 +167,7 @@ where
     E::Given: Drop + Sync,
     E::Shared: Send + Sync,
 {
-    let at_terminal = rt.stderr().is_terminal();
-    let watching = Watching {
-        each: at_terminal,
-        colored: is_colored(rt, options.telling.color, at_terminal),
-    };
+    let watching = watching(rt, options);
     let listed = listed(rt, table, options)?;
     let begun = Instant::now(rt).ok();
     let log = RunLog::new(
@@ -161,11 +179,8 @@ where
     )?;
     let limits = limits(threads, table, options);
     let run = run_watched(threads, rt, engine, table, limits, &log)?;
-    let took = match begun {
-        Some(begun) => begun.elapsed(rt).ok(),
-        None => None,
-    };
-    if at_terminal {
+    let took = since(rt, begun);
+    if watching.each {
         eprintln!(rt; "")?;
     }
     let (listed, mut state) = log.into_parts();
@@ -189,6 +204,23 @@ where
         about,
         timeline,
     )
+}
+
+/// What is told while a run lasts.
+fn watching(rt: &HostRuntime, options: &Options) -> Watching {
+    let at_terminal = rt.stderr().is_terminal();
+    Watching {
+        each: at_terminal,
+        colored: is_colored(rt, options.telling.color, at_terminal),
+    }
+}
+
+/// The time since this moment, if clocks were read.
+fn since(rt: &HostRuntime, begun: Option<Instant>) -> Option<Duration> {
+    match begun {
+        Some(begun) => begun.elapsed(rt).ok(),
+        None => None,
+    }
 }
 
 /// Runs a table beside a thread that tells what there is to tell meanwhile.
@@ -265,6 +297,7 @@ fn listed<T>(
         listed.push(Listed {
             id: text,
             is_test,
+            above: row.above,
             slow_after: row.slow_after.or(options.running.slow),
             locks: held_locks(rt, row, listed.get(row.above))?,
             is_isolated: row.is_isolated

@@ -5,7 +5,8 @@ ghost use Rattle.ext_runner.specs.InnerTelling.{extra_of, has_come, indented, in
 
 use crate::node_log::{NodeLog, ReportedFault};
 use crate::run_log::{Listed, State};
-use ext_report::{Extra, NodeResult};
+use crate::skipped::why_skipped;
+use ext_report::{Extra, NodeResult, Status};
 use ext_table::{ContextNo, Fault, FaultOrigin, Kind, LeftOut};
 use ext_tree::Tree;
 use std::alloc::{AllocError, Global};
@@ -17,8 +18,8 @@ pub(crate) struct ReportedResults {
     pub(crate) extras: Vec<Extra>,
 }
 
-/// What is reported of these results. The fault of a node has all its faults, on lines of their own.
-/// Nodes in reserve that did not come are left out.
+/// What is reported of these results. The fault of a node has all its faults, on lines of their own,
+/// also those of its earlier attempts, and that of a skipped one says why. Nodes in reserve that did not come are left out.
 pub(crate) fn reported_results(
     alloc: Global,
     tree: &Tree,
@@ -88,7 +89,7 @@ fn extra_of(log: &NodeLog) -> Extra
     Extra::new(log.took, log.attempt)
 }
 
-/// The result, whose fault has all faults of the node.
+/// The result, whose fault is all that is said of the node.
 fn with_all_faults(
     alloc: Global,
     listed: &[Listed],
@@ -97,12 +98,27 @@ fn with_all_faults(
 ) -> Result<NodeResult, AllocError>
     ensures { IfOk result (λ reported. without_faults reported ≡ without_faults ran) }
 {
-    match logs.get(ran.node) {
-        Some(log) if !log.faults.is_empty() => {
-            let text = text_of_all(alloc, listed, ran.node, log.faults.as_slice())?;
-            Ok(with_text(ran, text))
+    let text = text_of(alloc, listed, ran.node, ran.status, logs)?;
+    if text.is_empty() {
+        return Ok(ran);
+    }
+    Ok(with_text(ran, text))
+}
+
+/// All that is said of a node: its faults, or why it was skipped.
+fn text_of(
+    alloc: Global,
+    listed: &[Listed],
+    node: ContextNo,
+    status: Status,
+    logs: &[NodeLog],
+) -> Result<String, AllocError> {
+    match logs.get(node) {
+        None => Ok(String::new(alloc)),
+        Some(_) if matches!(status, Status::Skipped) => {
+            String::from_str(alloc, why_skipped(listed, logs, node))
         }
-        _ => Ok(ran),
+        Some(log) => text_of_all(alloc, listed, node, log),
     }
 }
 
@@ -136,22 +152,52 @@ fn with_text(ran: NodeResult, text: String) -> NodeResult
     }
 }
 
-/// The texts of these faults, each on lines of its own.
+/// The texts of all faults of a node, each on lines of its own: those of attempts before the last
+/// first.
 fn text_of_all(
     alloc: Global,
     listed: &[Listed],
     node: ContextNo,
-    faults: &[ReportedFault],
+    log: &NodeLog,
 ) -> Result<String, AllocError> {
+    let mut text = earlier_attempts(alloc, log.earlier.as_slice())?;
+    if !text.is_empty() && !log.faults.is_empty() {
+        let attempt = log.attempt;
+        write!(&mut text, "\nattempt {attempt}: ")?;
+    }
+    write_faults(&mut text, listed, node, log.faults.as_slice())?;
+    Ok(text)
+}
+
+/// What the attempts before the last said, each on lines of its own.
+pub(crate) fn earlier_attempts(alloc: Global, earlier: &[String]) -> Result<String, AllocError> {
     let mut text = String::new(alloc);
+    for (at, fault) in earlier.iter().enumerate() {
+        if at > 0 {
+            text.push('\n')?;
+        }
+        let attempt = at.saturating_add(1);
+        write!(&mut text, "attempt {attempt}: ")?;
+        text.push_str(fault.as_str())?;
+    }
+    Ok(text)
+}
+
+/// Writes these faults, with line feeds between them.
+fn write_faults(
+    text: &mut String,
+    listed: &[Listed],
+    node: ContextNo,
+    faults: &[ReportedFault],
+) -> Result<(), AllocError> {
     for (at, fault) in faults.iter().enumerate() {
         if at > 0 {
             text.push('\n')?;
         }
-        write_origin(&mut text, listed, node, fault.origin)?;
+        write_origin(text, listed, node, fault.origin)?;
         text.push_str(fault.text.as_str())?;
     }
-    Ok(text)
+    Ok(())
 }
 
 /// Where in this node a fault came. Takes memory.

@@ -29,6 +29,8 @@ pub(crate) struct Watching {
 pub(crate) struct Listed {
     pub(crate) id: String,
     pub(crate) is_test: bool,
+    /// The node that it stands in; that of the engine has none.
+    pub(crate) above: ContextNo,
     /// After how many seconds it is told as slow.
     pub(crate) slow_after: Option<u32>,
     /// The locks that it holds, and whether it holds that of all others.
@@ -158,6 +160,23 @@ impl<'a, R: Wait + Clock> RunLog<'a, R> {
         }
     }
 
+    /// Tells of a test that ended: that it ran longer than it should, if that was not told meanwhile,
+    /// and how it ended.
+    fn tell_ended(&self, listed: &Listed, log: &mut NodeLog) {
+        if let Some(slow) = listed.slow_after
+            && let Some(took) = log.took
+            && !log.is_reported_slow
+            && took.as_secs() >= u64::from(slow)
+        {
+            log.is_reported_slow = true;
+            self.print(slow_line(self.rt.alloc(), slow, listed.id.as_str()));
+        }
+        if self.watching.each {
+            let colored = self.watching.colored;
+            self.print(ended_line(self.rt.alloc(), listed.id.as_str(), log, colored));
+        }
+    }
+
     fn tell_progress(&self) {
         let state = self.state.lock(self.threads);
         self.print(progress_line(self.rt.alloc(), state.ended, state.tests));
@@ -181,14 +200,6 @@ impl<'a, R: Wait + Clock> RunLog<'a, R> {
                 u64::try_from(now.duration_since(begun).as_micros()).unwrap_or(u64::MAX)
             }
             _ => 0,
-        }
-    }
-
-    /// Whether a node is a test.
-    fn is_test(&self, node: ContextNo) -> bool {
-        match self.listed.get(node) {
-            Some(listed) => listed.is_test,
-            None => false,
         }
     }
 
@@ -234,7 +245,7 @@ impl<R: Wait + Clock> RunListener for RunLog<'_, R> {
         }
         let attempt = attempt_in(state.nodes.get(node), origin);
         if let Some(timeline) = &mut state.timeline {
-            if attempt.is_some() {
+            if let FaultOrigin::Step { .. } = origin {
                 timeline.fail(node);
             }
             timeline.add_fault(self.fault_row(node, attempt, origin, fault));
@@ -247,21 +258,17 @@ impl<R: Wait + Clock> RunListener for RunLog<'_, R> {
         if let Some(log) = state.nodes.get_mut(ran.node) {
             log.end(now, ran.status);
         }
+        if let Some(timeline) = &mut state.timeline {
+            timeline.end(ran, self.micros(now));
+        }
         if !ran.is_test {
             return;
         }
-        if let Some(timeline) = &mut state.timeline {
-            timeline.end(ran.node, ran.status);
-        }
         state.ended = state.ended.saturating_add(1);
-        if self.watching.each
-            && let (Some(listed), Some(log)) = (
-                self.listed.get(ran.node),
-                state.nodes.get(ran.node),
-            )
+        if let Some(listed) = self.listed.get(ran.node)
+            && let Some(log) = state.nodes.get_mut(ran.node)
         {
-            let colored = self.watching.colored;
-            self.print(ended_line(self.rt.alloc(), listed.id.as_str(), log, colored));
+            self.tell_ended(listed, log);
         }
     }
 }
@@ -307,14 +314,14 @@ fn reported_fault(
 }
 
 impl<R: Wait + Clock> TableListener for RunLog<'_, R> {
-    fn called(&self, node: ContextNo, _call: &Call) {
+    fn called(&self, node: ContextNo, call: &Call) {
         let now = self.now();
         let mut state = self.state.lock(self.threads);
         if let Some(log) = state.nodes.get_mut(node) {
             log.call(now);
         }
         if let Some(timeline) = &mut state.timeline {
-            timeline.call(node, self.is_test(node), self.micros(now));
+            timeline.call(node, call.kind, self.micros(now));
         }
     }
 

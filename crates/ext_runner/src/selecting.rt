@@ -1,10 +1,11 @@
 //! The tests of a table that are run, in their order.
 ghost use Rattle.std.specs.Prelude.{◌≡◌, IfOk, map};
+ghost use Rattle.std.specs.List.{AllZip};
+ghost use Rattle.ext_runner.specs.InnerCommand.{IsCopy};
 ghost use Rattle.ext_runner.specs.Selecting.{IsInOrder, IsSelected, node_of};
 
 use crate::command::{Order, Selecting};
-use crate::earlier_run::{EarlierFault, failed_tests};
-use anyhow::bail;
+use crate::earlier_run::{EarlierFault, failed_ids};
 use ext_ids::UniqueId;
 use ext_selection::{Node, Selection, chosen, shuffled};
 use ext_table::{Mode, Row, TestTable};
@@ -66,20 +67,38 @@ fn node_of<T>(row: &Row<T>) -> Node
     }
 }
 
-/// The table of the tests that the words select, in the order that they ask for.
+/// Why no tests are selected.
+#[derive(Drop)]
+pub(crate) enum SelectingFault {
+    Memory,
+    /// The file with the earlier run was not read, for this.
+    Earlier(String),
+}
+
+impl From<AllocError> for SelectingFault {
+    ghost use Rattle.std.specs.Prelude.{◌≡◌};
+    ghost use Rattle.ext_runner.specs.declared.selecting.SelectingFault.TheVariants as faults;
+
+    ghost from_gives = { λ why fault. fault ≡ faults.Memory };
+
+    fn from(_why: AllocError) -> SelectingFault {
+        SelectingFault::Memory
+    }
+}
+
+/// The table of the tests that the words select, in the order that the seed gives, if there is one.
 pub(crate) fn selected_by<T: Drop>(
     rt: &HostRuntime,
     table: TestTable<T>,
     selecting: &Selecting,
-    order: Order,
-) -> anyhow::Result<TestTable<T>> {
-    let selection = selection_of(rt, selecting)?;
-    let seed = seed_of(rt, order)?;
+    seed: Option<u64>,
+) -> Result<TestTable<T>, SelectingFault> {
+    let selection = selection_of(rt, &table, selecting)?;
     Ok(select(rt.alloc(), table, &selection, seed)?)
 }
 
 /// The seed of the order, if there is one. It is told, so that the order can be had again.
-fn seed_of(rt: &HostRuntime, order: Order) -> anyhow::Result<Option<u64>> {
+pub(crate) fn seed_of(rt: &HostRuntime, order: Order) -> anyhow::Result<Option<u64>> {
     let seed = match order {
         Order::Listed => return Ok(None),
         Order::Seed(seed) => seed,
@@ -95,12 +114,30 @@ fn any_seed(rt: &HostRuntime) -> anyhow::Result<u64> {
     Ok(u64::from(now.subsec_nanos()))
 }
 
-/// Which tests the words select.
-fn selection_of(rt: &HostRuntime, selecting: &Selecting) -> anyhow::Result<Selection> {
+/// Which tests of a table the words select.
+fn selection_of<T>(
+    rt: &HostRuntime,
+    table: &TestTable<T>,
+    selecting: &Selecting,
+) -> Result<Selection, SelectingFault> {
     let failed = match &selecting.failed {
-        Some(file) => Some(failed_before(rt, file.as_str())?),
+        Some(file) => Some(failed_before(rt, table, file.as_str())?),
         None => None,
     };
+    Ok(selection_with(selecting, failed)?)
+}
+
+/// The selection by these words, and by these ids of tests.
+fn selection_with(
+    selecting: &Selecting,
+    failed: Option<Vec<String>>,
+) -> Result<Selection, AllocError>
+    ensures texts { IfOk result (λ s. AllZip IsCopy selecting.now.texts.items s.texts.items) }
+    ensures skips { IfOk result (λ s. AllZip IsCopy selecting.now.skips.items s.skips.items) }
+    ensures exact { IfOk result (λ s. s.exact ≡ selecting.now.exact) }
+    ensures shard { IfOk result (λ s. s.shard ≡ selecting.now.shard) }
+    ensures failed { IfOk result (λ s. s.failed ≡ failed) }
+{
     Ok(Selection {
         texts: selecting.texts.clone()?,
         exact: selecting.exact,
@@ -110,17 +147,64 @@ fn selection_of(rt: &HostRuntime, selecting: &Selecting) -> anyhow::Result<Selec
     })
 }
 
-/// The ids of the tests that failed in the run which wrote this file.
-fn failed_before(rt: &HostRuntime, file: &str) -> anyhow::Result<Vec<String>> {
+/// The ids of the tests that failed in the run which wrote this file, and of all that stand in a
+/// container which failed.
+fn failed_before<T>(
+    rt: &HostRuntime,
+    table: &TestTable<T>,
+    file: &str,
+) -> Result<Vec<String>, SelectingFault> {
+    let alloc = rt.alloc();
     let report = match fs::read_to_string(rt, file) {
         Ok(report) => report,
-        Err(why) => bail!("{file}: {why}"),
+        Err(why) => return Err(SelectingFault::Earlier(format!(in alloc; "{file}: {why}")?)),
     };
-    match failed_tests(rt.alloc(), report.as_str()) {
+    let containers = failed_in(alloc, file, report.as_str(), false)?;
+    let mut ids = failed_in(alloc, file, report.as_str(), true)?;
+    if !containers.is_empty() {
+        add_below(alloc, table, containers, &mut ids)?;
+    }
+    Ok(ids)
+}
+
+/// The ids of the tests that failed in the run of this report, or else those of the containers.
+fn failed_in(
+    alloc: Global,
+    file: &str,
+    report: &str,
+    are_tests: bool,
+) -> Result<Vec<String>, SelectingFault> {
+    match failed_ids(alloc, report, are_tests) {
         Ok(ids) => Ok(ids),
-        Err(EarlierFault::Memory) => bail!("out of memory"),
+        Err(EarlierFault::Memory) => Err(SelectingFault::Memory),
         Err(EarlierFault::Line(line)) => {
-            bail!("{file}: line {line} is no line of a report in JSON")
+            let why = format!(in alloc; "{file}: line {line} is no line of a report in JSON")?;
+            Err(SelectingFault::Earlier(why))
         }
     }
+}
+
+/// Adds the ids of all nodes of a table that stand in one of these containers, or that it stands in.
+fn add_below<T>(
+    alloc: Global,
+    table: &TestTable<T>,
+    containers: Vec<String>,
+    ids: &mut Vec<String>,
+) -> Result<(), AllocError> {
+    let below = Selection {
+        texts: containers,
+        exact: true,
+        skips: Vec::new(alloc),
+        shard: None,
+        failed: None,
+    };
+    let nodes = nodes_of(alloc, table.rows.as_slice())?;
+    for index in chosen(alloc, table.ids.as_slice(), nodes.as_slice(), &below)? {
+        if let Some(id) = table.ids.get(index) {
+            let mut text = String::new(alloc);
+            id.write_to(&mut text)?;
+            ids.push(text)?;
+        }
+    }
+    Ok(())
 }

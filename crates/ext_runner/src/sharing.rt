@@ -1,5 +1,7 @@
 //! Engines with texts that several processes share.
-ghost use Rattle.std.specs.Prelude.{IfOk, IsTrue, Ok};
+ghost use Rattle.std.specs.Prelude.{◌≡◌, ◌⊎◌, Err, IfErr, IfOk, IsTrue, Ok};
+ghost use Rattle.anyhow.specs.declared.error.Error.{Error};
+ghost use Rattle.ext_table.specs.declared.stop.Stop.TheVariants as stops;
 
 use crate::command::{Asked, Options, read_words};
 use crate::ending::Ending;
@@ -10,21 +12,24 @@ use std::process::ExitCode;
 use std::sync::Wait;
 use std::thread::Threads;
 use std::time::Clock;
-use std::{fs, io};
+use std::{env, fs};
 
 /// An engine some of whose values are used by several processes, each of which knows them by a text,
 /// as the address of a server.
 pub trait SharingEngine: Engine + Drop {
-    /// The engine of a run whose texts stand in this folder: its `make` asks there by `shared_text`.
+    /// The engine of a run whose texts stand in this folder: its `make` asks there by `shared_text`. The
+    /// path of a run's own folder is absolute.
     fn in_folder(folder: String) -> Self;
 
     /// Ends what the text of this name stands for: once, when the run ends that owns the folder, the
-    /// latest first. Where that run was killed meanwhile, the next run ends it, or ends it again.
+    /// latest first. Where that run was killed, the next run ends it, be it days later. It comes again
+    /// where the process was killed during a call or right behind it.
     fn close_text(&self, rt: &HostRuntime, name: &str, text: &str) -> anyhow::Result<()>;
 }
 
 /// The text of this name in the folder of a run, for `make` of an engine: that which stands there, or
-/// else what `make` gives here, as `ext_shared::shared_text` says. Takes memory, and may wait.
+/// else what `make` gives here, as `ext_shared::shared_text` says. An error may also be one of the
+/// folder; whatever else stops it, `make` gave. Takes memory, and may wait.
 pub fn shared_text<F: FnOnce() -> Result<String, Stop>>(
     rt: &HostRuntime,
     folder: &str,
@@ -32,7 +37,8 @@ pub fn shared_text<F: FnOnce() -> Result<String, Stop>>(
     make: F,
 ) -> Result<SharedText, Stop>
     requires { F.pre make }
-    ensures { IfOk result (λ shared. IsTrue shared.is_new → F.post make (Ok shared.text)) }
+    ensures made { IfOk result (λ shared. IsTrue shared.is_new → F.post make (Ok shared.text)) }
+    ensures not_made { IfErr result (λ stop. F.post make (Err stop) ⊎ ((why : Error) × (stop ≡ stops.Error why))) }
 {
     match ext_shared::shared_text(rt, folder, name, make) {
         Ok(shared) => Ok(shared),
@@ -47,7 +53,7 @@ pub fn shared_text<F: FnOnce() -> Result<String, Stop>>(
 /// A run has a folder of its own in `.NAME-runs` of the working directory, and closes what it holds in
 /// the end; before it begins, it closes those of runs that died. With `--shared` it uses a folder that
 /// another process owns, and closes nothing. `--close` closes what a folder holds, for an owner that is
-/// no engine. A text that is not closed is told, and the exit status is 3 where it would be 0.
+/// no engine. A text or folder that is not closed is told, and the exit status is 3 where it would be 0.
 pub fn main_in_folder<R: Threads + Wait + Sync + Clock, E: SharingEngine + Sync>(
     threads: &R,
     rt: &HostRuntime,
@@ -118,15 +124,24 @@ where
     E::Given: Drop + Sync,
     E::Shared: Send + Sync,
 {
-    let root = format!(in rt.alloc(); ".{name}-runs")?;
-    let folder = RunFolder::begin(rt, root.as_str())?;
+    let root = runs_path(rt, name)?;
+    let folder = match RunFolder::begin(rt, root.as_str()) {
+        Ok(folder) => folder,
+        Err(why) => return Err(anyhow::anyhow!("{root}: {why}")),
+    };
     let engine = E::in_folder(String::from_str(rt.alloc(), folder.path())?);
     sweep_runs(rt, name, root.as_str(), &engine);
     let ran = run_once(threads, rt, name, &engine, table, options);
     let closed = close(rt, name, folder, &engine);
     // It goes with the last run in it.
     let _ = fs::remove_dir(rt, root.as_str());
-    Ok(both(ran?, closed?))
+    Ok(both(ran?, closed))
+}
+
+/// The folder of the runs of this engine in the working directory.
+fn runs_path(rt: &HostRuntime, name: &str) -> anyhow::Result<String> {
+    let here = env::current_dir(rt)?;
+    Ok(format!(in rt.alloc(); "{}/.{name}-runs", here.as_str())?)
 }
 
 /// Closes what the folder of another process holds.
@@ -137,23 +152,23 @@ fn close_folder<E: SharingEngine>(
 ) -> anyhow::Result<Ending> {
     let folder = RunFolder::open(rt, path)?;
     let engine = E::in_folder(String::from_str(rt.alloc(), path)?);
-    Ok(close(rt, name, folder, &engine)?)
+    Ok(close(rt, name, folder, &engine))
 }
 
-/// Closes what a folder holds.
-fn close<E: SharingEngine>(
-    rt: &HostRuntime,
-    name: &str,
-    folder: RunFolder,
-    engine: &E,
-) -> io::Result<Ending> {
+/// Closes what a folder holds. What goes wrong is told.
+fn close<E: SharingEngine>(rt: &HostRuntime, name: &str, folder: RunFolder, engine: &E) -> Ending {
     let mut closer = EngineCloser {
         engine,
         name,
         ending: Ending::Passed,
     };
-    folder.close(rt, &mut closer)?;
-    Ok(closer.ending)
+    match folder.close(rt, &mut closer) {
+        Ok(()) => closer.ending,
+        Err(why) => {
+            let _ = eprintln!(rt; "{name}: the folder of shared texts was not closed: {why}");
+            Ending::NotRun
+        }
+    }
 }
 
 /// Closes what the folders of runs hold that died. What goes wrong is told, and stops no run.

@@ -2,7 +2,9 @@
 ghost use Rattle.std.specs.Prelude.{◌<◌, All, length};
 
 use crate::live::{write_time, write_word};
+use crate::results::earlier_attempts;
 use crate::run_log::{Listed, State};
+use crate::skipped::left_out;
 use ext_report::{NodeResult, Status, write_visible, write_visible_lines};
 use ext_table::LeftOut;
 use std::alloc::{AllocError, Global};
@@ -18,6 +20,17 @@ struct Counts {
     skipped: usize,
     /// Containers that failed or aborted.
     containers: usize,
+}
+
+/// How many tests were skipped for each reason.
+#[derive(Clone, Copy)]
+struct Skips {
+    /// So many had failed that no more were begun.
+    stopped: usize,
+    /// What they stand in is in reserve, and did not come.
+    not_come: usize,
+    /// What they stand in did not pass before them.
+    above: usize,
 }
 
 /// What did not pass, each with all that it said, and how many tests ended in each way.
@@ -37,11 +50,12 @@ pub(crate) fn summary(
     }
     for (node, log) in listed.iter().zip(state.nodes.iter()) {
         if log.is_flaky() {
-            write_flaky(&mut text, node.id.as_str(), log.earlier.as_slice(), colored)?;
+            let earlier = earlier_attempts(alloc, log.earlier.as_slice())?;
+            write_flaky(&mut text, node.id.as_str(), earlier.as_str(), colored)?;
         }
     }
     write_counts(alloc, &mut text, counts_of(state, results), took, colored)?;
-    write_skipped(&mut text, state, results)?;
+    write_skipped(&mut text, skips_of(listed, state, results))?;
     if state.lost {
         text.push_str("what failed is not told whole, for want of memory\n")?;
     }
@@ -86,16 +100,14 @@ fn write_lines_indented(text: &mut String, lines: &str) -> Result<(), AllocError
 fn write_flaky(
     text: &mut String,
     id: &str,
-    earlier: &[String],
+    earlier: &str,
     colored: bool,
 ) -> Result<(), AllocError> {
     write_word(text, "flaky  ", "\x1b[33m", colored)?;
     text.push_str(" ")?;
     write_visible(text, id)?;
     text.push('\n')?;
-    for fault in earlier {
-        write_lines_indented(text, fault.as_str())?;
-    }
+    write_lines_indented(text, earlier)?;
     text.push('\n')
 }
 
@@ -148,7 +160,8 @@ fn write_counts(
         .saturating_add(counts.failed)
         .saturating_add(counts.aborted)
         .saturating_add(counts.skipped);
-    write!(text, "{tests} tests")?;
+    write!(text, "{tests} test")?;
+    write_plural(text, tests)?;
     if let Some(took) = took {
         text.push_str(" in ")?;
         write_time(text, took)?;
@@ -156,9 +169,24 @@ fn write_counts(
     text.push_str(parts.as_str())?;
     if counts.containers > 0 {
         let containers = counts.containers;
-        write!(text, "; {containers} containers did not pass themselves")?;
+        write!(text, "; {containers} container")?;
+        write_plural(text, containers)?;
+        let own = if containers == 1 {
+            "itself"
+        } else {
+            "themselves"
+        };
+        write!(text, " did not pass {own}")?;
     }
     text.push('\n')
+}
+
+/// Writes what ends a word of which there are so many.
+fn write_plural(text: &mut String, count: usize) -> Result<(), AllocError> {
+    if count == 1 {
+        return Ok(());
+    }
+    text.push('s')
 }
 
 /// Writes how many tests ended so, unless none did: behind a colon the first, others behind commas.
@@ -177,24 +205,48 @@ fn write_part(
     write_word(parts, word, color, colored)
 }
 
-/// Says why tests were skipped.
-fn write_skipped(
-    text: &mut String,
-    state: &State,
-    results: &[NodeResult],
-) -> Result<(), AllocError> {
-    let skipped = results
-        .iter()
-        .filter(|ran| ran.is_test && matches!(ran.status, Status::Skipped))
-        .count();
-    let stopped = state
-        .nodes
-        .iter()
-        .any(|log| log.left_out == Some(LeftOut::Stopped));
-    if skipped > 0 && stopped {
-        text.push_str("skipped: so many had failed that no more were begun\n")?;
-    } else if skipped > 0 {
-        text.push_str("skipped: what they stand in did not pass before them\n")?;
+/// Counts for which reasons tests were skipped.
+fn skips_of(listed: &[Listed], state: &State, results: &[NodeResult]) -> Skips {
+    let mut skips = Skips {
+        stopped: 0,
+        not_come: 0,
+        above: 0,
+    };
+    for ran in results {
+        if ran.is_test && matches!(ran.status, Status::Skipped) {
+            let count = match left_out(listed, state.nodes.as_slice(), ran.node) {
+                Some(LeftOut::Stopped) => &mut skips.stopped,
+                Some(LeftOut::DidNotCome) => &mut skips.not_come,
+                None => &mut skips.above,
+            };
+            *count = count.saturating_add(1);
+        }
     }
-    Ok(())
+    skips
+}
+
+/// Says why tests were skipped: for each reason how many.
+fn write_skipped(text: &mut String, skips: Skips) -> Result<(), AllocError> {
+    if skips.stopped > 0 {
+        let count = skips.stopped;
+        write!(
+            text,
+            "{count} skipped: so many had failed that no more were begun\n"
+        )?;
+    }
+    write_for_above(text, skips.not_come, "come")?;
+    write_for_above(text, skips.above, "pass before")
+}
+
+/// Says how many tests were skipped because of what they stand in, if any were.
+fn write_for_above(text: &mut String, count: usize, lacked: &str) -> Result<(), AllocError> {
+    if count == 0 {
+        return Ok(());
+    }
+    let stand = if count == 1 {
+        "it stands"
+    } else {
+        "they stand"
+    };
+    write!(text, "{count} skipped: what {stand} in did not {lacked}\n")
 }

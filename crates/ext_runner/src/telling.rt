@@ -12,6 +12,7 @@ use crate::live::write_time;
 use crate::page::{About, page_text};
 use crate::results::{ReportedResults, indented};
 use crate::run_log::{Listed, State};
+use crate::saying::{not_run, print_lines};
 use crate::summary::summary;
 use crate::timeline::Timeline;
 use ext_report::{
@@ -20,11 +21,12 @@ use ext_report::{
 };
 use ext_tree::Tree;
 use std::alloc::{AllocError, Global};
-use std::io::{self, IsTerminal, Write};
+use std::io::{self, ErrorKind, IsTerminal, Write};
 use std::time::Duration;
 use std::{env, fs};
 
-/// Tells of a run on standard output and in files, as is asked. Answers how the program ends.
+/// Tells of a run on standard output and in files, as is asked. A file that can't be written is told,
+/// and keeps nothing else from being written. Answers how the program ends.
 pub(crate) fn tell(
     rt: &HostRuntime,
     tree: &Tree,
@@ -39,15 +41,15 @@ pub(crate) fn tell(
     requires { All (λ r. r.node < length tree.now) reported.now.results.items }
 {
     let alloc = rt.alloc();
-    write_files(rt, tree, reported, telling)?;
+    let mut are_written = write_files(rt, about.name, tree, reported, telling);
     if let (Some(file), Some(timeline)) = (&telling.html, timeline) {
         let results = reported.results.as_slice();
-        let page = page_text(alloc, about, tree, results, listed, timeline, took)?;
-        fs::write(rt, file.as_str(), page.as_str())?;
+        let page = page_text(alloc, about, tree, results, listed, timeline, took);
+        are_written &= is_written(rt, about.name, file.as_str(), bytes_of(page));
     }
     if telling.durations > 0 {
         let text = slowest(alloc, listed, state, telling.durations as usize)?;
-        eprint!(rt; "{}", text.as_str())?;
+        let _ = eprint!(rt; "{}", text.as_str());
     }
     match telling.form {
         Form::Summary => {
@@ -56,41 +58,72 @@ pub(crate) fn tell(
             let text = summary(alloc, listed, state, results, took, colored)?;
             print!(rt; "{}", text.as_str())?;
         }
-        Form::Text => print!(rt; "{}", text_report(alloc, tree, reported)?.as_str())?,
-        Form::Tree => print!(rt; "{}", tree_report(alloc, tree, reported)?.as_str())?,
+        Form::Text => print_lines(rt, text_report(alloc, tree, reported)?)?,
+        Form::Tree => print_lines(rt, tree_report(alloc, tree, reported)?)?,
         Form::Json => {
             let bytes = json_of(alloc, tree, reported)?;
             io::writer(rt).write_all(bytes.as_slice())?;
         }
     }
-    Ok(ending_of(reported.results.as_slice()))
+    Ok(ending_of(reported.results.as_slice(), are_written))
 }
 
-/// Writes the files that are asked for.
+/// Writes the files that are asked for, but for the page. Answers whether all were written.
 fn write_files(
     rt: &HostRuntime,
+    name: &str,
     tree: &Tree,
     reported: &ReportedResults,
     telling: &Telling,
-) -> anyhow::Result<()>
+) -> bool
     requires { All (λ r. r.node < length tree.now) reported.now.results.items }
 {
+    let mut are_written = true;
     if let Some(file) = &telling.junit {
         let (results, extras) = (reported.results.as_slice(), reported.extras.as_slice());
-        let text = junit_report_with(rt.alloc(), tree, results, extras)?;
-        fs::write(rt, file.as_str(), text.as_str())?;
+        let text = junit_report_with(rt.alloc(), tree, results, extras);
+        are_written &= is_written(rt, name, file.as_str(), bytes_of(text));
     }
     if let Some(file) = &telling.json {
-        let bytes = json_of(rt.alloc(), tree, reported)?;
-        fs::write(rt, file.as_str(), bytes.as_slice())?;
+        let bytes = json_of(rt.alloc(), tree, reported);
+        are_written &= is_written(rt, name, file.as_str(), bytes);
     }
-    Ok(())
+    are_written
 }
 
-/// How the program ends after these results.
-fn ending_of(results: &[NodeResult]) -> Ending
-    ensures { result ≡ ending_of (results_view results.now) }
+fn bytes_of(text: Result<String, AllocError>) -> Result<Vec<u8>, AllocError> {
+    match text {
+        Ok(text) => Ok(text.into_bytes()),
+        Err(why) => Err(why),
+    }
+}
+
+/// Writes a report to a file. Prints why it is not written, and answers no then.
+fn is_written(
+    rt: &HostRuntime,
+    name: &str,
+    file: &str,
+    report: Result<Vec<u8>, AllocError>,
+) -> bool {
+    let written = match report {
+        Ok(report) => fs::write(rt, file, report.as_slice()),
+        Err(AllocError) => Err(io::Error::from(ErrorKind::OutOfMemory)),
+    };
+    if let Err(why) = written {
+        let why = format!(in rt.alloc(); "{file} was not written: {why}");
+        not_run(rt, name, why);
+        return false;
+    }
+    true
+}
+
+/// How the program ends after these results, where all files were written, or not all.
+fn ending_of(results: &[NodeResult], are_written: bool) -> Ending
+    ensures { result ≡ ending_of are_written (results_view results.now) }
 {
+    if !are_written {
+        return Ending::NotRun;
+    }
     if any_failed(results) {
         Ending::Failed
     } else {

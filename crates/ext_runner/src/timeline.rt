@@ -1,7 +1,7 @@
 //! The course of a run over time, noted while it lasts, for its page. Times are microseconds since
 //! the run began.
 use ext_page::{Attempt, Closing, FaultRow, SharedValue, Wait, Waited};
-use ext_table::{ContextNo, Status};
+use ext_table::{ContextNo, Kind, NodeResult, Status};
 use std::alloc::{AllocError, Global};
 
 /// How long a wait is that is noted.
@@ -15,19 +15,32 @@ struct Asked {
     when: u64,
 }
 
+/// Calls of a container, one after another.
+#[derive(Clone, Copy)]
+struct Calls {
+    begun: u64,
+    ended: u64,
+    has_fault: bool,
+}
+
 /// What is known of a node.
 #[derive(Clone, Copy)]
 struct Course {
     lane: usize,
     started: u64,
-    /// When its attempt began that runs: the first with its first call.
+    /// The calls of a container before its children, once those behind them began.
+    before: Option<Calls>,
+    /// When its attempt began that runs: the first with its first call. Of a container those of its
+    /// calls that run.
     begun: Option<u64>,
     /// When the last of its calls ended.
     returned: u64,
+    /// Whether a fault came in them.
+    has_fault: bool,
+    /// Whether the calls of a container behind its children began.
+    is_behind: bool,
     /// What the call that runs asked for, until it makes it or is handed it.
     asked: Option<Asked>,
-    /// Whether its test failed or aborted.
-    has_failed: bool,
     /// The place of the value that it shares, once it was made.
     value: Option<usize>,
     /// When the close of that value began.
@@ -41,8 +54,17 @@ pub(crate) struct Delay {
     pub(crate) node: ContextNo,
     pub(crate) begun: u64,
     pub(crate) ended: u64,
-    /// How many attempts had ended by then.
-    pub(crate) attempts: usize,
+    /// How many tests had ended by then.
+    pub(crate) ends: usize,
+}
+
+/// The end of a test. It gave its locks back between the two times.
+#[derive(Clone, Copy)]
+pub(crate) struct End {
+    pub(crate) node: ContextNo,
+    /// When the last of its calls ended.
+    pub(crate) returned: u64,
+    pub(crate) ended: u64,
 }
 
 /// The course of a run.
@@ -54,6 +76,8 @@ pub(crate) struct Timeline {
     /// Waits for values.
     pub(crate) waits: Vec<Wait>,
     pub(crate) delays: Vec<Delay>,
+    /// The ends of tests, in the order in which they came.
+    pub(crate) ends: Vec<End>,
     pub(crate) values: Vec<SharedValue>,
     /// Whether something was lost for want of memory.
     pub(crate) lost: bool,
@@ -67,10 +91,12 @@ impl Timeline {
             courses.push(Course {
                 lane: 0,
                 started: 0,
+                before: None,
                 begun: None,
                 returned: 0,
+                has_fault: false,
+                is_behind: false,
                 asked: None,
-                has_failed: false,
                 value: None,
                 closes: 0,
             })?;
@@ -81,6 +107,7 @@ impl Timeline {
             faults: Vec::new(alloc),
             waits: Vec::new(alloc),
             delays: Vec::new(alloc),
+            ends: Vec::new(alloc),
             values: Vec::new(alloc),
             lost: false,
         })
@@ -93,11 +120,14 @@ impl Timeline {
         }
     }
 
-    /// A call begins.
-    pub(crate) fn call(&mut self, node: ContextNo, is_test: bool, now: u64) {
+    /// A call of this kind begins.
+    pub(crate) fn call(&mut self, node: ContextNo, kind: Kind, now: u64) {
         let Some(course) = self.courses.get_mut(node) else {
             return;
         };
+        if matches!(kind, Kind::AfterAll) {
+            course.go_behind();
+        }
         if course.begun.is_some() {
             return;
         }
@@ -107,8 +137,9 @@ impl Timeline {
             node,
             begun: course.started,
             ended: now,
-            attempts: self.attempts.len(),
+            ends: self.ends.len(),
         };
+        let is_test = !matches!(kind, Kind::BeforeAll | Kind::AfterAll);
         if is_test && now.saturating_sub(course.started) >= LEAST_WAIT {
             let kept = self.delays.push(delay);
             self.keep(kept.is_ok());
@@ -122,17 +153,13 @@ impl Timeline {
         }
     }
 
-    /// The call makes what the node `from` shares. Takes memory for its key.
+    /// The call makes what the node `from` shares.
     pub(crate) fn make(&mut self, alloc: Global, node: ContextNo, from: ContextNo, now: u64) {
         let lane = self.lane_of(node);
         let _ = self.take_asked(node);
-        let Ok(key) = String::from_str(alloc, "shared") else {
-            self.lost = true;
-            return;
-        };
         let place = self.values.len();
         let kept = self.values.push(SharedValue {
-            key,
+            key: String::new(alloc),
             context: from,
             maker: node,
             lane,
@@ -201,10 +228,10 @@ impl Timeline {
         self.note_attempt(node, lane, begun, now, Status::Failed);
     }
 
-    /// The test of a node failed or aborted.
+    /// A call of the node failed or aborted.
     pub(crate) fn fail(&mut self, node: ContextNo) {
         if let Some(course) = self.courses.get_mut(node) {
-            course.has_failed = true;
+            course.has_fault = true;
         }
     }
 
@@ -216,25 +243,35 @@ impl Timeline {
         }
     }
 
-    /// A test ended so.
-    pub(crate) fn end(&mut self, node: ContextNo, status: Status) {
+    /// A node ended so, and with it the last attempt of a test.
+    pub(crate) fn end(&mut self, ran: &NodeResult, now: u64) {
+        let node = ran.node;
         let Some(course) = self.courses.get(node) else {
             return;
         };
         let Course {
             lane,
+            before,
             begun,
             returned,
-            has_failed,
+            has_fault,
             ..
         } = *course;
-        let status = if has_failed {
-            status
-        } else {
-            Status::Successful
-        };
+        if let Some(before) = before {
+            let status = status_of(ran, before.has_fault);
+            self.note_attempt(node, lane, before.begun, before.ended, status);
+        }
         if let Some(begun) = begun {
+            let status = status_of(ran, has_fault);
             self.note_attempt(node, lane, begun, returned, status);
+        }
+        if ran.is_test && begun.is_some() {
+            let kept = self.ends.push(End {
+                node,
+                returned,
+                ended: now,
+            });
+            self.keep(kept.is_ok());
         }
     }
 
@@ -245,13 +282,17 @@ impl Timeline {
         }
     }
 
-    /// The close ended, or failed with this fault.
+    /// The close ended, or failed with this fault. All values of a context are closed, the latest
+    /// first. What the node shares was there before its calls could keep another one, so its close
+    /// is the last.
     pub(crate) fn finish_close(&mut self, node: ContextNo, fault: Option<String>, now: u64) {
         let (lane, begun) = match self.courses.get(node) {
             Some(course) => (course.lane, course.closes),
             None => return,
         };
-        if let Some(value) = self.value_of(node) {
+        if let Some(value) = self.value_of(node)
+            && value.fault.is_none()
+        {
             value.closing = Some(Closing {
                 lane,
                 begun,
@@ -316,5 +357,35 @@ impl Timeline {
     fn value_of(&mut self, node: ContextNo) -> Option<&mut SharedValue> {
         let place = self.place_of_value(node)?;
         self.values.get_mut(place)
+    }
+}
+
+impl Course {
+    /// A call of a container behind its children begins: those before them are over.
+    fn go_behind(&mut self) {
+        if self.is_behind {
+            return;
+        }
+        self.is_behind = true;
+        self.before = match self.begun {
+            Some(begun) => Some(Calls {
+                begun,
+                ended: self.returned,
+                has_fault: self.has_fault,
+            }),
+            None => None,
+        };
+        self.begun = None;
+        self.has_fault = false;
+    }
+}
+
+/// The status of an attempt that ended with its node: that of the test. Calls of a container were
+/// successful if no fault came in them.
+fn status_of(ran: &NodeResult, has_fault: bool) -> Status {
+    if ran.is_test || has_fault {
+        ran.status
+    } else {
+        Status::Successful
     }
 }

@@ -43,7 +43,8 @@ pub trait TableListener: RunListener {
     /// The call has ended.
     fn returned(&self, _node: ContextNo, _call: &Call) {}
 
-    /// What the node shares is closed.
+    /// A value of the node's context is closed, the latest first: what the node shares, or what a test
+    /// has kept there by its lane.
     fn closes(&self, _node: ContextNo) {}
 
     /// It was closed, or its close failed with this fault, which is told as that of the node, too.

@@ -14,7 +14,8 @@ pub enum Stop {
     /// It could not be run, for this: it is aborted, as by a failed assumption. Javadoc
     /// `TestAbortedException`.
     Aborted(Fault),
-    /// It failed with an error that a `?` took.
+    /// It failed with an error that a `?` took. `anyhow` cuts its text at 120 bytes: a longer one is
+    /// told by `Scope::fail`.
     Error(anyhow::Error),
     /// It failed with an error of a file, a socket or a program that a `?` took.
     Io(io::Error),

@@ -3,7 +3,7 @@
 //!
 //! `TRIAL_TESTS` in the environment adds so many tests that pass, and `TRIAL_LOG` two that share texts with other processes: each
 //! text that is made or closed is a line of the file that it names. `TRIAL_LOOKS` adds two that share so many
-//! (`scripts/parts/processes.py`).
+//! (`scripts/parts/processes.py`). `TRIAL_COURSE` adds those whose course over time a page shows (`scripts/parts/page.py`).
 #![tactic(auto)]
 
 ghost use Rattle.ext_lane.specs.Lent.{IsSame};
@@ -30,6 +30,8 @@ enum Task {
     Inner,
     /// A value whose close fails.
     Unclosable,
+    /// A value whose close takes so many milliseconds.
+    SlowClose(u64),
     /// A value that cannot be made.
     Unmakable,
     /// A text of this name, which all processes of the run share.
@@ -51,6 +53,8 @@ enum Task {
     Meet(u64),
     /// Stores a value of its own, which each attempt but the first finds.
     Store,
+    /// Stores a value of its own, whose close fails.
+    Keep,
     /// Fails unless a count and the value made of it are shared.
     Levels,
     /// A row in reserve: the first one comes.
@@ -63,6 +67,7 @@ enum Shared {
     Count(AtomicU64),
     Inner,
     Unclosable,
+    SlowClose(u64),
     Text,
 }
 
@@ -74,6 +79,9 @@ fn tests(rt: &HostRuntime) -> Result<TestTable<Task>, TableFault> {
     add_faults(&mut tests)?;
     if log(rt).is_some() {
         add_texts(&mut tests, count_in(rt, "TRIAL_LOOKS"))?;
+    }
+    if env::var(rt, "TRIAL_COURSE").is_ok() {
+        add_course(&mut tests)?;
     }
     tests.class("Many")?;
     for number in 0..count_in(rt, "TRIAL_TESTS") {
@@ -180,6 +188,8 @@ fn add_faults(tests: &mut TestTable<Task>) -> Result<(), TableFault> {
     tests.test("both", Task::Fail("first"))?;
     tests.after_each(Task::Fail("second\nof two lines"))?;
     tests.test("passes", Task::Pass)?;
+    tests.class("Escaping")?;
+    tests.test("red", Task::Fail("\x1b[31mred\u{202e}"))?;
     tests.class("Broken")?;
     tests.before_all(Task::Fail("no class"))?;
     tests.test("never", Task::Pass)?;
@@ -190,6 +200,33 @@ fn add_faults(tests: &mut TestTable<Task>) -> Result<(), TableFault> {
     tests.share(Task::Unmakable);
     tests.test("one", Task::Pass)?;
     tests.test("two", Task::Pass)?;
+    Ok(())
+}
+
+/// Calls of a class that take time, tests whose bodies pass and that fail all the same, a test that holds its lock while it closes, and
+/// one that stores a value beside what it shares.
+fn add_course(tests: &mut TestTable<Task>) -> Result<(), TableFault> {
+    tests.class("Staged")?;
+    tests.before_all(Task::Sleep(60))?;
+    tests.after_all(Task::Sleep(40))?;
+    tests.after_all(Task::Fail("after all"))?;
+    tests.test("one", Task::Pass)?;
+    tests.class("Late")?;
+    tests.test("before", Task::Pass)?;
+    tests.before_each(Task::Abort("before it"))?;
+    tests.test("after", Task::Pass)?;
+    tests.after_each(Task::Fail("behind it"))?;
+    tests.test("close", Task::Pass)?;
+    tests.share(Task::Unclosable);
+    tests.test("keeps", Task::Keep)?;
+    tests.share(Task::Count);
+    tests.class("Closing")?;
+    tests.test("holds", Task::Pass)?;
+    tests.share(Task::SlowClose(500));
+    tests.lock("close", LockMode::ReadWrite)?;
+    tests.test("rests", Task::Sleep(100))?;
+    tests.test("waits", Task::Pass)?;
+    tests.lock("close", LockMode::ReadWrite)?;
     Ok(())
 }
 
@@ -207,6 +244,7 @@ impl Engine for Trial {
     fn make(&self, node: &Scope<Task, Shared>) -> Result<Shared, Stop> {
         match node.given {
             Task::Unclosable => Ok(Shared::Unclosable),
+            Task::SlowClose(millis) => Ok(Shared::SlowClose(*millis)),
             Task::Inner if is_count(node.shared.first()) => Ok(Shared::Inner),
             Task::Inner => Err(node.fail("no count is shared above")),
             Task::Unmakable => Err(node.fail("nothing to be had")),
@@ -223,10 +261,14 @@ impl Engine for Trial {
         }
     }
 
-    fn close(&self, _rt: &HostRuntime, shared: &Shared) -> Result<(), Stop> {
+    fn close(&self, rt: &HostRuntime, shared: &Shared) -> Result<(), Stop> {
         match shared {
             Shared::Count(_) | Shared::Inner | Shared::Text => Ok(()),
             Shared::Unclosable => Err(anyhow::anyhow!("it does not close").into()),
+            Shared::SlowClose(millis) => {
+                thread::sleep(rt, Duration::from_millis(*millis));
+                Ok(())
+            }
         }
     }
 
@@ -245,7 +287,14 @@ impl Engine for Trial {
         lane: &mut LentLane<Kept<Shared>>,
     ) -> Result<(), Stop> {
         match test.given {
-            Task::Store => store(threads, test, lane),
+            Task::Store => match store(threads, test, lane, Shared::Count(AtomicU64::new(0)))? {
+                true => Err(test.fail("nothing was found")),
+                false => Ok(()),
+            },
+            Task::Keep => {
+                store(threads, test, lane, Shared::Unclosable)?;
+                Ok(())
+            }
             _ => self.run_test(test),
         }
     }
@@ -329,7 +378,9 @@ fn act(call: &Scope<Task, Shared>) -> Result<(), Stop> {
 fn count<'a>(call: &Scope<'a, Task, Shared>) -> Result<&'a AtomicU64, Stop> {
     match call.nearest()? {
         Shared::Count(count) => Ok(count),
-        Shared::Inner | Shared::Unclosable | Shared::Text => Err(call.fail("no count is shared")),
+        Shared::Inner | Shared::Unclosable | Shared::SlowClose(_) | Shared::Text => Err(call.fail(
+            "no count is shared",
+        )),
     }
 }
 
@@ -365,24 +416,22 @@ fn step(call: &Scope<Task, Shared>, count: &AtomicU64, from: u64, to: u64) -> Re
     Ok(())
 }
 
-/// Finds the value of its own, or stores one and fails.
+/// Finds the value of its own, or stores this one. Answers whether it is new.
 fn store<R: Wait>(
     threads: &R,
     test: &Scope<Task, Shared>,
     lane: &mut LentLane<Kept<Shared>>,
-) -> Result<(), Stop>
+    value: Shared,
+) -> Result<bool, Stop>
     ensures { IsSame lane.old lane.new }
 {
     let Ok(key) = Key::new(test.rt.alloc(), Namespace::global(), "own") else {
         return Err(test.fail("no key"));
     };
-    let make = |_key: &Key| -> Result<Kept<Shared>, Fault> {
-        Ok(Kept(Shared::Count(AtomicU64::new(0))))
-    };
+    let make = |_key: &Key| -> Result<Kept<Shared>, Fault> { Ok(Kept(value)) };
     let answer = lane.compute_wait(threads, test.node, &key, make);
     match lane.found_or_made(answer) {
-        Ok(made) if made.is_new => Err(test.fail("nothing was found")),
-        Ok(_) => Ok(()),
+        Ok(made) => Ok(made.is_new),
         Err(why) => Err(Stop::Failed(why)),
     }
 }
