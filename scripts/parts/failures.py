@@ -16,7 +16,7 @@ CALLS = {"before_all": (True, False), "before_each": (True, True), "test": (Fals
 
 def ran(program, plan, form):
     """What a run of the plan says on its two outputs."""
-    done = subprocess.run([program, "run", "--store", "plain", "--failures", "--report", form], input=plan, capture_output=True, timeout=120)
+    done = subprocess.run([program, "run", "--store", "plain", "--brief", "--failures", "--report", form], input=plan, capture_output=True, timeout=120)
     return done.stdout.decode(), done.stderr.decode()
 
 

@@ -40,7 +40,7 @@ TIMED = [
 
 def written(program, form, plan):
     """What a plain run of the plan writes in this form."""
-    ran = subprocess.run([program, "run", "--store", "plain", "--report", form], input=plan, capture_output=True, timeout=120)
+    ran = subprocess.run([program, "run", "--store", "plain", "--brief", "--report", form], input=plan, capture_output=True, timeout=120)
     if ran.returncode not in (0, 1) or ran.stderr:
         raise ValueError(f"status {ran.returncode}: {ran.stderr[:1000].decode(errors='replace')}")
     return ran.stdout
@@ -49,7 +49,7 @@ def written(program, form, plan):
 def written_beside(program, plan, folder):
     """The text that a plain run of the plan writes, and the two files beside it: XML and JSON."""
     files = [folder / name for name in ("report.xml", "report.json")]
-    ran = subprocess.run([program, "run", "--store", "plain", "--report", "text", "--junit", files[0], "--json", files[1]], input=plan, capture_output=True, timeout=120)
+    ran = subprocess.run([program, "run", "--store", "plain", "--brief", "--report", "text", "--junit", files[0], "--json", files[1]], input=plan, capture_output=True, timeout=120)
     if ran.returncode not in (0, 1) or ran.stderr:
         raise ValueError(f"status {ran.returncode}: {ran.stderr[:1000].decode(errors='replace')}")
     return ran.stdout, *(file.read_bytes() for file in files)

@@ -26,6 +26,12 @@ LINE = re.compile(rb"\d+ of 256 nodes(, running: .*)?\n")
 
 LAST = b"256 of 256 nodes\n"
 
+# The line before all others.
+READING = "reading the plan"
+
+# A line at a terminal, which is not broken and takes the place of the one before.
+AT_TERMINAL = re.compile(r"(\x1b\[A\r\x1b\[K)?\x1b\[\?7l(.*)\x1b\[\?7h")
+
 # How many seconds a line may take: one comes after a second.
 PATIENCE = 60
 
@@ -37,13 +43,15 @@ OTHERS = ["[engine:x]", *(f"[engine:x]/[test:{number}]" for number in range(6)),
 
 
 def told(program, words):
-    """The lines on standard error while the report waits, after how many seconds the first came, what comes behind them, the report, and the exit status."""
+    """The lines on standard error while the report waits, after how many seconds the first came, what comes behind them, the report, the exit status, and whether all else came
+    behind the line that the plan is read."""
     begun = time.monotonic()
     with subprocess.Popen([program, *words], stdin=subprocess.PIPE, stdout=subprocess.PIPE, stderr=subprocess.PIPE) as run:
         run.stdin.write(PLAN.encode())
         run.stdin.close()
         clock = threading.Timer(PATIENCE, run.kill)
         clock.start()
+        reading = run.stderr.readline().decode()
         lines = [run.stderr.readline()]
         waited = time.monotonic() - begun
         while LINE.fullmatch(lines[-1]) and lines[-1] != LAST:
@@ -51,7 +59,7 @@ def told(program, words):
         report = run.stdout.read()
         others = run.stderr.read()
         clock.cancel()
-        return lines, waited, others, report, run.wait()
+        return lines, waited, others, report, run.wait(), reading == READING + "\n"
 
 
 def slow_plan(names, steps):
@@ -103,7 +111,10 @@ def stopped(program, words, names, steps):
     orders = [range(len(names)), reversed(range(len(names)))]
     lines = {sign + "; ".join(f"{test} on lane {lane}" for test, lane in zip(tests, lanes)) for lanes in orders}
     status, report, errors, measured, behind = stopped_run(program, words, slow_plan(names, steps), sign)
-    said = errors.splitlines()
+    reading, *said = errors[:-1].split("\n")
+    shown = [AT_TERMINAL.fullmatch(line) for line in said[:-6]]
+    if reading == READING and all(shown):
+        said[:-6] = [it[2] for it in shown]
     right = [sum(line in lines for line in said[:-6]) == 1, status == 0 and are_right(said[-6:], TIME.search(report), tests, measured, behind)]
     # A short run may have been over before it was stopped: it is made again with more steps.
     if status == 0 and not all(right) and measured < 2 * STOPPED:
@@ -111,16 +122,32 @@ def stopped(program, words, names, steps):
     return *right, f"status {status} after {measured} s, {behind} s from the line on, {report!r}, {errors!r}"
 
 
+def rewritten(program, steps):
+    """Whether each line at a terminal but the first takes the place of the one before, and none comes behind the last node; no line of a dumb terminal does. And what was said."""
+    plan = slow_plan(["m", "n"], steps).replace("concurrent", "same_thread")
+    words = ["run", "--large", "--progress", "--store", "plain"]
+    status, report, errors = ran(program, words, plan, {1, 2})
+    reading, *lines = errors[:-1].split("\n")
+    shown = [AT_TERMINAL.fullmatch(line) for line in lines]
+    # A short run is made again with more steps.
+    if status == 0 and all(shown) and len(shown) < 2:
+        return rewritten(program, 2 * steps)
+    right = (status, reading) == (0, READING) and all(shown) and [bool(it[1]) for it in shown] == [False] + [True] * (len(shown) - 1) and "running" in shown[-1][2]
+    _, report, errors = ran(program, words, plan, {2}, {"TERM": "dumb"})
+    return right and not "\x1b" in errors and errors.startswith(READING + "\n"), f"{status}, {lines!r}, {errors!r}"
+
+
 def cases(program):
     """What is looked at, whether it is right, and what came."""
     for words in ["--lanes", "2"], ["--store", "plain"], ["--lanes", "2", "--failures"]:
-        lines, waited, others, report, status = told(program, ["run", "--progress", *words])
-        right = waited >= 1 and (lines[-1], others, report, status) == (LAST, b"", REPORT.encode(), 0)
+        lines, waited, others, report, status, is_read = told(program, ["run", "--progress", *words])
+        right = is_read and waited >= 1 and (lines[-1], others, report, status) == (LAST, b"", REPORT.encode(), 0)
         yield f"run {' '.join(words)}", right, f"status {status}, {lines + [others]}, the first after {waited} s"
     for words, names, steps in (["--store", "plain"], ["m"], 150), (["--lanes", "2"], ["m", "n"], 2_000):
         line, times, said = stopped(program, words, names, steps)
         yield f"run {' '.join(words)} that is stopped, its line", line, said
         yield f"run {' '.join(words)} that is stopped, its times", times, said
+    yield "run at a terminal, its lines", *rewritten(program, 300)
 
 
 def main(program, _words):

@@ -3,6 +3,7 @@ each of its bytes. What has to come out is written here, by docs/PLANS.md. Print
 """
 import os
 import pty
+import re
 import subprocess
 
 LIMIT = 1_048_576
@@ -606,6 +607,14 @@ def cut_plans():
         yield behind, CHAIN_TEXT[:end]
 
 
+# The lines behind which stands what they mean, such a sentence, and that of a run whose keys have no place.
+EXPLAINED = re.compile(r"plan: P\d|plan too long|id: I\d")
+
+SENTENCE = re.compile(rb"(the plan|the id|(node|key) \d+)(: | ).+\n")
+
+FULL_KEYS = re.compile(rb"the plan: its steps name (more than 1024|\d+) different keys, .+\n")
+
+
 class Cases:
     """Runs cases and counts them."""
 
@@ -620,12 +629,21 @@ class Cases:
         return subprocess.run([self.program, *words], input=bytes_of, capture_output=True, timeout=seconds)
 
     def run(self, name, words, plan, wanted, told="", seconds=120):
-        """A case: what is wanted is a report, and what is told beside it, or else the one line of a refusal."""
+        """A case: what is wanted is a report, and what is told beside it, or else the line of a refusal."""
         ran = self.ran(words, plan, seconds)
         is_line = not wanted.endswith("\n")
         status = 2 if is_line else 1 if " failed closed " in wanted else 0
-        want = (status, b"", f"{wanted}\n".encode()) if is_line else (status, wanted.encode(), told.encode())
-        if (ran.returncode, ran.stdout, ran.stderr) == want:
+        report, errors = ("", f"{wanted}\n") if is_line else (wanted, told)
+        right = (ran.returncode, ran.stdout) == (status, report.encode()) and ran.stderr.startswith(errors.encode())
+        # Behind this stands what it means, in one line.
+        why = ran.stderr[len(errors.encode()) :]
+        if is_line and EXPLAINED.match(wanted):
+            right = right and SENTENCE.fullmatch(why)
+        elif ": directory full\n" in wanted:
+            right = right and FULL_KEYS.fullmatch(why)
+        else:
+            right = right and why == b""
+        if right:
             print(f"case {name}: {wanted if is_line else 'its report'}")
             self.passed += 1
         else:

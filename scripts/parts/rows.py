@@ -25,7 +25,7 @@ def words_of(plan):
 
 def difference(program, words, plan, report):
     """What is wrong with a run of the plan with these words, or nothing."""
-    ran = subprocess.run([program, *words], input=plan, capture_output=True, timeout=120)
+    ran = subprocess.run([program, *words, "--brief"], input=plan, capture_output=True, timeout=120)
     status = 1 if b" failed closed " in report else 0
     if (ran.returncode, ran.stdout, ran.stderr) == (status, report, b""):
         return None

@@ -7,6 +7,7 @@ import os
 import pathlib
 import pty
 import re
+import select
 import subprocess
 import tempfile
 import termios
@@ -24,6 +25,7 @@ SESSION = [
     "run examples/refused.toml",
     "check --lint examples/cases/lint.toml",
     "check --all examples/cases/explained/all_nodes.toml",
+    "run --help",
 ]
 
 ROOT = '[[node]]\nid = "[engine:x]"\n'
@@ -54,6 +56,11 @@ TIME = re.compile(r"^ran in (\d+\.\d{3}) s\n\Z", re.M)
 
 REFUSED = ROOT + '[[node]]\nid = "[engine:x]/[test:a]"\ntest = [\n  "put a x",\n  "pot a x",\n]\n'
 
+# What a terminal takes as orders.
+ORDERS = "\x1b[2J\u009b\u202e"
+
+BOTH = "error: the argument '--explain' cannot be used with '--brief'\n"
+
 LINE = "plan: P8 node 1\n"
 
 WHY = (
@@ -61,6 +68,9 @@ WHY = (
     'The steps are put, put!, want, none, remove, compute, compute!, computefail, fail, abort ("[engine:x]/[test:a]", line 7)\n'
 )
 
+
+# A plan whose steps name more keys than there are places: one step fails.
+FULL = ROOT + '[[node]]\nid = "[engine:x]/[test:a]"\ntest = [' + ", ".join(f'"none k{number}"' for number in range(65)) + "]\n"
 
 # Two tests that race, and a text that no step stores, with characters in all that is told of them that give orders to a terminal.
 RACING = ROOT + "".join(
@@ -115,6 +125,7 @@ def ran(program, words, plan, terminals, environment=None, beside=None):
             modes = termios.tcgetattr(writer)
             modes[1] &= ~termios.OPOST
             termios.tcsetattr(writer, termios.TCSANOW, modes)
+            termios.tcsetwinsize(writer, (24, 80))
         ends[stream] = writer
         threads.append((reader, threading.Thread(target=read_all, args=(reader, told[stream]))))
     variables = {"PATH": os.environ["PATH"], "TERM": "xterm", **(environment or {})}
@@ -170,23 +181,20 @@ def reports(program):
 
 
 def explanations(program):
-    """The second line of a refusal: words, which outputs are terminals, and whether it is there."""
+    """The second line of a refusal, which --brief alone leaves out, at a terminal and in a pipe."""
+    words_and_lines = [([], LINE + WHY), (["--explain"], LINE + WHY), (["--brief"], LINE), (["--explain", "--brief"], BOTH), (["--brief", "--explain"], BOTH)]
     for command in (["run"], ["check"], ["check", "--races"], ["check", "--all"]):
-        for words, terminals, is_there in [
-            ([], {2}, True),
-            ([], {1}, False),
-            ([], set(), False),
-            (["--brief"], {2}, False),
-            (["--explain"], set(), True),
-            (["--explain", "--brief"], set(), True),
-        ]:
-            status, report, errors = ran(program, [*command, *words], REFUSED, terminals)
-            right = (status, report, errors) == (2, "", LINE + (WHY if is_there else ""))
-            yield f"refused by {' '.join(command + words)} at {sorted(terminals)}", right, report + errors
+        for words, wanted in words_and_lines:
+            for terminals in (set(), {1}, {2}):
+                found = ran(program, [*command, *words], REFUSED, terminals)
+                yield f"refused by {' '.join(command + words)} at {sorted(terminals)}", found == (2, "", wanted), repr(found)
     why = "the id: it is empty\n"
-    for words, terminals, is_there in [([], {2}, True), ([], set(), False), (["--brief"], {2}, False), (["--explain"], set(), True)]:
-        status, report, errors = ran(program, ["id", *words, ""], "", terminals)
-        yield f"id {' '.join(words)} at {sorted(terminals)}", (status, report, errors) == (2, "", "id: I1\n" + (why if is_there else "")), errors
+    for words, wanted in [([], "id: I1\n" + why), (["--explain"], "id: I1\n" + why), (["--brief"], "id: I1\n"), (["--explain", "--brief"], BOTH)]:
+        for terminals in (set(), {2}):
+            found = ran(program, ["id", *words, ""], "", terminals)
+            yield f"id {' '.join(words)} at {sorted(terminals)}", found == (2, "", wanted), repr(found)
+    found = ran(program, [], REFUSED, set())
+    yield "refused without a word", found == (2, "", LINE + WHY), repr(found)
 
 
 def unread(program):
@@ -210,7 +218,7 @@ def unread(program):
         if os.geteuid() != 0:
             cases.append((3, run, locked, "read failed: \"{}\" can't be opened\n", 'the plan: "{}": Permission denied (os error 13)\n'))
         for wanted, command, path, line, why in cases:
-            for terminals, words, is_there in [({2}, [], True), (set(), [], False), (set(), ["--explain"], True), ({2}, ["--brief"], False)]:
+            for terminals, words, is_there in [({2}, [], True), (set(), [], True), (set(), ["--explain"], True), ({2}, ["--brief"], False)]:
                 found = ran(command[0], [*command[1:], *words, path], "", terminals)
                 right = found == (wanted, "", line.format(path) + (why.format(path) if is_there else ""))
                 yield f"run {' '.join(words)} of {path[len(folder):] or 'a folder'} at {sorted(terminals)}", right, repr(found)
@@ -241,7 +249,15 @@ def durations(program):
     right = status == 0 and errors == f"took 0.000 s {IN_ALL}\n"
     yield "run --durations of one node", right, errors
     found = ran(program, ["run", "--durations"], REFUSED, set())
-    yield "run --durations of a refused plan", found == (2, "", LINE), repr(found)
+    yield "run --durations of a refused plan", found == (2, "", LINE + WHY), repr(found)
+    # Beside JSON it is JSON or nothing.
+    for plan, faults in (PLAN, 3), (FULL, 1):
+        words = ["run", "--store", "plain", "--report", "json"]
+        status, report, errors = ran(program, [*words, "--durations", "--failures"], plan, set())
+        right = status == 1 and errors.count('{"id":') == len(errors.splitlines()) == faults
+        yield f"run --report json --durations --failures with {faults} faults", right, errors
+        found = ran(program, [*words, "--durations"], plan, set())
+        yield f"run --report json --durations with {faults} faults", found == (1, report, ""), repr(found)
 
 
 def escapes(program):
@@ -276,6 +292,65 @@ def escapes(program):
         yield f"{' '.join(words)} at [1]", right, repr(found)
 
 
+def usage(program):
+    """What is wrong with a command line, at a terminal and in a pipe."""
+    for words in "run --lanes %", "run --report %", "run --%", "run a %", "%", "check % %", "check --report %", "id", "id a --%":
+        line = [word.replace("%", ORDERS) for word in words.split()]
+        status, report, errors = ran(program, line, "", set())
+        found = ran(program, line, "", {1, 2})
+        right = found == (status, report, escaped(errors)) and (status, report) == (2, "") and (errors != escaped(errors)) == ("%" in words)
+        yield f"wrong words {words}", right, repr(found)
+    for words in "run /%", "run --json /%/x", "run --html /%/x", "id %":
+        _, _, errors = ran(program, [word.replace("%", ORDERS) for word in words.split()], PLAN, {1, 2})
+        yield f"refused words {words}", errors.count("\n") > 0 and not any(map(is_order, errors.replace("\n", ""))), repr(errors)
+    for field in ("mode", "locks", "test", "x"):
+        plan = f'{ROOT}{field} = {json.dumps(ORDERS if field == "mode" else [ORDERS])}\n[[key]]\nlabel = {json.dumps(ORDERS + " ")}\n'
+        _, _, errors = ran(program, ["check", "--all"], plan, {1, 2})
+        yield f"refused text of {field}", errors.count("\n") > 1 and not any(map(is_order, errors.replace("\n", ""))), repr(errors)
+
+
+def unread_pipes(program):
+    """Standard output is a pipe that nobody reads: nothing is said."""
+    for words in ["run"], ["run", "--report", "json"], ["run", "--tree", "--lanes", "1"], ["check"], ["check", "--tree"], ["check", "--lint"], ["check", "--races"], ["id", "[a:b]"], ["id", "--make", "a=b"], ["--help"], ["run", "--help"], ["--version"]:
+        reader, writer = os.pipe()
+        os.close(reader)
+        done = subprocess.run([program, *words], input=PLAN.encode(), stdout=writer, stderr=subprocess.PIPE, timeout=120)
+        os.close(writer)
+        yield f"{' '.join(words)} into a pipe that nobody reads", (done.returncode, done.stderr) == (3, b""), repr(done)
+
+
+def typed(program):
+    """A plan that is typed at a terminal: what is said before it is read."""
+    notice = "extrun: reading a plan from the terminal; end it with Ctrl-D\n"
+    report = ran(program, ["run", "--store", "plain", "--brief"], ROOT, set())[1]
+    for words, at_terminal, wanted in [
+        (["run"], True, notice),
+        (["run", "-"], True, notice),
+        (["run", "--brief"], True, notice),
+        (["run"], False, ""),
+    ]:
+        master, terminal = pty.openpty()
+        reader, errors = pty.openpty() if at_terminal else os.pipe()
+        if at_terminal:
+            modes = termios.tcgetattr(errors)
+            modes[1] &= ~termios.OPOST
+            termios.tcsetattr(errors, termios.TCSANOW, modes)
+        child = subprocess.Popen([program, *words], stdin=terminal, stdout=subprocess.PIPE, stderr=errors)
+        os.close(terminal)
+        os.close(errors)
+        # What is asked comes before what is typed.
+        is_asked = wanted and select.select([reader], [], [], 20)[0]
+        said = os.read(reader, 4096).decode() if is_asked else ""
+        os.write(master, ROOT.encode() + b"\x04")
+        written = child.communicate(timeout=120)[0].decode()
+        others = []
+        read_all(reader, others)
+        said += b"".join(others).decode()
+        os.close(reader)
+        os.close(master)
+        yield f"{' '.join(words)} of a typed plan, said to a {'terminal' if at_terminal else 'pipe'}", (child.returncode, written, said) == (0, report, wanted), f"{written!r} {said!r}"
+
+
 def readme(program):
     """What README.md shows of a terminal, but for colours and the digits of the time."""
     blocks = [it for it in README.read_text(encoding="utf-8").split("```\n") if it.startswith("$ ./extrun run examples/")]
@@ -287,30 +362,29 @@ def readme(program):
     yield "README.md shows two plans", len(shown) == 2, str(shown)
 
 
-def session(program, columns):
-    """What a terminal of so many columns shows of some commands, without its colours: they are of the terminal's own palette, light or dark."""
+def session(program):
+    """What a terminal shows of some commands, without its colours: they are of the terminal's own palette, light or dark."""
     shown = ""
     for words in SESSION:
-        *command, plan = words.split()
-        _, report, errors = ran(program, [*command, TOP / plan if "/" in plan else plan], "", {1, 2}, {"COLUMNS": str(columns)})
-        lines = TIME.sub("ran in T s\n", report + errors).splitlines()
-        plain = [re.sub("\x1b\\[[0-9]*m", "", line) for line in lines]
-        shown += f"$ extrun {words}\n" + "".join(line[at : at + columns] + "\n" for line in plain for at in range(0, max(len(line), 1), columns))
+        _, report, errors = ran(program, [TOP / word if word.startswith("examples/") else word for word in words.split()], "", {1, 2})
+        shown += f"$ extrun {words}\n" + re.sub("\x1b\\[[0-9]*m", "", TIME.sub("ran in T s\n", report + errors))
     return shown
 
 
 def sessions(program):
-    for columns in (40, 80):
-        shown = session(program, columns)
-        yield f"of {columns} columns", shown == (SESSIONS / f"extrun-{columns}.txt").read_text(encoding="utf-8"), shown
+    shown = session(program)
+    yield "of 80 columns", shown == (SESSIONS / "extrun-80.txt").read_text(encoding="utf-8"), shown
+    for words in ["--help"], ["run", "--help"], ["check", "--help"], ["id", "--help"], ["help"], ["help", "run"]:
+        status, report, errors = ran(program, words, "", {1, 2})
+        long = [line for line in report.splitlines() if len(line) > 80]
+        yield f"{' '.join(words)}, in lines of 80 columns", (status, errors, long) == (0, "", []) and report.count("\n") > 10, report + errors
 
 
 def main(program, words):
     if words == ["--write"]:
-        for columns in (40, 80):
-            (SESSIONS / f"extrun-{columns}.txt").write_text(session(program, columns), encoding="utf-8")
+        (SESSIONS / "extrun-80.txt").write_text(session(program), encoding="utf-8")
     passed = failed = 0
-    for part in (sessions, reports, escapes, explanations, unread, durations, readme):
+    for part in (sessions, reports, escapes, explanations, unread, usage, unread_pipes, typed, durations, readme):
         for name, right, told in part(program):
             passed, failed = passed + right, failed + (not right)
             print(f"terminal {name}: " + ("as it has to be" if right else f"NOT as it has to be: {told!r}"))

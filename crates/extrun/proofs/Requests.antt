@@ -8,8 +8,8 @@ use Rattle.extrun.specs.declared.command.Request.TheVariants as requests
 use Rattle.extrun.specs.declared.command.Task.{Task}
 
 pub asks-weaker : (rows : List Row) (Asks More : Task → FileNames → Type 0) → ((task : Task) (files : FileNames) → Asks task files → More task files) → (request : Request) → AsksOfPlan rows Asks request → AsksOfPlan rows More request
-asks-weaker rows Asks More weaker (requests.Plan task files explain brief) asks = (weaker task files asks.0, asks.1, asks.2)
-asks-weaker rows Asks More weaker (requests.Id text explain brief) asks = asks
+asks-weaker rows Asks More weaker (requests.Plan task files brief) asks = (weaker task files asks.0, asks.1)
+asks-weaker rows Asks More weaker (requests.Id text brief) asks = asks
 asks-weaker rows Asks More weaker (requests.MakeId parts) asks = asks
 asks-weaker rows Asks More weaker requests.Help asks = asks
 asks-weaker rows Asks More weaker requests.Refused asks = asks

@@ -116,8 +116,8 @@ pub record IsCommandLine (line : App) : Type 0 where
 
 -- Nothing is left to do: the help or the version was printed, or could not be, or a mistake was reported.
 abbrev pub AsksNothing : Request → Type 0
-AsksNothing (requests.Plan _ _ _ _) = ⊥
-AsksNothing (requests.Id _ _ _) = ⊥
+AsksNothing (requests.Plan _ _ _) = ⊥
+AsksNothing (requests.Id _ _) = ⊥
 AsksNothing (requests.MakeId _) = ⊥
 AsksNothing requests.Help = Unit {0}
 AsksNothing requests.Refused = Unit {0}

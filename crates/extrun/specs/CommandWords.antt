@@ -63,12 +63,10 @@ pub record IsPlanAlone (rows : List Row) (files : FileNames) : Type 0 where
 abbrev pub AsksRunOf : List Row → Task → FileNames → Type 0
 AsksRunOf rows task files = AsksRun rows task × AreRunFiles rows files
 
--- To do such a task with such files. It is explained why it is not done if `--explain` is set, and only then if
--- `--brief` is.
+-- To do such a task with such files. It is explained why it is not done, unless `--brief` is set.
 abbrev pub AsksOfPlan : List Row → (Task → FileNames → Type 0) → Request → Type 0
-AsksOfPlan rows asks (requests.Plan task files explain brief) =
-    asks task files × IsFlag (one_of (codes "explain") rows) explain × IsFlag (one_of (codes "brief") rows) brief
-AsksOfPlan rows asks (requests.Id text explain brief) = ⊥
+AsksOfPlan rows asks (requests.Plan task files brief) = asks task files × IsFlag (one_of (codes "brief") rows) brief
+AsksOfPlan rows asks (requests.Id text brief) = ⊥
 AsksOfPlan rows asks (requests.MakeId parts) = ⊥
 AsksOfPlan rows asks requests.Help = ⊥
 AsksOfPlan rows asks requests.Refused = ⊥
@@ -103,53 +101,59 @@ pub record AsksCheck (rows : List Row) (request : Request) : Type 0 where
 abbrev pub texts_of : List Row → List Text
 texts_of rows = unwrap_or (all_of (codes "TEXT") rows) []
 
--- To read this id, explained by the same two words.
-abbrev pub IsReadingOf : Text → Bool → Bool → Request → Type 0
-IsReadingOf text explain brief (requests.Plan _ _ _ _) = ⊥
-IsReadingOf text explain brief (requests.Id own explained short) =
-    (string_bytes own ≡ text) × (explained ≡ explain) × (short ≡ brief)
-IsReadingOf text explain brief (requests.MakeId _) = ⊥
-IsReadingOf text explain brief requests.Help = ⊥
-IsReadingOf text explain brief requests.Refused = ⊥
-IsReadingOf text explain brief requests.Unwritten = ⊥
-IsReadingOf text explain brief requests.Memory = ⊥
+-- To read this id, with its fault explained by the same word.
+abbrev pub IsReadingOf : Text → Bool → Request → Type 0
+IsReadingOf text brief (requests.Plan _ _ _) = ⊥
+IsReadingOf text brief (requests.Id own short) = (string_bytes own ≡ text) × (short ≡ brief)
+IsReadingOf text brief (requests.MakeId _) = ⊥
+IsReadingOf text brief requests.Help = ⊥
+IsReadingOf text brief requests.Refused = ⊥
+IsReadingOf text brief requests.Unwritten = ⊥
+IsReadingOf text brief requests.Memory = ⊥
 
 -- To make the id of these parts.
 abbrev pub IsMakingOf : List Text → Request → Type 0
-IsMakingOf texts (requests.Plan _ _ _ _) = ⊥
-IsMakingOf texts (requests.Id _ _ _) = ⊥
+IsMakingOf texts (requests.Plan _ _ _) = ⊥
+IsMakingOf texts (requests.Id _ _) = ⊥
 IsMakingOf texts (requests.MakeId parts) = map string_bytes parts.items ≡ texts
 IsMakingOf texts requests.Help = ⊥
 IsMakingOf texts requests.Refused = ⊥
 IsMakingOf texts requests.Unwritten = ⊥
 IsMakingOf texts requests.Memory = ⊥
 
--- What these texts ask for, by `--make`, `--explain` and `--brief`. Without `--make` one is read, and several are a
--- mistake, which is reported.
-abbrev pub AsksOfTexts : Bool → Bool → Bool → List Text → Request → Type 0
-AsksOfTexts true explain brief texts request = IsMakingOf texts request
-AsksOfTexts false explain brief [] request = request ≡ requests.Refused
-AsksOfTexts false explain brief (text ∷ []) request = IsReadingOf text explain brief request
-AsksOfTexts false explain brief (text ∷ second ∷ others) request = request ≡ requests.Refused
+-- What these texts ask for, by `--make` and `--brief`. Without `--make` one is read, and several are a mistake, which is
+-- reported.
+abbrev pub AsksOfTexts : Bool → Bool → List Text → Request → Type 0
+AsksOfTexts true brief texts request = IsMakingOf texts request
+AsksOfTexts false brief [] request = request ≡ requests.Refused
+AsksOfTexts false brief (text ∷ []) request = IsReadingOf text brief request
+AsksOfTexts false brief (text ∷ second ∷ others) request = request ≡ requests.Refused
 
--- To make an id of all texts if `--make` is set, and otherwise to read the one text, explained by the other two words.
+-- To make an id of all texts if `--make` is set, and otherwise to read the one text.
 pub record AsksId (rows : List Row) (request : Request) : Type 0 where
   pub make : Bool
-  pub explain : Bool
   pub brief : Bool
   pub making : IsFlag (one_of (codes "make") rows) make
-  pub explained : IsFlag (one_of (codes "explain") rows) explain
   pub short : IsFlag (one_of (codes "brief") rows) brief
-  pub asks : AsksOfTexts make explain brief (texts_of rows) request
+  pub asks : AsksOfTexts make brief (texts_of rows) request
 
 -- ---- the commands
 
--- What a command with this name asks for.
-pub record AsksCommand (name : List ℕ) (rows : List Row) (request : Request) : Type 0 where
+-- What a command with this name asks for by its other words.
+pub record AsksNamed (name : List ℕ) (rows : List Row) (request : Request) : Type 0 where
   pub id : name ≡ codes "id" → AsksId rows request
   pub check : name ≡ codes "check" → AsksCheck rows request
   pub run : name ≢ codes "id" → name ≢ codes "check" → AsksOfPlan rows (AsksRunOf rows) request
 
+-- What it asks for. Both `--explain` and `--brief` are a mistake, which is reported; `--explain` alone changes nothing.
+pub record AsksCommand (name : List ℕ) (rows : List Row) (request : Request) : Type 0 where
+  pub explain : Bool
+  pub brief : Bool
+  pub explained : IsFlag (one_of (codes "explain") rows) explain
+  pub short : IsFlag (one_of (codes "brief") rows) brief
+  pub both : explain && brief ≡ true → request ≡ requests.Refused
+  pub asks : explain && brief ≡ false → AsksNamed name rows request
+
 abbrev pub AsksFor : Option (List ℕ × List Row) → Request → Type 0
-AsksFor None request = request ≡ requests.Plan wordless_run (record { plan = None; junit = None; json = None; html = None }) false false
+AsksFor None request = request ≡ requests.Plan wordless_run (record { plan = None; junit = None; json = None; html = None }) false
 AsksFor (Some command) request = AsksCommand command.0 command.1 request

@@ -14,7 +14,7 @@ pub(crate) fn plan_file<'a>(alloc: Global) -> Arg<'a>
     ensures local { result.global ≡ false }
 {
     Arg::new(alloc, "FILE")
-        .help("The file of the plan; without it, or for -, the plan is read from standard input")
+        .help("The file of the plan; without it, or for -, the plan is read from\nstandard input")
         .action(ArgAction::Set)
 }
 
@@ -25,7 +25,7 @@ pub(crate) fn lanes_option<'a>(alloc: Global) -> Arg<'a>
     Arg::new(alloc, "lanes")
         .long("lanes")
         .value_name("N")
-        .help("How many lanes run the plan, 1 to 16, each at most by one thread")
+        .help("How many lanes run the plan, 1 to 16, each at most by one\nthread")
         .action(ArgAction::Set)
         .value_parser(value_parser!(u8).range(1..17))
         .default_value("4")
@@ -40,7 +40,7 @@ pub(crate) fn store_option<'a>(alloc: Global) -> Arg<'a>
         .long("store")
         .value_name("STORE")
         .help(
-            "The store that the plan runs on: `cells` is for several threads; `plain` is for one, which then runs all",
+            "The store that the plan runs on: `cells` is for several\nthreads; `plain` is for one, which then runs\nall",
         )
         .action(ArgAction::Set)
         .value_parser(["plain", "cells"].as_slice())
@@ -56,7 +56,7 @@ pub(crate) fn report_option<'a>(alloc: Global) -> Arg<'a>
         .long("report")
         .value_name("FORM")
         .help(
-            "How the report is written: `text` by lines, `json` as one object a node, by lines, `junit` as JUnit's XML; without it by lines, at a terminal for people",
+            "How the report is written: `text` by lines, `json` as one\nobject a node, by lines, `junit` as JUnit's XML; without\nit by lines, at a terminal\nfor people",
         )
         .action(ArgAction::Set)
         .value_parser(["text", "json", "junit"].as_slice())
@@ -71,7 +71,9 @@ pub(crate) fn race_report_option<'a>(alloc: Global) -> Arg<'a>
     Arg::new(alloc, "report")
         .long("report")
         .value_name("FORM")
-        .help("How --races writes them: `text` by lines, `json` as one object; without it by lines")
+        .help(
+            "How --races writes them: `text` by lines, `json` as one\nobject; without it by lines",
+        )
         .action(ArgAction::Set)
         .value_parser(["text", "json"].as_slice())
 }
@@ -85,7 +87,7 @@ pub(crate) fn color_option<'a>(alloc: Global) -> Arg<'a>
         .long("color")
         .value_name("WHEN")
         .help(
-            "When a report for people has colours: `auto` is at a terminal, unless NO_COLOR is set or TERM is dumb",
+            "When a report for people has colours: `auto` is at a\nterminal, unless NO_COLOR is set or TERM is dumb\n",
         )
         .action(ArgAction::Set)
         .value_parser(["auto", "always", "never"].as_slice())
@@ -111,7 +113,7 @@ pub(crate) fn junit_option<'a>(alloc: Global) -> Arg<'a>
     Arg::new(alloc, "junit")
         .long("junit")
         .value_name("FILE")
-        .help("Writes JUnit's XML to this file, too, with how long each node took")
+        .help("Writes JUnit's XML to this file, too, with how long each\nnode took")
         .action(ArgAction::Set)
 }
 
@@ -122,7 +124,7 @@ pub(crate) fn json_option<'a>(alloc: Global) -> Arg<'a>
     Arg::new(alloc, "json")
         .long("json")
         .value_name("FILE")
-        .help("Writes the report in JSON to this file, too, with how long each node took")
+        .help("Writes the report in JSON to this file, too, with how\nlong each node took")
         .action(ArgAction::Set)
 }
 
@@ -133,7 +135,9 @@ pub(crate) fn html_option<'a>(alloc: Global) -> Arg<'a>
     Arg::new(alloc, "html")
         .long("html")
         .value_name("FILE")
-        .help("Writes a page to this file that shows what failed, the tree and the lanes over time")
+        .help(
+            "Writes a page to this file that shows what failed, the\ntree and the lanes over time",
+        )
         .action(ArgAction::Set)
 }
 
@@ -144,7 +148,7 @@ pub(crate) fn draw_flag<'a>(alloc: Global) -> Arg<'a>
 {
     Arg::new(alloc, "tree")
         .long("tree")
-        .help("Draws the nodes as an indented tree, with their modes, locks and tests")
+        .help("Draws the nodes as an indented tree, with their modes,\nlocks and tests")
         .action(ArgAction::SetTrue)
 }
 
@@ -155,7 +159,7 @@ pub(crate) fn failures_flag<'a>(alloc: Global) -> Arg<'a>
     Arg::new(alloc, "failures")
         .long("failures")
         .help(
-            "Says all faults of the nodes that failed or were aborted once more at the end, on standard error",
+            "Says all faults of the nodes that failed or were aborted\nonce more at the end, on standard error",
         )
         .action(ArgAction::SetTrue)
 }
@@ -166,7 +170,9 @@ pub(crate) fn durations_flag<'a>(alloc: Global) -> Arg<'a>
 {
     Arg::new(alloc, "durations")
         .long("durations")
-        .help("Says on standard error how long the five slowest tests and all nodes together took")
+        .help(
+            "Says on standard error how long the five slowest tests\nand all nodes together took, unless the report is JSON",
+        )
         .action(ArgAction::SetTrue)
 }
 
@@ -177,7 +183,7 @@ pub(crate) fn progress_flag<'a>(alloc: Global) -> Arg<'a>
     Arg::new(alloc, "progress")
         .long("progress")
         .help(
-            "Says on standard error how many nodes have ended and which run, at most once a second",
+            "Says on standard error that the plan is read, and then\nhow many nodes have ended and which run, at most once a\nsecond",
         )
         .action(ArgAction::SetTrue)
 }
@@ -188,7 +194,7 @@ pub(crate) fn races_flag<'a>(alloc: Global) -> Arg<'a>
 {
     Arg::new(alloc, "races")
         .long("races")
-        .help("Says instead which nodes may get into each other's way, where they run at once")
+        .help("Says instead which nodes may get into each other's way,\nwhere they run at once")
         .action(ArgAction::SetTrue)
 }
 
@@ -198,7 +204,7 @@ pub(crate) fn lint_flag<'a>(alloc: Global) -> Arg<'a>
 {
     Arg::new(alloc, "lint")
         .long("lint")
-        .help("Says instead what is most likely a mistake, such as a text that no step stores")
+        .help("Says instead what is most likely a mistake, such as a\ntext that no step stores")
         .action(ArgAction::SetTrue)
 }
 
@@ -208,7 +214,7 @@ pub(crate) fn all_flag<'a>(alloc: Global) -> Arg<'a>
 {
     Arg::new(alloc, "all")
         .long("all")
-        .help("Says all faults of a plan that is refused, up to 20, and not the first alone")
+        .help("Says all faults of a plan that is refused, up to 20, and\nnot the first alone")
         .action(ArgAction::SetTrue)
 }
 
@@ -220,33 +226,19 @@ pub(crate) fn large_flag<'a>(alloc: Global) -> Arg<'a>
     Arg::new(alloc, "large")
         .long("large")
         .help(
-            "Takes a plan of up to 65,536 nodes and 64 MiB, whose run keeps up to 1,048,575 values; without it 256 nodes, 1 MiB and 65,535",
+            "Takes a plan of up to 65,536 nodes and 64 MiB, whose run\nkeeps up to 1,048,575 values; without it 256 nodes, 1 MiB\nand 65,535",
         )
         .action(ArgAction::SetTrue)
 }
 
+/// The flag `--explain` of all commands.
 pub(crate) fn explain_flag<'a>(alloc: Global) -> Arg<'a>
     ensures rule { rule_of result ≡ line.flag (codes "explain") }
     ensures local { result.global ≡ false }
 {
     Arg::new(alloc, "explain")
         .long("explain")
-        .help(
-            "Says in a second line on standard error what is meant, where the plan is refused; at a terminal it is there without this word",
-        )
-        .action(ArgAction::SetTrue)
-}
-
-/// The flag `--explain` of the command `id`.
-pub(crate) fn explain_id_flag<'a>(alloc: Global) -> Arg<'a>
-    ensures rule { rule_of result ≡ line.flag (codes "explain") }
-    ensures local { result.global ≡ false }
-{
-    Arg::new(alloc, "explain")
-        .long("explain")
-        .help(
-            "Says in a second line on standard error what is meant, where the text is no id; at a terminal it is there without this word",
-        )
+        .help("Changes nothing: what is refused is explained without it")
         .action(ArgAction::SetTrue)
 }
 
@@ -257,7 +249,7 @@ pub(crate) fn brief_flag<'a>(alloc: Global) -> Arg<'a>
 {
     Arg::new(alloc, "brief")
         .long("brief")
-        .help("Leaves that line out at a terminal, too")
+        .help("Leaves out the line that says what a refusal means")
         .action(ArgAction::SetTrue)
 }
 
@@ -269,7 +261,7 @@ pub(crate) fn make_flag<'a>(alloc: Global) -> Arg<'a>
     Arg::new(alloc, "make")
         .long("make")
         .help(
-            "Makes the id of parts, each TYPE=VALUE, in which any characters may stand, and prints it",
+            "Makes the id of parts, each TYPE=VALUE, in which any characters\nmay stand, and prints it",
         )
         .action(ArgAction::SetTrue)
 }
@@ -281,7 +273,7 @@ pub(crate) fn id_texts<'a>(alloc: Global) -> Arg<'a>
 {
     Arg::new(alloc, "TEXT")
         .help(
-            "The id, such as '[engine:x]/[class:A]'; with --make its parts, such as engine=x 'class=a/b'",
+            "The id, such as '[engine:x]/[class:A]'; with --make its parts,\nsuch as engine=x 'class=a/b'",
         )
         .required(true)
         .action(ArgAction::Append)

@@ -122,7 +122,8 @@ fn has_no_color<R: Env + AllocGlobal>(rt: &R) -> bool {
     }
 }
 
-fn is_dumb<R: Env + AllocGlobal>(rt: &R) -> bool {
+/// Tests whether the terminal knows no orders: whether `TERM` is `dumb`.
+pub(crate) fn is_dumb<R: Env + AllocGlobal>(rt: &R) -> bool {
     match env::var(rt, "TERM") {
         Ok(value) => value.as_str() == "dumb",
         Err(_) => false,

@@ -1,5 +1,5 @@
 //! The command line, over clap.
-ghost use Rattle.std.specs.Prelude.{◌≡◌, ◌≢◌, ◌↔◌, ◌||◌, codes, List, map, true, false, option_map, string_bytes, Some, Ok, IfOk, IsTrue};
+ghost use Rattle.std.specs.Prelude.{◌≡◌, ◌≢◌, ◌↔◌, ◌&&◌, ◌||◌, codes, List, map, true, false, option_map, string_bytes, Some, Ok, IfOk, IsTrue};
 ghost use Rattle.clap.specs.Matches.{found_of, first_value, one_text};
 ghost use Rattle.clap.specs.Words.{app_of, shape_of, with_subcommand};
 ghost use Rattle.clap.specs.declared.builder.command.Command.TheViews.{out-Command};
@@ -8,18 +8,21 @@ ghost use Rattle.clap.specs.Simple.{subcommand_rows_of};
 ghost use Rattle.clap.specs.Walk.{rows_of};
 ghost use Rattle.extrun.specs.CommandLine as line;
 ghost use Rattle.extrun.specs.CommandLine.{AsksBy, AsksNothing, IsCheck, IsCommandLine, IsRun};
-ghost use Rattle.extrun.specs.CommandWords.{AreRunFiles, AsksCheck, AsksCommand, AsksFor, AsksId, AsksOfPlan, AsksOfTexts, AsksRunOf, IsMakingOf, IsListForm, IsPlanAlone, check_as, check_in, check_with, checks_all};
+ghost use Rattle.extrun.specs.CommandWords.{AreRunFiles, AsksCheck, AsksCommand, AsksFor, AsksId, AsksNamed, AsksOfPlan, AsksOfTexts, AsksRunOf, IsMakingOf, IsListForm, IsPlanAlone, check_as, check_in, check_with, checks_all};
 ghost use Rattle.extrun.specs.Flags.{IsFlag, IsSize, size_of};
 ghost use Rattle.extrun.specs.RunWords.{AreOptions, AsksAsides, AsksForm, AsksRun, IsColor, IsForm, IsLaneCount, color_choice, form_of, wordless_run};
 
+use crate::Terminals;
 use crate::args::{
-    all_flag, brief_flag, color_option, draw_flag, durations_flag, explain_flag, explain_id_flag,
-    failures_flag, html_option, id_texts, json_option, junit_option, lanes_option, large_flag,
-    lint_flag, make_flag, plan_file, progress_flag, race_report_option, races_flag, report_option,
+    all_flag, brief_flag, color_option, draw_flag, durations_flag, explain_flag, failures_flag,
+    html_option, id_texts, json_option, junit_option, lanes_option, large_flag, lint_flag,
+    make_flag, plan_file, progress_flag, race_report_option, races_flag, report_option,
     report_tree_flag, store_option,
 };
 use crate::color::ColorChoice;
 use crate::help::{AFTER_HELP, VERSION};
+use crate::screen::{is_broken_pipe, shown_text};
+use crate::telling::tell_unwritten;
 use clap::error::ErrorKind;
 use clap::{ArgMatches, Command, Error};
 use ext_run::{ListForm, Options, ReportForm, Size};
@@ -33,18 +36,16 @@ const LANES: u8 = 4;
 /// What a command line asks for.
 #[derive(Debug, Drop)]
 pub(crate) enum Request {
-    /// A task for the plan in a file, or from standard input, and whether to explain why it is not
-    /// done: in any case, or never.
+    /// A task for the plan in a file, or from standard input, and whether it is not explained why
+    /// it is not done.
     Plan {
         task: Task,
         files: FileNames,
-        explain: bool,
         brief: bool,
     },
-    /// Reading this id, and whether to explain its fault if it is none, by the same two words.
+    /// Reading this id, and whether its fault is not explained if it is none.
     Id {
         text: String,
-        explain: bool,
         brief: bool,
     },
     /// Making the id of these parts, each `TYPE=VALUE`.
@@ -55,7 +56,7 @@ pub(crate) enum Request {
     Help,
     /// Nothing: the command line is refused, and what is wrong with it was printed.
     Refused,
-    /// Nothing: the help could not be printed.
+    /// Nothing: the help could not be printed, and that was said.
     Unwritten,
     /// Nothing: memory was refused.
     Memory,
@@ -72,6 +73,16 @@ pub(crate) struct FileNames {
     pub(crate) json: Option<String>,
     /// To which a page of it is written.
     pub(crate) html: Option<String>,
+}
+
+impl FileNames {
+    /// The name of the plan's file, unless the plan is read from standard input.
+    pub(crate) fn named_plan(&self) -> Option<&str> {
+        match &self.plan {
+            Some(name) if name.as_str() != "-" => Some(name.as_str()),
+            _ => None,
+        }
+    }
 }
 
 /// A task for a plan.
@@ -132,15 +143,19 @@ impl Task {
 ///   `--lint`;
 /// - `id`, with one text, or with `--make` and parts.
 ///
-/// `run` and `check` take a file and `--large`, and all take `--explain` and `--brief`. No word at all is `run` on 4 lanes
-/// over the store for several threads, of a plan of usual size. But where standard input is a
-/// terminal (`is_typed`), nobody waits for a plan there: the help is printed to standard error, and
-/// the command line is refused.
+/// `run` and `check` take a file and `--large`, and all take `--explain` or `--brief`. No word at
+/// all is `run` on 4 lanes over the store for several threads, of a plan of usual size. But where
+/// standard input is a terminal, nobody waits for a plan there: the help is printed to standard
+/// error, and the command line is refused.
 ///
 /// Prints the help and the version to standard output, and what is wrong with a command line to
-/// standard error. Takes memory for the words and for clap.
-pub(crate) fn request_of<R: Env + AllocGlobal + Print + Eprint>(rt: &R, is_typed: bool) -> Request {
-    match parsed(rt, is_typed) {
+/// standard error, at a terminal with control characters escaped. Takes memory for the words, for
+/// clap and for what it prints.
+pub(crate) fn request_of<R: Env + AllocGlobal + Print + Eprint>(
+    rt: &R,
+    terminals: Terminals,
+) -> Request {
+    match parsed(rt, terminals) {
         Ok(request) => request,
         Err(AllocError) => Request::Memory,
     }
@@ -149,7 +164,7 @@ pub(crate) fn request_of<R: Env + AllocGlobal + Print + Eprint>(rt: &R, is_typed
 /// The request of the command line, or that memory was refused.
 fn parsed<R: Env + AllocGlobal + Print + Eprint>(
     rt: &R,
-    is_typed: bool,
+    terminals: Terminals,
 ) -> Result<Request, AllocError> {
     let words = match std::env::args(rt) {
         Ok(words) => words,
@@ -157,10 +172,10 @@ fn parsed<R: Env + AllocGlobal + Print + Eprint>(
         Err(_) => return Ok(mistake(rt, "a word of the command line is not UTF-8")),
     };
     let words: Vec<String> = words.collect(rt.alloc())?;
-    if is_typed && words.len() < 2 {
+    if terminals.input && words.len() < 2 {
         return help_unasked(rt);
     }
-    request_in(rt, words.as_slice())
+    request_in(rt, words.as_slice(), terminals.errors)
 }
 
 /// Prints the help to standard error: without a word there is nothing to do.
@@ -173,17 +188,19 @@ fn help_unasked<R: AllocGlobal + Eprint>(rt: &R) -> Result<Request, AllocError>
     Ok(Request::Refused)
 }
 
-/// The request of these words. The first is the program's own name.
+/// The request of these words. The first is the program's own name. What is wrong with them is
+/// printed for a terminal or not.
 fn request_in<R: AllocGlobal + Print + Eprint>(
     rt: &R,
     words: &[String],
+    for_terminal: bool,
 ) -> Result<Request, AllocError>
     ensures { IfOk result (AsksBy (map string_bytes words.now)) }
 {
     match program(rt.alloc())?.try_get_matches_from(words) {
         Ok(matches) => asked_for(rt, &matches),
         Err(fault) if fault.kind() == ErrorKind::OutOfMemory => Err(AllocError),
-        Err(fault) => Ok(refused(rt, words, &fault)),
+        Err(fault) => refused(rt, words, &fault, for_terminal),
     }
 }
 
@@ -204,7 +221,6 @@ fn asked_for<R: AllocGlobal + Eprint>(
                 json: None,
                 html: None,
             },
-            explain: false,
             brief: false,
         }),
     }
@@ -232,13 +248,35 @@ fn wordless_run() -> Task
     }
 }
 
-/// The request of the command with this name.
+/// The request of the command with this name, which takes `--explain` or `--brief`.
 fn asked_by<R: AllocGlobal + Eprint>(
     rt: &R,
     name: &str,
     words: &ArgMatches<'_>,
 ) -> Result<Request, AllocError>
     ensures { IfOk result (AsksCommand name.now (rows_of (found_of words.now))) }
+{
+    let explain = is_set(words, "explain");
+    let brief = is_set(words, "brief");
+    if both(explain, brief) {
+        return Ok(mistake(rt, "the argument '--explain' cannot be used with '--brief'"));
+    }
+    request_named(rt, name, words)
+}
+
+fn both(one: bool, other: bool) -> bool
+    ensures { result ≡ one && other }
+{
+    one && other
+}
+
+/// The request of the command with this name by its other words.
+fn request_named<R: AllocGlobal + Eprint>(
+    rt: &R,
+    name: &str,
+    words: &ArgMatches<'_>,
+) -> Result<Request, AllocError>
+    ensures { IfOk result (AsksNamed name.now (rows_of (found_of words.now))) }
 {
     if name == "id" {
         return id_request(rt, words);
@@ -258,9 +296,8 @@ fn id_request<R: AllocGlobal + Eprint>(
 {
     let texts = words.get_strs("TEXT").unwrap_or(&[]);
     let make = is_set(words, "make");
-    let explain = is_set(words, "explain");
     let brief = is_set(words, "brief");
-    request_of_texts(rt, texts, make, explain, brief)
+    request_of_texts(rt, texts, make, brief)
 }
 
 /// The request to make the id of these parts, or to read the only text.
@@ -268,10 +305,9 @@ fn request_of_texts<R: AllocGlobal + Eprint>(
     rt: &R,
     texts: &[&str],
     make: bool,
-    explain: bool,
     brief: bool,
 ) -> Result<Request, AllocError>
-    ensures { IfOk result (AsksOfTexts make explain brief (map (λ text. text.now) texts.now)) }
+    ensures { IfOk result (AsksOfTexts make brief (map (λ text. text.now) texts.now)) }
 {
     if make {
         return making_of(rt.alloc(), texts);
@@ -279,7 +315,6 @@ fn request_of_texts<R: AllocGlobal + Eprint>(
     match texts {
         [text] => Ok(Request::Id {
             text: String::from_str(rt.alloc(), text)?,
-            explain,
             brief,
         }),
         _ => Ok(mistake(rt, "one id is read; --make makes one of several parts")),
@@ -605,7 +640,6 @@ fn plan_request(task: Task, files: FileNames, words: &ArgMatches<'_>) -> Request
     Request::Plan {
         task,
         files,
-        explain: is_set(words, "explain"),
         brief: is_set(words, "brief"),
     }
 }
@@ -652,33 +686,53 @@ fn mistake(rt: &impl Eprint, text: &str) -> Request
     Request::Refused
 }
 
-/// Prints the help, or what is wrong with the command line. If the latter cannot be printed,
-/// nothing more can be done.
-fn refused<R: Print + Eprint>(rt: &R, words: &[String], fault: &Error) -> Request
+/// Prints the help, or what is wrong with the command line, for a terminal or not. If the latter
+/// cannot be printed, nothing more can be done. Takes memory for it.
+fn refused<R: AllocGlobal + Print + Eprint>(
+    rt: &R,
+    words: &[String],
+    fault: &Error,
+    for_terminal: bool,
+) -> Result<Request, AllocError>
+    ensures { IfOk result AsksNothing }
+{
+    if !fault.use_stderr() {
+        return Ok(printed(rt, fault));
+    }
+    let text = mistake_text(rt.alloc(), words, fault)?;
+    let text = shown_text(rt.alloc(), text, for_terminal)?;
+    let _ = eprint!(rt; "{}", text.as_str());
+    Ok(Request::Refused)
+}
+
+/// Prints the help or the version, or else why that is not done.
+fn printed<R: Print + Eprint>(rt: &R, help: &Error) -> Request
     ensures { AsksNothing result }
 {
-    let printed = fault.print(rt);
-    if fault.kind() == ErrorKind::InvalidSubcommand {
-        hint_at_run(rt, words);
-    }
-    match fault.exit_code() {
-        0 if printed.is_err() => Request::Unwritten,
-        0 => Request::Help,
-        _ => Request::Refused,
+    match help.print(rt) {
+        Ok(()) => Request::Help,
+        Err(cause) => {
+            tell_unwritten(rt, is_broken_pipe(&cause), true);
+            Request::Unwritten
+        }
     }
 }
 
-/// Says how the plan of a file is run, if the first word, which is no command, may be its name.
-fn hint_at_run(rt: &impl Eprint, words: &[String]) {
-    match words.get(1) {
-        Some(name) if name.as_str() != "help" => {
-            let _ = eprintln!(rt;
-                "\n  tip: 'extrun run {}' runs the plan of that file",
-                name.as_str()
-            );
-        }
-        _ => {}
+/// What is wrong with these words, and how the plan of a file is run, if the first word, which is no
+/// command, may be its name. Takes memory.
+fn mistake_text(alloc: Global, words: &[String], fault: &Error) -> Result<String, AllocError> {
+    let mut text = format!(in alloc; "{fault}")?;
+    if fault.kind() == ErrorKind::InvalidSubcommand
+        && let Some(name) = words.get(1)
+        && name.as_str() != "help"
+    {
+        let name = name.as_str();
+        writeln!(
+            &mut text,
+            "\n  tip: 'extrun run {name}' runs the plan of that file"
+        )?;
     }
+    Ok(text)
 }
 
 /// The program's command line. `run` may be left out.
@@ -687,7 +741,7 @@ fn program<'a>(alloc: Global) -> Result<Command<'a>, AllocError>
 {
     let program = Command::new(alloc, "extrun")
         .about(
-            "Runs plans of contexts, keys and test steps over the extension store; without a command it does `run`",
+            "Runs plans of contexts, keys and test steps over the extension store; without\na command it does `run`",
         )
         .version(VERSION)
         .after_help(AFTER_HELP);
@@ -733,7 +787,7 @@ fn check_command<'a>(alloc: Global) -> Result<Command<'a>, AllocError>
     ensures { IfOk result (λ command. IsCheck (shape_of command) × ((out-Command command).has_globals ≡ false)) }
 {
     Command::new(alloc, "check")
-        .about("Reads a plan and says how many nodes, tests and keys it has, without running it")
+        .about("Says how many nodes, tests and keys a plan has, without running it")
         .arg(plan_file(alloc))?
         .arg(draw_flag(alloc))?
         .arg(races_flag(alloc))?
@@ -750,11 +804,9 @@ fn id_command<'a>(alloc: Global) -> Result<Command<'a>, AllocError>
     ensures local { IfOk result (λ command. (out-Command command).has_globals ≡ false) }
 {
     Command::new(alloc, "id")
-        .about(
-            "Prints the segments of a unique id, decoded, and the id written again; or makes one",
-        )
+        .about("Prints a unique id's segments, decoded, and the id again; or makes one")
         .arg(id_texts(alloc))?
         .arg(make_flag(alloc))?
-        .arg(explain_id_flag(alloc))?
+        .arg(explain_flag(alloc))?
         .arg(brief_flag(alloc))
 }

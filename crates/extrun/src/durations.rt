@@ -2,8 +2,7 @@
 ghost use Rattle.std.specs.Prelude.{◌<◌, All, length};
 
 use crate::screen::shown_text;
-use crate::times::{Times, seconds};
-use ext_page::Attempt;
+use crate::times::{TestTimes, Times, seconds};
 use ext_report::{Extra, slowest_tests};
 use ext_run::{NodeResult, RunListener, Tree};
 use std::alloc::{AllocError, Global};
@@ -32,7 +31,7 @@ impl<'a, R: AllocGlobal> Durations<'a, R> {
     }
 
     /// How long each node took, in the order of the plan, and when each test ran.
-    pub(crate) fn into_parts(self) -> (Vec<Extra>, Vec<Attempt>) {
+    pub(crate) fn into_parts(self) -> (Vec<Extra>, TestTimes) {
         self.times.into_inner().into_parts()
     }
 }

@@ -24,6 +24,11 @@ pub(crate) fn tell_failures<R: AllocGlobal + Eprint>(
     };
 }
 
+/// Tests whether a report of this form is JSON. Then what is said beside it is JSON or nothing.
+pub(crate) fn is_json(form: ReportForm) -> bool {
+    matches!(form, ReportForm::Json)
+}
+
 /// The form of the faults beside a report: JSON if the report is.
 fn list_form_of(form: ReportForm) -> ListForm
     ensures json { form ≡ ReportForm.Json → result ≡ ListForm.Json }

@@ -5,8 +5,8 @@ pub(crate) const VERSION: &str = "1.0.0";
 
 /// A plan with its run, the steps, and the exit statuses.
 pub(crate) const AFTER_HELP: &str =
-    r#"A plan, and its run: two tests that may run at once need one server. One of them starts it, the other
-one finds it, and it is closed once at the end:
+    r#"A plan, and its run: two tests that may run at once need one server. One of
+them starts it, the other one finds it, and it is closed once at the end:
 
   $ cat server.toml
   [[key]]
@@ -33,15 +33,19 @@ one finds it, and it is closed once at the end:
   computed 1 found 1 closed 1 close faults 0
 
 The steps of a test or a callback, which the first one that does not pass ends:
-  put KEY TEXT, put! KEY TEXT          stores a text; with ! it is closed at the end of its context
-  want KEY TEXT                        passes where a look-up finds this text, here or above
-  none KEY                             passes where a look-up finds nothing
-  remove KEY                           removes what stands here
-  compute KEY TEXT, compute! KEY TEXT  looks up, and stores the text here where nothing is found
-  computefail KEY TEXT                 the same with a factory that fails
-  fail TEXT, abort TEXT                fails or aborts
-All but the last two may end with ' up N', 1 to 15: they act on the N-th context above.
-docs/PLANS.md has all fields, steps, faults and reports; examples/ has more plans.
+  put KEY TEXT          stores a text
+  put! KEY TEXT         the same; it is closed at the end of its context
+  want KEY TEXT         passes where a look-up finds this text, here or above
+  none KEY              passes where a look-up finds nothing
+  remove KEY            removes what stands here
+  compute KEY TEXT      looks up; stores the text here where nothing is found
+  compute! KEY TEXT     the same; it is closed at the end of its context
+  computefail KEY TEXT  the same with a factory that fails
+  fail TEXT             fails
+  abort TEXT            aborts
+All but the last two may end with ' up N', 1 to 15: they act on the N-th context
+above. docs/PLANS.md has all fields, steps, faults and reports; examples/ has
+more plans.
 
 Exit status:
   0  it is done, and no node failed
@@ -49,6 +53,6 @@ Exit status:
   2  the command line, the plan or the id is refused
   3  reading, writing or memory failed, or a context could not be closed
 
-Reports go to standard output, and why there is none to standard error, in one line such as 'plan: P8 node 2'.
-At a terminal, or with --explain, a second line says what that means.
---failures says all faults once more at the end, on standard error."#;
+Reports go to standard output. Why there is none goes to standard error, as a
+line such as 'plan: P8 node 2', and a second one that says what that means,
+unless --brief is given."#;

@@ -5,12 +5,14 @@ ghost use Rattle.ext_plan_reading.specs.Plans.{plan_view};
 ghost use Rattle.ext_plan_reading.specs.ReadPlans.{IsReadPlan, ids_of_nodes};
 ghost use Rattle.extrun.specs.Tasks.{IsPlanOutcome, IsRunOutcome};
 
+use crate::color::is_dumb;
 use crate::command::Asides;
 use crate::durations::{Durations, tell_durations};
-use crate::failing::tell_failures;
-use crate::page::Course;
+use crate::failing::{is_json, tell_failures};
+use crate::page::{Course, has_locks};
 use crate::progress::{Progress, run_beside};
 use crate::report_files::ReportFiles;
+use crate::times::TestTimes;
 use ext_model::Fault;
 use ext_run::{
     Failures, FaultOrigin, NodeResult, Options, Plan, PlanRun, RunFault, RunListener, Summary,
@@ -18,14 +20,14 @@ use ext_run::{
 };
 use std::alloc::AllocError;
 use std::io::Write;
-use std::rt::Files;
+use std::rt::{Env, Files};
 use std::sync::Wait;
 use std::thread::Threads;
 use std::time::Clock;
 
 /// Runs a plan by the contract of `ext_run::run_plan`, and writes its report to files, too. It says
 /// beside it on standard error what is asked for: while it lasts how far it is, and at the end how
-/// long its slowest tests took, and then the faults of its nodes.
+/// long its slowest tests took, unless the report is JSON, and then the faults of its nodes.
 ///
 /// Refused like `run_plan`, and as `Memory` if memory for what is kept of the run is refused.
 /// `reports` keeps whether a file was not written.
@@ -38,7 +40,7 @@ pub(crate) fn run_with_asides<'a, R, W: Write>(
     reports: &mut ReportFiles<'_>,
 ) -> Result<Summary, RunFault>
 where
-    R: Threads + Wait + Sync + Clock + Files + AllocGlobal + Eprint,
+    R: Threads + Wait + Sync + Clock + Env + Files + AllocGlobal + Eprint,
     requires lanes { options.plain ≡ false → (1 ≤ options.lanes) × (options.lanes ≤ 16) }
     requires plan { IsReadPlan (plan_view plan.now) }
     ensures { IsRunOutcome options (Ok (plan_view plan.now)) result (Appends (W.contents writer.old) (W.contents writer.new)) }
@@ -97,7 +99,10 @@ impl<'a, R: Wait + Clock + AllocGlobal + Eprint> Listener<'a, R> {
         asides: Asides,
         for_files: bool,
         for_page: bool,
-    ) -> Result<Listener<'a, R>, AllocError> {
+    ) -> Result<Listener<'a, R>, AllocError>
+    where
+        R: Env,
+    {
         let mut listener = Listener {
             rt,
             progress: None,
@@ -105,7 +110,8 @@ impl<'a, R: Wait + Clock + AllocGlobal + Eprint> Listener<'a, R> {
             failures: None,
         };
         if asides.progress {
-            listener.progress = Some(Progress::new(rt, plan, asides.for_terminal)?);
+            let progress = Progress::new(rt, plan, asides.for_terminal, !is_dumb(rt))?;
+            listener.progress = Some(progress);
         }
         if asides.durations || for_files {
             listener.durations = Some(Durations::new(rt, plan.nodes.len())?);
@@ -136,13 +142,13 @@ impl<'a, R: Wait + Clock + AllocGlobal + Eprint> Listener<'a, R> {
             ..
         } = self;
         let (tree, for_terminal) = (plan.tree(), asides.for_terminal);
-        let mut attempts = Vec::new(rt.alloc());
+        let mut times = TestTimes::new(rt.alloc());
         if let Some(durations) = durations {
             let (extras, of_tests) = durations.into_parts();
-            attempts = of_tests;
+            times = of_tests;
             let extras = extras.as_slice();
             reports.write(rt, tree, results, extras);
-            if asides.durations {
+            if asides.durations && !is_json(options.form) {
                 tell_durations(rt, tree, results, extras, for_terminal);
             }
         }
@@ -153,7 +159,8 @@ impl<'a, R: Wait + Clock + AllocGlobal + Eprint> Listener<'a, R> {
             }
             let course = Course {
                 lanes: if options.plain { 1 } else { options.lanes },
-                attempts,
+                may_wait: !options.plain && has_locks(plan),
+                times,
                 faults,
             };
             reports.write_page(rt, tree, results, course);

@@ -1,17 +1,30 @@
 //! The page of a run.
 ghost use Rattle.std.specs.Prelude.{◌<◌, All, length};
 
+use crate::times::TestTimes;
 use ext_page::{Attempt, FaultRow, PlacedNodes, RunData, RunHead, page_of};
-use ext_run::{FaultOrigin, Kind, NodeFault, NodeResult, ReportedFaults, Tree};
+use ext_run::{FaultOrigin, Kind, NodeFault, NodeResult, Plan, ReportedFaults, Tree};
 use std::alloc::{AllocError, Global};
 
 /// What is known of a run beside its results.
 #[derive(Drop)]
 pub(crate) struct Course {
     pub(crate) lanes: usize,
+    /// Whether a test may have waited for locks.
+    pub(crate) may_wait: bool,
     /// When each test ran.
-    pub(crate) attempts: Vec<Attempt>,
+    pub(crate) times: TestTimes,
     pub(crate) faults: ReportedFaults,
+}
+
+/// Whether a test of a plan holds locks, or is alone.
+pub(crate) fn has_locks(plan: &Plan) -> bool {
+    for node in plan.nodes.as_slice() {
+        if node.isolated || !node.locks.is_empty() {
+            return true;
+        }
+    }
+    false
 }
 
 /// The page of a run of the plan of this name. Each node of a plan has a result.
@@ -25,28 +38,37 @@ pub(crate) fn page_text(
     requires { All (λ r. r.node < length tree.now) results.now }
 {
     let placed = PlacedNodes::of(alloc, tree, results)?;
-    let note = if course.faults.lost {
-        Some(String::from_str(alloc, "further faults were lost: no memory")?)
-    } else {
-        None
-    };
+    let has_lost = course.faults.lost || course.times.lost;
+    let note = note_of(alloc, has_lost, course.may_wait)?;
+    let attempts = course.times.attempts;
     let run = RunData {
         head: RunHead {
             name: String::from_str(alloc, name)?,
-            begun: None,
-            wall: end_of(course.attempts.as_slice()),
+            wall: end_of(attempts.as_slice()),
             lanes: course.lanes,
-            command: None,
             note,
         },
         locks: Vec::new(alloc),
         nodes: placed.nodes,
-        attempts: course.attempts,
+        attempts,
         faults: fault_rows(alloc, course.faults.faults)?,
         waits: Vec::new(alloc),
         values: Vec::new(alloc),
     };
     page_of(alloc, &run)
+}
+
+/// What is said of a run in its page's head, if there is something.
+fn note_of(alloc: Global, has_lost: bool, may_wait: bool) -> Result<Option<String>, AllocError> {
+    let of_locks = "the bar of a test also has the time in which it waited for its locks";
+    let of_lost = "there was no memory for all that is shown here";
+    let note = match (has_lost, may_wait) {
+        (true, true) => format!(in alloc; "{of_lost}; {of_locks}")?,
+        (true, false) => String::from_str(alloc, of_lost)?,
+        (false, true) => String::from_str(alloc, of_locks)?,
+        (false, false) => return Ok(None),
+    };
+    Ok(Some(note))
 }
 
 /// When the last test ended.

@@ -8,6 +8,7 @@ ghost use Rattle.ext_run.specs.Reports.{plan_of_input};
 ghost use Rattle.extrun.specs.Tasks.{AppendsFor, IsDone, IsOneDone, IsRequestDone, IsRunOutcome, IsUndone, IsUndoneRequest, IsUnreadRequest, is_for_people, request_outcome};
 
 use crate::command::{Asides, Task};
+use crate::failing::is_json;
 use crate::listener::run_with_asides;
 use crate::refusing::{explain_fault, tell_faults};
 use crate::report_files::ReportFiles;
@@ -21,32 +22,30 @@ use ext_run::{
 use std::alloc::Global;
 use std::fs;
 use std::io::{Input, Read, Write};
-use std::rt::Files;
+use std::rt::{Env, Files};
 use std::sync::Wait;
 use std::thread::Threads;
 use std::time::{Clock, Instant};
 
-/// Reads the whole plan from this file, or from standard input if there is none or it is `-`, and
-/// then does the task. Prints why if it was not done. `reports` keeps whether the report of a run was
-/// not written to a file.
+/// Reads the whole plan from this file, or from standard input if there is none, and then does the
+/// task. Prints why if it was not done, unless standard output did not take the report. `reports`
+/// keeps whether the report of a run was not written to a file.
 pub(crate) fn outcome_of_source<R, W>(
     rt: &R,
     writer: &mut W,
     task: Task,
-    file: &Option<String>,
+    file: Option<&str>,
     reports: &mut ReportFiles<'_>,
     explained: bool,
 ) -> Result<Summary, RequestFault>
 where
-    R: Threads + Wait + Sync + Clock + Files + AllocGlobal + Input + Eprint,
+    R: Threads + Wait + Sync + Clock + Env + Files + AllocGlobal + Input + Eprint,
     W: Write,
     ensures { IsRequestDone task result (AppendsFor task (W.contents writer.old) (W.contents writer.new)) }
 {
     let input = match file {
-        Some(name) if name.as_str() != "-" => {
-            input_of_file(rt, name.as_str(), task.size(), explained)
-        }
-        _ => {
+        Some(name) => input_of_file(rt, name, task.size(), explained),
+        None => {
             let source = Source::StandardInput;
             input_of(rt, &mut rt.reader(), source, task.size(), explained)
         }
@@ -109,7 +108,7 @@ fn outcome_of_plan<R, W>(
     explained: bool,
 ) -> Result<Summary, RequestFault>
 where
-    R: Threads + Wait + Sync + Clock + Files + AllocGlobal + Eprint,
+    R: Threads + Wait + Sync + Clock + Env + Files + AllocGlobal + Eprint,
     W: Write,
     ensures done { IfOk result (λ summary. IsDone task input.now summary (AppendsFor task (W.contents writer.old) (W.contents writer.new))) }
     ensures one_report { IfOk result (λ summary. IsOneDone task input.now summary (AppendsFor task (W.contents writer.old) (W.contents writer.new))) }
@@ -142,6 +141,14 @@ fn printed_done<R: AllocGlobal + Eprint>(
         explain_outcome(rt, input, task.size(), outcome);
     }
     outcome
+}
+
+/// Tests whether this is a run that says how far it is.
+pub(crate) fn tells_progress(task: Task) -> bool {
+    match task {
+        Task::Run { asides, .. } => asides.progress,
+        _ => false,
+    }
 }
 
 /// Tests whether this is a run whose report is for people at a terminal.
@@ -212,7 +219,7 @@ fn outcome_of_task<R, W: Write>(
     explained: bool,
 ) -> Result<Summary, RunFault>
 where
-    R: Threads + Wait + Sync + Clock + Files + AllocGlobal + Eprint,
+    R: Threads + Wait + Sync + Clock + Env + Files + AllocGlobal + Eprint,
     ensures done { IfOk result (λ summary. IsDone task input.now summary (Appends (W.contents writer.old) (W.contents writer.new))) }
     ensures one_report { IfOk result (λ summary. IsOneDone task input.now summary (Appends (W.contents writer.old) (W.contents writer.new))) }
     ensures refused { IfErr result (λ fault. IsUndone task input.now fault) }
@@ -263,7 +270,7 @@ fn in_range(options: Options) -> Options
 }
 
 /// Runs the plan in these bytes, and says beside it what is asked for. If the run failed and that is
-/// to be explained, prints why keys have no place.
+/// to be explained, prints why keys have no place, unless the report is JSON.
 fn run_input<R, W: Write>(
     rt: &R,
     input: &[u8],
@@ -274,7 +281,7 @@ fn run_input<R, W: Write>(
     explained: bool,
 ) -> Result<Summary, RunFault>
 where
-    R: Threads + Wait + Sync + Clock + Files + AllocGlobal + Eprint,
+    R: Threads + Wait + Sync + Clock + Env + Files + AllocGlobal + Eprint,
     requires lanes { options.plain ≡ false → (1 ≤ options.lanes) × (options.lanes ≤ 16) }
     ensures { IsRunOutcome options (plan_of_input options.size input.now) result (Appends (W.contents writer.old) (W.contents writer.new)) }
 {
@@ -284,6 +291,7 @@ where
     };
     let outcome = run_with_asides(rt, &plan, writer, options, asides, reports);
     if explained
+        && !is_json(options.form)
         && let Ok(summary) = outcome
         && summary.failed
     {

@@ -24,7 +24,8 @@ const INTERVAL: u64 = 1_000;
 /// Once a second, a thread of its own prints a line with the number of nodes that have ended and
 /// the nodes that run, if a node started or ended since the line before. So the last line of a run
 /// that hangs names what hangs, and a run of less than a second has no line. A container is named
-/// if no node below it runs, and a test also while it waits for its locks.
+/// if no node below it runs, and a test also while it waits for its locks. At a terminal each line
+/// takes the place of the one before, and there is none once all nodes have ended.
 ///
 /// If the clock cannot be read or a thread cannot be created, nothing is printed, and a line for
 /// which there is no memory is left out.
@@ -64,6 +65,8 @@ pub(crate) struct Progress<'a, R> {
     over: Condvar,
     /// Whether standard error is a terminal.
     for_terminal: bool,
+    /// Whether it can move to the line before and erase it.
+    rewrites: bool,
 }
 
 /// What the lock of a run's progress guards.
@@ -72,20 +75,25 @@ struct State {
     running: Running,
     /// Whether a node has started or ended since the last line.
     is_new: bool,
+    /// Whether there was a line.
+    is_told: bool,
     is_over: bool,
 }
 
 impl<'a, R: Wait + Clock + AllocGlobal + Eprint> Progress<'a, R> {
-    /// The progress of a run of this plan that has not begun. Takes memory.
+    /// The progress of a run of this plan that has not begun, told to a terminal or not, which can
+    /// erase lines or not. Takes memory.
     pub(crate) fn new(
         rt: &'a R,
         plan: &Plan,
         for_terminal: bool,
+        rewrites: bool,
     ) -> Result<Progress<'a, R>, AllocError> {
         let ids = ids_of(rt.alloc(), plan.nodes.as_slice())?;
         let state = State {
             running: Running::new(rt.alloc(), ids)?,
             is_new: false,
+            is_told: false,
             is_over: false,
         };
         Ok(Progress {
@@ -93,6 +101,7 @@ impl<'a, R: Wait + Clock + AllocGlobal + Eprint> Progress<'a, R> {
             state: Mutex::new(state),
             over: Condvar::new(),
             for_terminal,
+            rewrites: for_terminal && rewrites,
         })
     }
 
@@ -112,9 +121,7 @@ impl<'a, R: Wait + Clock + AllocGlobal + Eprint> Progress<'a, R> {
             if self.is_over_soon() {
                 return;
             }
-            if let Some(line) = self.news() {
-                let _ = eprintln!(self.rt; "{}", line.as_str());
-            }
+            self.tell_news();
         }
     }
 
@@ -128,15 +135,31 @@ impl<'a, R: Wait + Clock + AllocGlobal + Eprint> Progress<'a, R> {
         state.is_over
     }
 
-    /// The next line, if a node has started or ended since the one before.
-    fn news(&self) -> Option<String> {
+    /// Prints the next line, if a node has started or ended since the one before. What erases that
+    /// one could erase a line of the report, which comes when all nodes have ended. So then there is
+    /// none, and the lock is held until the line is there: without it no node ends.
+    fn tell_news(&self) {
         let mut state = self.state.lock(self.rt);
-        if !state.is_new {
-            return None;
+        if !state.is_new || (self.rewrites && !state.running.is_any()) {
+            return;
         }
         state.is_new = false;
-        let line = state.running.line(self.rt.alloc()).ok()?;
-        shown_text(self.rt.alloc(), line, self.for_terminal).ok()
+        if let Ok(line) = state.running.line(self.rt.alloc())
+            && let Ok(line) = shown_text(self.rt.alloc(), line, self.for_terminal)
+        {
+            self.print(line.as_str(), state.is_told);
+            state.is_told = true;
+        }
+    }
+
+    /// Prints a line, in place of the one before if there is one that can be erased. The terminal is
+    /// told not to break the line, since it would erase its last part alone.
+    fn print(&self, line: &str, is_told: bool) {
+        let _ = match (self.rewrites, is_told) {
+            (false, _) => eprintln!(self.rt; "{line}"),
+            (true, false) => eprintln!(self.rt; "\x1b[?7l{line}\x1b[?7h"),
+            (true, true) => eprintln!(self.rt; "\x1b[A\r\x1b[K\x1b[?7l{line}\x1b[?7h"),
+        };
     }
 }
 

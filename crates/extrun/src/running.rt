@@ -58,6 +58,11 @@ impl Running {
         }
     }
 
+    /// Tests whether a node runs.
+    pub(crate) fn is_any(&self) -> bool {
+        self.lanes.iter().any(|lane| lane.is_some())
+    }
+
     /// The line of this progress. Takes memory.
     pub(crate) fn line(&self, alloc: Global) -> Result<String, AllocError> {
         let running = self.innermost(alloc)?;

@@ -11,13 +11,15 @@ use std::io::{self, ErrorKind, Write};
 /// A writer of texts. If it is for a terminal, it holds what it is given until it is flushed, and
 /// then passes it on with each control character but line feeds escaped, so that no text gives an
 /// order to the terminal. That takes memory; if it is refused, or the text is not UTF-8, the write
-/// fails. Otherwise it passes on what it is given, at once and as it is.
+/// fails. Otherwise it passes on what it is given, at once and as it is, and keeps whether that was
+/// refused since nobody reads the pipe any more.
 #[derive(Drop)]
 pub(crate) struct Screen<W> {
     alloc: Global,
     writer: W,
     held: Vec<u8>,
     for_terminal: bool,
+    is_broken: bool,
 }
 
 impl<W> Screen<W> {
@@ -28,7 +30,13 @@ impl<W> Screen<W> {
             writer,
             held: Vec::new(alloc),
             for_terminal,
+            is_broken: false,
         }
+    }
+
+    /// Tests whether a write failed since nobody reads the pipe any more.
+    pub(crate) fn is_broken(&self) -> bool {
+        self.is_broken
     }
 }
 
@@ -42,7 +50,13 @@ impl<W: Write> Write for Screen<W> {
         if self.for_terminal {
             return self.held.write(bytes);
         }
-        self.writer.write(bytes)
+        match self.writer.write(bytes) {
+            Ok(count) => Ok(count),
+            Err(cause) => {
+                self.is_broken = is_broken_pipe(&cause);
+                Err(cause)
+            }
+        }
     }
 
     fn flush(&mut self) -> io::Result<()> {
@@ -52,6 +66,11 @@ impl<W: Write> Write for Screen<W> {
         }
         self.writer.flush()
     }
+}
+
+/// Tests whether a write failed since nobody reads the pipe any more.
+pub(crate) fn is_broken_pipe(cause: &io::Error) -> bool {
+    cause.kind() == ErrorKind::BrokenPipe
 }
 
 /// Writes lines with each control character escaped but their line feeds.

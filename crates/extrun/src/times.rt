@@ -19,6 +19,16 @@ pub(crate) struct Times {
     begun: Option<Instant>,
     /// The tests that ran.
     attempts: Vec<Attempt>,
+    /// Whether one of them was lost for want of memory.
+    lost: bool,
+}
+
+/// When the tests of a run ran.
+#[derive(Drop)]
+pub(crate) struct TestTimes {
+    pub(crate) attempts: Vec<Attempt>,
+    /// Whether one was lost for want of memory.
+    pub(crate) lost: bool,
 }
 
 impl Times {
@@ -38,6 +48,7 @@ impl Times {
             extras,
             begun: None,
             attempts: Vec::new(alloc),
+            lost: false,
         })
     }
 
@@ -66,21 +77,38 @@ impl Times {
         }
     }
 
-    /// Notes when a test ran, if there is memory for it.
+    /// Notes when a test ran, if there is memory for it. It begins where its locks are asked for.
     fn note(&mut self, ran: &NodeResult, lane: usize, started: Instant, now: Instant) {
         let begun = self.begun.unwrap_or(started);
-        let _ = self.attempts.push(Attempt {
+        let kept = self.attempts.push(Attempt {
             node: ran.node,
             lane,
             begun: micros(begun, started),
             ended: micros(begun, now),
             status: ran.status,
         });
+        self.lost |= kept.is_err();
     }
 
     /// How long each node took, in the order of the plan, and when each test ran.
-    pub(crate) fn into_parts(self) -> (Vec<Extra>, Vec<Attempt>) {
-        (self.extras, self.attempts)
+    pub(crate) fn into_parts(self) -> (Vec<Extra>, TestTimes) {
+        let Times {
+            extras,
+            attempts,
+            lost,
+            ..
+        } = self;
+        (extras, TestTimes { attempts, lost })
+    }
+}
+
+impl TestTimes {
+    /// No test ran.
+    pub(crate) fn new(alloc: Global) -> TestTimes {
+        TestTimes {
+            attempts: Vec::new(alloc),
+            lost: false,
+        }
     }
 }
 

@@ -51,7 +51,7 @@ fn too_long(size: Size) -> &'static str {
     }
 }
 
-/// Prints why a plan that was read was not run, or not reported, if the plan is not at fault.
+/// Prints why a plan that was read was not run, if the plan is not at fault.
 pub(crate) fn explain_undone(rt: &impl Eprint, fault: RunFault) {
     if let Some(why) = why_undone(fault) {
         let _ = eprintln!(rt; "{why}");
@@ -60,7 +60,6 @@ pub(crate) fn explain_undone(rt: &impl Eprint, fault: RunFault) {
 
 fn why_undone(fault: RunFault) -> Option<&'static str> {
     match fault {
-        RunFault::Write => Some("the report: standard output did not take all of it"),
         RunFault::Engine(EngineFault::Memory) => {
             Some("the run: memory was refused for its store or its locks")
         }
@@ -69,6 +68,6 @@ fn why_undone(fault: RunFault) -> Option<&'static str> {
             Some("the run: a context could not be closed, since no lane knew one of its values")
         }
         RunFault::Memory => Some("the run: memory was refused"),
-        RunFault::Read | RunFault::TooLong | RunFault::Plan(_) => None,
+        RunFault::Read | RunFault::Write | RunFault::TooLong | RunFault::Plan(_) => None,
     }
 }

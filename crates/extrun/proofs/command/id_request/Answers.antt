@@ -22,10 +22,8 @@ returns g c =
     ∙ ap (λ all. unwrap_or all []) (c.get_strs.ensures ∙ raw_values-rows found (codes "TEXT")) in
     IfOk-weaker c.request_of_texts.result _ _ (λ request asks. record {
       make = c.is_set-make.result;
-      explain = c.is_set-explain.result;
       brief = c.is_set-brief.result;
       making = subst (λ text. IsFlag text c.is_set-make.result) (one_text-rows found (codes "make")) c.is_set-make.ensures;
-      explained = subst (λ text. IsFlag text c.is_set-explain.result) (one_text-rows found (codes "explain")) c.is_set-explain.ensures;
       short = subst (λ text. IsFlag text c.is_set-brief.result) (one_text-rows found (codes "brief")) c.is_set-brief.ensures;
-      asks = subst (λ all. AsksOfTexts c.is_set-make.result c.is_set-explain.result c.is_set-brief.result all request) texts asks;
+      asks = subst (λ all. AsksOfTexts c.is_set-make.result c.is_set-brief.result all request) texts asks;
     }) c.request_of_texts.ensures

@@ -7,4 +7,4 @@ use Rattle.extrun.proofs.command.plan_request.Goals as goal
 pub returns : goal.returns
 returns c =
     let found = found_of c.args.words.now in
-    ((refl, refl), subst (λ text. IsFlag text c.is_set.result) (one_text-rows found (codes "explain")) c.is_set.ensures, subst (λ text. IsFlag text c.is_set-2.result) (one_text-rows found (codes "brief")) c.is_set-2.ensures)
+    ((refl, refl), subst (λ text. IsFlag text c.is_set.result) (one_text-rows found (codes "brief")) c.is_set.ensures)

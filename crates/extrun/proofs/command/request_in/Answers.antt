@@ -17,8 +17,8 @@ returns-in-Ok g c =
 
 pub returns-in-Err-2 : goal.returns-in-Err-2
 returns-in-Err-2 g c =
-    record {
+    IfOk-weaker c.refused.result _ _ (λ request asks. record {
       line = app_of c.in_ok-program.field-0;
       line_is = c.in_ok-program.ensures;
-      asks = inr (c.refused.ensures, λ takes. let memory = c.in-Err.ensures.passes takes in search rules);
-    }
+      asks = inr (asks, λ takes. let memory = c.in-Err.ensures.passes takes in search rules);
+    }) c.refused.ensures
