@@ -9,8 +9,8 @@ use ext_model::CellNo;
 /// What a block's end sets in its word.
 pub(crate) const END: u64 = 1;
 
-/// How far behind the cells the words of blocks begin: the count of numbers stands before them, on
-/// a line of the cache of its own, so that who draws a number slows no look-up.
+/// How far behind the cells the words of blocks begin. The count of numbers stands right behind the
+/// cells, and so on another line of the cache than these words, which each look-up reads.
 pub(crate) const TO_BLOCKS: usize = 16;
 
 /// The word of a cell that its block's end sealed.

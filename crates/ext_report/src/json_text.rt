@@ -8,7 +8,7 @@ use json::Writer;
 use std::alloc::{AllocError, Global};
 
 /// What was written, as a text that gives no order to a terminal: U+007F to U+009F, and the
-/// characters that turn the direction of a text, are escaped, as `\u009b`.
+/// characters that turn the direction of a text, are escaped, as `\u009b`. The writer began empty.
 ///
 /// Takes memory for the text, and fails with `AllocError` only if that is refused. An own rule.
 pub fn printed_json(alloc: Global, writer: Writer) -> Result<String, AllocError>
