@@ -10,19 +10,19 @@ use Rattle.atomic_table.specs.Table.{State, Me, step, keeps, stepped, Allows, Va
 use Rattle.atomic_table.proofs.Lists.{exchanged}
 use Rattle.ext_model.specs.declared.event.Act.{Act}
 use Rattle.ext_model.specs.Closing.{IsSealedUnused}
-use Rattle.ext_model.specs.History.{History, IsLegal}
+use Rattle.ext_model.specs.History.{History, state_after, IsLegal}
 use Rattle.ext_cells.specs.declared.limits.CellLimits.{CellLimits}
 use Rattle.ext_cells.specs.declared.view.View.{View}
 use Rattle.ext_cells.specs.Standings.{Standing, At, Open, Ended, ended_word, IsCellAt, MayEnd, seals}
 use Rattle.ext_cells.specs.InnerLayouts.{Layout, IsLayout, IsMarking, IsEnding}
 use Rattle.ext_cells.specs.InnerViews.{limits_of, shown, led, sought}
 use Rattle.ext_cells.specs.InnerRule.{Fits, Kept}
-use Rattle.ext_cells.specs.InnerTableSteps.{IsWordAt, Shows, LedTo, Led, SoughtBy, Sought, Marked, EndOf, EndedBy}
+use Rattle.ext_cells.specs.InnerTableSteps.{Counts, IsWordAt, Shows, LedTo, Led, SoughtBy, Sought, Marked, EndOf, EndedBy}
 use Rattle.ext_cells.proofs.SealsAtOnce.{slots_elsewhere, versions_elsewhere, drawn_stays, end_legal, end_seals, end_others}
 use Rattle.ext_cells.proofs.Standings as standing
 use Rattle.ext_cells.proofs.Known.{word_told, found}
 use Rattle.ext_cells.proofs.Passing.{not_both}
-use Rattle.ext_cells.proofs.Going.{Keeps, Follows, fits_shown, fits_stays, fits_led, fits_sought, goes_on, looks}
+use Rattle.ext_cells.proofs.Going.{Keeps, Follows, fits_shown, fits_stays, fits_led, fits_sought, shown_draws, goes_on, looks}
 use Rattle.ext_cells.proofs.WordSteps.{one_lane, shows}
 
 -- ---- a block's word
@@ -45,7 +45,7 @@ module _ (limits : CellLimits) (l : Layout) (lay : IsLayout (limits_of limits) l
 
   led_here : (there : ℕ) → l.stands s.words cell ≡ At there → Kept limits l (record { words = set s.words index block; homes = s.homes; views = set s.views id (led me.0 cell there) })
   led_here there is =
-      looks limits l s k id me.0 (led me.0 cell there) at refl refl index (fits_led limits l s.words k.history me.0 cell there (k.fits id me.0 at) (record { within = less; stands = is }))
+      looks limits l s k id me.0 (led me.0 cell there) at refl refl (omega arith) index (fits_led limits l s.words k.history me.0 cell there (k.fits id me.0 at) (record { within = less; stands = is }))
 
   lead : (is : Standing) → l.stands s.words cell ≡ is → Looks (λ after. (standing : Standing) → l.tells index block cell ≡ Some standing → LedTo cell standing me after)
   lead (At there) e = (
@@ -84,7 +84,7 @@ module _ (limits : CellLimits) (l : Layout) (lay : IsLayout (limits_of limits) l
     sought me.0 index block,
     keeps,
     tt,
-    looks limits l s k id me.0 (sought me.0 index block) at refl refl index (fits_sought limits l s.words k.history me.0 index (k.fits id me.0 at)),
+    looks limits l s k id me.0 (sought me.0 index block) at refl refl (omega arith) index (fits_sought limits l s.words k.history me.0 index (k.fits id me.0 at)),
     λ standing told. subst (λ x. SoughtBy cell x index block me (sought me.0 index block, me.1)) (truly Open standing e told) refl,
   )
   seek Ended e = (
@@ -141,12 +141,13 @@ module _ (limits : CellLimits) (l : Layout) (lay : IsLayout (limits_of limits) l
     sound = p.sound;
     are = standing.marked (limits_of limits) (l.stands s.words) (l.stands marked_words) k.history s.words marked_words cell p.index_is k.cells_are less open_is p.stands (beside p.index_is p.within.1 ∙ p.empty) p.free p.others
         (λ other at within is. beside at (lay.indices s.words other at k.sound within is).1);
-    count = beside l.count lay.count_is.1 ∙ k.count_is;
+    same = beside l.count lay.count_is.1;
+    count = subst (λ n. Counts limits.numbers n (state_after k.history).drawn) (sym (beside l.count lay.count_is.1)) k.count_is;
   }
 
   marked_here : (id : ℕ) (v : View) → get_elem? s.views id ≡ some v → Kept limits l (record { words = marked_words; homes = s.homes; views = set s.views id (led v cell p.index_is) })
   marked_here id v at = let on = marking_keeps in
-      goes_on limits l s k id v (led v cell p.index_is) at refl refl k.history (prefix_refl k.history) k.legal (λ n _. refl) marked_words on.follows on.wide on.sound on.are on.count
+      goes_on limits l s k id v (led v cell p.index_is) at refl refl (omega arith) k.history (prefix_refl k.history) k.legal (λ n _. refl) marked_words on
       (fits_led limits l marked_words k.history v cell p.index_is (fits_stays limits l s.words marked_words k.history v on.follows (k.fits id v at)) (record { within = less; stands = p.stands }))
 
 pub sets_mark : (limits : CellLimits) (l : Layout) (slots id : ℕ) (me : Me (Act ℕ) View) (cell index old lane : ℕ) → IsLayout (limits_of limits) l → me.0.lane ≡ Some lane → cell < me.0.limits.cells
@@ -217,7 +218,8 @@ module _ (limits : CellLimits) (l : Layout) (lay : IsLayout (limits_of limits) l
     sound = p.sound;
     are = standing.ended (limits_of limits) (l.stands s.words) (l.stands ended_words) k.history s.words ended_words lane p.cells k.cells_are may_end p.each
         (λ cell at within is. apart_from at (lay.indices s.words cell at k.sound within is).1);
-    count = apart_from l.count lay.count_is.1 ∙ k.count_is ∙ sym (drawn_stays k.history lane p.cells);
+    same = apart_from l.count lay.count_is.1;
+    count = subst (λ (t : ℕ × ℕ). Counts limits.numbers t.0 t.1) (λ i. (sym (apart_from l.count lay.count_is.1) i, sym (drawn_stays k.history lane p.cells) i)) k.count_is;
   }
 
   -- each cell that the block's word told to have no word has ended then
@@ -245,9 +247,9 @@ ends limits l slots id me index operand lane lay mine block fits s k _ at _ =
       shown v h,
       keeps,
       tt,
-      goes_on limits l s k id v (shown v h) at refl refl h (seals lane p.cells, refl) (end_legal (limits_of limits) k.history lane p.cells k.legal below may)
+      goes_on limits l s k id v (shown v h) at refl refl (shown_draws v k.history h f.seen_is (seals lane p.cells, refl)) h (seals lane p.cells, refl) (end_legal (limits_of limits) k.history lane p.cells k.legal below may)
           (λ j other. end_others k.history lane j p.cells (λ is. other (mine ∙ ap Some (sym is))))
-          (set s.words index new) on.follows on.wide on.sound on.are on.count
+          (set s.words index new) on
           (fits_shown limits l s.words (set s.words index new) k.history v on.follows f h),
       λ other is. subst (λ m. EndOf l me (shown v h, me.1) m index n) (one_lane mine is) (record {
         history = k.history;

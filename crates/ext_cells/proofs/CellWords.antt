@@ -17,7 +17,7 @@ use Rattle.ext_history.proofs.Legal.{legal_induct}
 use Rattle.ext_history.proofs.Lists.{contains_none}
 use Rattle.ext_model.proofs.Numbers.{bounded}
 use Rattle.ext_model.proofs.Claims.{claim_can_end, can_be_sealed}
-use Rattle.ext_model.proofs.Words.{after-push, word-event, drawn-push}
+use Rattle.ext_model.proofs.Words.{after-push, word-event}
 use Rattle.ext_cells.specs.declared.cell_state.CellState.TheVariants.{Sealed}
 use Rattle.ext_cells.specs.WordChanges.{code}
 use Rattle.ext_cells.specs.InnerTableSteps.{IsWordAt}
@@ -112,11 +112,4 @@ pub word_after : (limits : Limits) (h : History) (lane : ℕ) (act : Act ℕ) (c
 word_after limits h lane act cell next on within is = record {
   cell = λ less. is ∙ sym (word-event h (by lane act) cell (ap (is_at nat_eq cell) on ∙ on_same cell));
   count = λ last. absurd (omega (arith, within, last));
-}
-
--- the count, where a number is drawn
-pub count_after : (limits : Limits) (h : History) (lane number count : ℕ) → IsWordAt limits h limits.cells count → IsWordAt limits (h ++ by lane (Keep number) ∷ []) limits.cells (count + 1)
-count_after limits h lane number count at = record {
-  cell = λ less. absurd (omega (arith, less));
-  count = λ last. ap (λ k. k + 1) (at.count last) ∙ sym (drawn-push h (by lane (Keep number)));
 }

@@ -42,10 +42,10 @@ from_one h number legal there =
     let most = b.drawn in
     (kept_least h legal drew.0 number drew.1, omega (arith, below, most))
 
-same_number : (x y : ℕ) → nat_eq x y ≡ true → x ≡ y
+pub same_number : (x y : ℕ) → nat_eq x y ≡ true → x ≡ y
 same_number x y e = grind (arith, nat_tests)
 
-absent : (xs : List ℕ) (n : ℕ) (b : Bool) → list_any (nat_eq n) xs ≡ b → ¬ (Contains xs n) → b ≡ false
+pub absent : (xs : List ℕ) (n : ℕ) (b : Bool) → list_any (nat_eq n) xs ≡ b → ¬ (Contains xs n) → b ≡ false
 absent xs n true is none = absurd (none (Contains-from_any same_number n xs is))
 absent xs n false is none = refl
 

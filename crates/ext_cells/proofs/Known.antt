@@ -14,13 +14,8 @@ use Rattle.ext_cells.specs.Standings.{Standing, At, ended_word, AreCellsOf, told
 use Rattle.ext_cells.specs.InnerLayouts.{Layout}
 use Rattle.ext_cells.specs.InnerViews.{limits_of}
 use Rattle.ext_cells.specs.InnerRule.{StandsAt, Fits, Kept}
-use Rattle.ext_cells.specs.InnerTableSteps.{IsWordAt, FoundBy, OnlyAt, IsKnown, by_count, by_index, by_use}
+use Rattle.ext_cells.specs.InnerTableSteps.{IsWordAt, FoundBy, OnlyAt, IsKnown, by_index, by_use}
 use Rattle.ext_cells.proofs.Standings as standing
-
--- where a word is
-pub data IsIndexOf (limits : CellLimits) (l : Layout) (words : List ℕ) (aim index : ℕ) : Type 0 where
-  the_count : aim ≡ limits.cells → index ≡ l.count → IsIndexOf limits l words aim index
-  a_cell : StandsAt limits l words aim index → IsIndexOf limits l words aim index
 
 -- a cell that was used stands at its only index
 used_index : (limits : CellLimits) (l : Layout) (words : List ℕ) (h : History) (fronts : List History) (aim index : ℕ) → l.sound words ≡ true → AreCellsOf (limits_of limits) (l.stands words) h words
@@ -30,11 +25,10 @@ used_index limits l words h fronts aim index sound are begins only within began 
     record { within = within; stands = at.1 ∙ ap At (only words at.0 sound at.1) }
 
 pub known_index : (limits : CellLimits) (l : Layout) (words : List ℕ) (h : History) (v : View) (lane aim index : ℕ) → l.sound words ≡ true → AreCellsOf (limits_of limits) (l.stands words) h words
-    → Fits limits l words h v → v.lane ≡ Some lane → IsKnown l v aim index → IsIndexOf limits l words aim index
-known_index limits l words h v lane aim index sound are fits mine (by_count e p) = the_count (e ∙ ap (λ (x : CellLimits). x.cells) (fits.limits_are lane mine)) p
-known_index limits l words h v lane aim index sound are fits mine (by_index there) = a_cell (fits.indexed_are aim index there)
+    → Fits limits l words h v → v.lane ≡ Some lane → IsKnown l v aim index → StandsAt limits l words aim index
+known_index limits l words h v lane aim index sound are fits mine (by_index there) = fits.indexed_are aim index there
 known_index limits l words h v lane aim index sound are fits mine (by_use only within began more) =
-    a_cell (used_index limits l words h v.fronts aim index sound are fits.seen_is only (subst (λ (x : CellLimits). aim < x.cells) (fits.limits_are lane mine) within) began more)
+    used_index limits l words h v.fronts aim index sound are fits.seen_is only (subst (λ (x : CellLimits). aim < x.cells) (fits.limits_are lane mine) within) began more
 
 -- a cell's word, by how it stands
 pub word_told : (limits : Limits) (stands : ℕ → Standing) (h : History) (words : List ℕ) (cell : ℕ) (s : Standing) → AreCellsOf limits stands h words → cell < limits.cells → stands cell ≡ s → IsWordAt limits h cell (told_word words s)
@@ -43,12 +37,8 @@ word_told limits stands h words cell s are within is = record {
   count = λ last. absurd (omega (arith, within, last));
 }
 
-pub word_there : (limits : CellLimits) (l : Layout) (s : State (Act ℕ) View) (k : Kept limits l s) (aim index : ℕ) → IsIndexOf limits l s.words aim index → IsWordAt (limits_of limits) k.history aim (get_or s.words index 0)
-word_there limits l s k aim index (the_count e p) = record {
-  cell = λ less. absurd (omega (arith, less, e));
-  count = λ last. ap (λ n. get_or s.words n 0) p ∙ k.count_is;
-}
-word_there limits l s k aim index (a_cell t) = word_told (limits_of limits) (l.stands s.words) k.history s.words aim (At index) k.cells_are t.within t.stands
+pub word_there : (limits : CellLimits) (l : Layout) (s : State (Act ℕ) View) (k : Kept limits l s) (aim index : ℕ) → StandsAt limits l s.words aim index → IsWordAt (limits_of limits) k.history aim (get_or s.words index 0)
+word_there limits l s k aim index t = word_told (limits_of limits) (l.stands s.words) k.history s.words aim (At index) k.cells_are t.within t.stands
 
 pub found : (limits : CellLimits) (l : Layout) (s : State (Act ℕ) View) (k : Kept limits l s) (id aim word : ℕ) (v : View) (lane : ℕ) → v.lane ≡ Some lane → get_elem? s.views id ≡ some v
     → IsWordAt (limits_of limits) k.history aim word → FoundBy v aim word k.history

@@ -1,8 +1,9 @@
 -- A lane as its seat knows it, and as contracts see it.
-use Rattle.std.proofs.Common.{◌≡◌, ℕ, ◌≤◌, ◌<◌, [], ◌∷◌, ◌++◌, sym, refl, subst, Some}
+use Rattle.std.proofs.Common.{◌≡◌, ℕ, ◌+◌, ◌≤◌, ◌<◌, [], ◌∷◌, ◌++◌, sym, refl, subst, Some}
 use mathlib.Core.List.{IsPrefix}
 use Rattle.atomic_table.specs.Seated.{TableId}
 use Rattle.ext_model.specs.declared.event.Act.{Act}
+use Rattle.ext_model.specs.declared.event.Act.TheVariants.{Keep}
 use Rattle.ext_model.specs.History.{History, by, IsLegal}
 use Rattle.ext_history.specs.Histories.{seen, Follow}
 use Rattle.ext_history.proofs.Legal.{legal_push}
@@ -12,7 +13,7 @@ use Rattle.ext_cells.specs.declared.view.View.{View}
 use Rattle.ext_cells.specs.Lanes.{Lane}
 use Rattle.ext_cells.specs.InnerViews.{limits_of, knowing, shown}
 use Rattle.ext_cells.specs.InnerTableSteps.{index_in, FoundBy, MayExchange}
-use Rattle.ext_cells.specs.InnerSteps.{IsShown, Found, Made, stepped, Finds, MayGoOn}
+use Rattle.ext_cells.specs.InnerSteps.{IsShown, Found, Made, stepped, Finds, MayGoOn, Draws}
 
 abbrev pub lane_of : TableId → View → ℕ → Lane
 lane_of table v number = record { cells = record { table = table; limits = limits_of v.limits }; view = record { number = number; fronts = v.fronts } }
@@ -85,3 +86,24 @@ module _ (table table' : TableId) (v w : View) (number index old new word : ℕ)
 
   pub missed_stays : Found v w index word → IsLaneView w number
   missed_stays m = steps_stay v w m.0 number inv m.1.legal m.1.begins m.2
+
+module _ (table table' : TableId) (v w : View) (number : ℕ) (lane : Lane) (is : lane_of table v number ≡ lane) (inv : IsLaneView v number) (same : table' ≡ table) where
+  -- an addition to the count drew a number
+  pub drew_lane : (count : ℕ) → count < v.limits.numbers → Made v w v.limits.cells count (Keep (count + 1)) → Draws lane (lane_of table' w number) (count + 1)
+  drew_lane count less did =
+      let m = did number inv.0 in
+      subst (λ (l : Lane). Draws l (lane_of table' w number) (count + 1)) is (record {
+        count = count;
+        next = refl;
+        left = less;
+        history = m.0;
+        finds = finds_of v number v.limits.cells count m.0 inv.0 m.1;
+        allowed = m.2;
+        after_is = moved_lane table table' v w (m.0 ++ by number (Keep (count + 1)) ∷ []) number same m.3;
+      })
+
+  -- or found that none was left
+  pub full_lane : Found v w v.limits.cells v.limits.numbers → (h : History) × Finds lane.cells.limits lane.view lane.cells.limits.cells lane.cells.limits.numbers h × (lane_of table' w number ≡ stepped lane h)
+  full_lane m =
+      subst (λ (l : Lane). (h : History) × Finds l.cells.limits l.view l.cells.limits.cells l.cells.limits.numbers h × (lane_of table' w number ≡ stepped l h)) is
+      (m.0, finds_of v number v.limits.cells v.limits.numbers m.0 inv.0 m.1, moved_lane table table' v w m.0 number same m.2)

@@ -23,6 +23,7 @@ pub mod Drawing
 pub mod Answered
 pub mod Given
 pub mod Collecting
+pub mod CountSteps
 pub mod Rows
 pub mod Readings
 pub mod Meeting

@@ -1,5 +1,5 @@
 -- Steps on the words of blocks, as marks lay them out.
-use Rattle.std.proofs.Common.{◌≡◌, ◌≢◌, inl, inr, ℕ, ◌<◌, ◌≤◌, eqb, refl, sym, ap, subst, ◌∙◌, arith, Some, true, false, List, [], ◌∷◌, ◌++◌, Bool, Contains}
+use Rattle.std.proofs.Common.{◌≡◌, ◌≢◌, inl, inr, ℕ, ◌<◌, eqb, refl, sym, ap, subst, ◌∙◌, arith, Some, true, false, List, [], ◌∷◌, ◌++◌, Bool, Contains}
 use mathlib.Core.Option.{some, none}
 use prog.Atomic.{either}
 use Rattle.atomic_table.specs.Table.{Me, step, Allows}
@@ -14,7 +14,7 @@ use Rattle.ext_cells.specs.declared.view.View.{View}
 use Rattle.ext_cells.specs.Standings.{Standing, At, Open, Ended, ended_word}
 use Rattle.ext_cells.specs.InnerViews.{limits_of, knowing, led, sought, shown}
 use Rattle.ext_cells.specs.InnerRule.{Kept}
-use Rattle.ext_cells.specs.InnerTableSteps.{IsWordAt, FoundBy, IsKnown, by_count, by_index, by_use, MayExchange, Exchanged, Shows, LedTo, Led, SoughtBy, Sought, Marked, EndedBy}
+use Rattle.ext_cells.specs.InnerTableSteps.{IsWordAt, FoundBy, IsKnown, by_index, by_use, MayExchange, Exchanged, Shows, LedTo, Led, SoughtBy, Sought, Marked, EndedBy}
 use Rattle.ext_cells.specs.InnerMarks.{block_index, is_ended, end_of, has_mark, with_mark, standing_by, standing_in, marks}
 use Rattle.ext_cells.proofs.BlockSteps.{leads, seeks, sets_mark, ends}
 use Rattle.ext_cells.proofs.Marked.{is_layout, only_index, block_tells}
@@ -84,7 +84,7 @@ found_after v u w indexed block least aim word h e f s = (
   record { indexed = indexed; block = block; least = least; is = s ∙ ap (λ z. shown z h) e },
 )
 
-shown_word : (me after : Me (Act ℕ) View) (cell word : ℕ) → Shows cell word me after → Found me.0 after.0 cell word
+pub shown_word : (me after : Me (Act ℕ) View) (cell word : ℕ) → Shows cell word me after → Found me.0 after.0 cell word
 shown_word me after cell word s = (s.0, s.1, is_shown me.0 after.0 s.0 (ap (λ z. z.0) s.2))
 
 module _ (slots known cells index aim cell found : ℕ) (me after : Me (Act ℕ) View) (same : known ≡ cells) (here : index ≡ block_index cells cell) (is : aim ≡ cell) (told : Led (marks known) aim (step slots index 0 0 none) me found after) where
@@ -199,15 +199,6 @@ ready_used v w known cells index old e same less at began more =
       is = e;
       known = subst (λ z. IsKnown (marks known) z index index) (sym e) (by_use (only_index known index) within (λ is. began (word ∙ is)) (λ is. more (word ∙ is)));
     }
-
-pub ready_count : (v w : View) (known cells index : ℕ) → w ≡ v → known ≡ cells → v.limits.cells ≡ cells → index ≤ v.limits.cells → cells ≤ index → Ready v w known index
-ready_count v w known cells index e table same within past = record {
-  indexed = v.indexed;
-  block = v.block;
-  least = v.least;
-  is = e;
-  known = subst (λ z. IsKnown (marks known) z index index) (sym e) (by_count (omega (arith, same, within, past)) (omega (arith, table, same, within, past)));
-}
 
 module _ (v w : View) (cells index : ℕ) (r : Ready v w cells index) where
   pub may_still : (lane : ℕ) (act : Act ℕ) (old new : ℕ) → MayExchange v lane act index old new → MayExchange w lane act index old new

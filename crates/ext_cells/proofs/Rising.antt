@@ -1,5 +1,5 @@
 -- An exchange that met another word than was expected there means an event on that very word.
-use Rattle.std.proofs.Common.{◌≡◌, ◌≢◌, ◌∙◌, ℕ, ◌+◌, ◌≤◌, ◌<◌, [], ◌∷◌, ◌++◌, fold, sym, ap, subst, arith, Option, Some}
+use Rattle.std.proofs.Common.{◌≡◌, ◌≢◌, ◌∙◌, ℕ, ◌+◌, ◌≤◌, ◌<◌, [], ◌∷◌, ◌++◌, fold, sym, subst, arith, Option, Some}
 use Rattle.std.specs.Prelude.{nat_eq}
 use Rattle.ext_model.specs.declared.event.Act.{Act}
 use Rattle.ext_model.specs.declared.event.Act.TheVariants.{Keep, Put, Remove, Claim, Fill, Fail, Abandon, Seal}
@@ -36,6 +36,9 @@ never_falls (e ∷ rest) s =
     let more = never_falls rest (apply nat_eq s e) in
     omega (arith, one, more)
 
+pub draws_on : (g m : History) → (state_after g).drawn ≤ (state_after (g ++ m)).drawn
+draws_on g m = subst (λ (s : State ℕ). (state_after g).drawn ≤ s.drawn) (sym (after-append g m)) (never_falls m (state_after g))
+
 module _ (limits : Limits) (f g m : History) (index word found count : ℕ) (was : IsWordAt limits g index word) (is : IsWordAt limits (g ++ m) index found) (ne : found ≢ word) (r : Rises limits f g index count) where
   at_cell : index < limits.cells → version_of f index + (count + 1) ≤ version_of (g ++ m) index
   at_cell less =
@@ -47,11 +50,10 @@ module _ (limits : Limits) (f g m : History) (index word found count : ℕ) (was
   at_count : index ≡ limits.cells → (state_after f).drawn + (count + 1) ≤ (state_after (g ++ m)).drawn
   at_count last =
       let had = r.drawn last in
-      let grows = never_falls m (state_after g) in
-      let same : (state_after (g ++ m)).drawn ≡ (fold (apply nat_eq) (state_after g) m).drawn = ap (λ (s : State ℕ). s.drawn) (after-append g m) in
+      let grows = draws_on g m in
       let old = was.count last in
       let now = is.count last in
-      omega (arith, had, grows, same, old, now, ne)
+      omega (arith, had, grows, old, now, ne)
 
   pub one_rise : Rises limits f (g ++ m) index (count + 1)
   one_rise = record { cell = at_cell; drawn = at_count }

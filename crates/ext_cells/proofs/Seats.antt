@@ -1,6 +1,7 @@
 -- Making the table, splitting off lanes and notes, and taking in a note keep the rule.
 use Rattle.std.proofs.Common.{◌≡◌, ◌≢◌, ◌⊎◌, inl, inr, ⊎_elim, ℕ, zero, suc, ◌+◌, ◌<◌, ◌≤◌, List, [], ◌∷◌, ◌++◌, length, get_or, set, true, Contains, arith, refl, sym, ap, ◌∙◌, subst, length-set, Option, Some, None}
-use Rattle.std.specs.Prelude.{replicate}
+use Rattle.std.specs.Prelude.{replicate, ◌^◌, nat_eq}
+use Rattle.std.specs.List.{IsDistinct}
 use Rattle.std.proofs.lemmas.List.{length-replicate}
 use mathlib.Core.Option.{some, some-ne-none, some-injective}
 use base.Growing.{prefix_refl}
@@ -8,7 +9,8 @@ use lib.ListN.{get_elem?}
 use Rattle.atomic_table.specs.Table.{State, opening, Splits, Joins}
 use Rattle.atomic_table.proofs.Lists.{at_set}
 use Rattle.ext_model.specs.declared.event.Act.{Act}
-use Rattle.ext_model.specs.History.{History, IsAllowed}
+use Rattle.ext_model.specs.History.{History, state_after, IsAllowed}
+use Rattle.ext_history.specs.Histories.{seen}
 use Rattle.ext_history.proofs.Lists.{contains_none, at_push, at_zeros}
 use Rattle.ext_history.proofs.Legal.{legal_empty}
 use Rattle.ext_cells.specs.declared.limits.CellLimits.{CellLimits}
@@ -28,6 +30,10 @@ some_is p q = cc
 no_number : {n : ℕ} → None ≡ Some n → ⊥
 no_number e = cc
 
+none_distinct : IsDistinct nat_eq []
+unfolding IsDistinct
+none_distinct = tt
+
 -- ---- making the table
 
 -- a view that knows of no indices fits any words
@@ -37,8 +43,8 @@ knows_nothing limits l words cell index there = absurd (contains_none (cell, ind
 at_zero : (l : Layout) (words : List ℕ) (block : ℕ) → l.is_block block ≡ true → 0 ≤ get_or words block 0
 at_zero l words block is = omega arith
 
-pub opens : (limits : CellLimits) (l : Layout) (words : List ℕ) → IsLayout (limits_of limits) l → 1 ≤ limits.lanes → words ≡ replicate l.width 0 → Kept limits l (opening words [] (first_lane limits))
-opens limits l words lay one are = record {
+pub opens : (limits : CellLimits) (l : Layout) (words : List ℕ) → IsLayout (limits_of limits) l → 1 ≤ limits.lanes → limits.numbers + limits.lanes < 2 ^ 32 → words ≡ replicate l.width 0 → Kept limits l (opening words [] (first_lane limits))
+opens limits l words lay one few are = record {
   history = [];
   legal = legal_empty (IsAllowed (limits_of limits));
   wide = ap length are ∙ length-replicate l.width 0;
@@ -47,7 +53,16 @@ opens limits l words lay one are = record {
     each = λ cell less. subst (IsCellAt [] words cell) (sym (all_open cell less)) refl;
     apart = λ cell other index less fewer p q. absurd (no_index (sym (all_open cell less) ∙ p));
   };
-  count_is = ap (λ (z : List ℕ). get_or z l.count 0) are ∙ at_zeros l.width l.count;
+  few = few;
+  count_is = record { left = λ less. sym zero_count; full = λ most. let none = zero_count in omega (arith, none, most) };
+  beyond = record {
+    lanes = [];
+    once = none_distinct;
+    within = λ n there. absurd (contains_none n there);
+    reach = let none = zero_count in omega (arith, none);
+    saw = λ i v n iv vn there. absurd (contains_none n there);
+    born = λ i v d n iv vd there. absurd (contains_none n there);
+  };
   fits = λ i v at. subst (Fits limits l words []) (only_one (first_lane limits) v i at).1 (record {
     seen_is = prefix_refl [];
     told_is = prefix_refl [];
@@ -67,6 +82,9 @@ opens limits l words lay one are = record {
   unborn = λ i v d n iv vd le. refl;
 }
   where
+    zero_count : get_or words l.count 0 ≡ 0
+    zero_count = ap (λ (z : List ℕ). get_or z l.count 0) are ∙ at_zeros l.width l.count
+
     all_open : (cell : ℕ) → cell < limits.cells → l.stands words cell ≡ Open
     all_open cell less = ap (λ (z : List ℕ). l.stands z cell) are ∙ lay.all_open cell less
 
@@ -115,6 +133,14 @@ module _ (limits : CellLimits) (l : Layout) (s : State (Act ℕ) View) (k : Kept
     least_is = at_zero l s.words 0;
   })
 
+  -- the new lane is none of those that found no number left
+  split_saw : (j : ℕ) (u : View) (n : ℕ) → Stood s.views id (giving v) (born v) j u → u.lane ≡ Some n → Contains k.beyond.lanes n → limits.numbers ≤ (state_after (seen u.fronts)).drawn
+  split_saw j u n (cut here is) e there =
+      subst (λ (x : View). limits.numbers ≤ (state_after (seen x.fronts)).drawn) is (k.beyond.saw id v n at (ap (λ (x : View). x.lane) is ∙ e) there)
+  split_saw j u n (beside other old) e there = k.beyond.saw j u n old e there
+  split_saw j u n (behind last is) e there =
+      let same : n ≡ d = some_is (ap (λ (x : View). x.lane) is ∙ e) gives in let less = k.beyond.born id v d n at gives there in absurd (omega (arith, same, less))
+
   one_number : (i j n : ℕ) → Numbered i n → Numbered j n → i ≡ j
   one_number i j n (inl p) (inl q) = k.apart i j p.0 q.0 n p.1 q.1 p.2 q.2
   one_number i j n (inl p) (inr q) = let l = k.below i id p.0 v n d p.1 at p.2 gives in let e = q.1 in absurd (omega arith)
@@ -132,7 +158,16 @@ module _ (limits : CellLimits) (l : Layout) (s : State (Act ℕ) View) (k : Kept
     wide = k.wide;
     sound = k.sound;
     cells_are = k.cells_are;
+    few = k.few;
     count_is = k.count_is;
+    beyond = let b = k.beyond in record {
+      lanes = b.lanes;
+      once = b.once;
+      within = b.within;
+      reach = b.reach;
+      saw = λ j u n e un there. split_saw j u n (stood s.views id (giving v) (born v) j u e) un there;
+      born = λ j u c n e uc there. let t = (counted j u c (stood s.views id (giving v) (born v) j u e) uc).1 in let less = b.born id v d n at gives there in omega (arith, t, less);
+    };
     fits = λ j u e. split_fits j u (stood s.views id (giving v) (born v) j u e);
     apart = λ i j x y n ix jy xn yn. one_number i j n (numbered i x n (stood s.views id (giving v) (born v) i x ix) xn) (numbered j y n (stood s.views id (giving v) (born v) j y jy) yn);
     one_giver = λ i j x y c e ix jy xc ye. (counted i x c (stood s.views id (giving v) (born v) i x ix) xc).0 ∙ sym (counted j y e (stood s.views id (giving v) (born v) j y jy) ye).0;
@@ -154,7 +189,7 @@ IsQuiet v = (v.lane ≡ None) × (v.given ≡ None)
 
 -- a view that stands has neither, or the ones that it had
 abbrev Came : State (Act ℕ) View → ℕ → View → Type 0
-Came s j u = IsQuiet u ⊎ ((x : View) × (get_elem? s.views j ≡ some x) × (x.lane ≡ u.lane) × (x.given ≡ u.given))
+Came s j u = IsQuiet u ⊎ ((x : View) × (get_elem? s.views j ≡ some x) × (x.lane ≡ u.lane) × (x.given ≡ u.given) × (x.fronts ≡ u.fronts))
 
 relabel : (limits : CellLimits) (l : Layout) (s : State (Act ℕ) View) (k : Kept limits l s) (views : List View) → ((j : ℕ) (u : View) → get_elem? views j ≡ some u → Fits limits l s.words k.history u)
     → ((j : ℕ) (u : View) → get_elem? views j ≡ some u → Came s j u) → Kept limits l (record { words = s.words; homes = s.homes; views = views })
@@ -164,7 +199,16 @@ relabel limits l s k views fits from = record {
   wide = k.wide;
   sound = k.sound;
   cells_are = k.cells_are;
+  few = k.few;
   count_is = k.count_is;
+  beyond = let b = k.beyond in record {
+    lanes = b.lanes;
+    once = b.once;
+    within = b.within;
+    reach = b.reach;
+    saw = λ j u n e un there. let a = lane_of j u n e un in subst (λ (fronts : List History). limits.numbers ≤ (state_after (seen fronts)).drawn) a.3 (b.saw j a.0 n a.1 a.2 there);
+    born = λ j u c n e uc there. let a = count_of j u c e uc in b.born j a.0 c n a.1 a.2 there;
+  };
   fits = fits;
   apart = λ i j x y n ix jy xn yn. let a = lane_of i x n ix xn in let b = lane_of j y n jy yn in k.apart i j a.0 b.0 n a.1 b.1 a.2 b.2;
   one_giver = λ i j x y c e ix jy xc ye. let a = count_of i x c ix xc in let b = count_of j y e jy ye in k.one_giver i j a.0 b.0 c e a.1 b.1 a.2 b.2;
@@ -173,8 +217,8 @@ relabel limits l s k views fits from = record {
   unborn = λ i x c n ix xc le. let a = count_of i x c ix xc in k.unborn i a.0 c n a.1 a.2 le;
 }
   where
-    lane_of : (j : ℕ) (u : View) (n : ℕ) → get_elem? views j ≡ some u → u.lane ≡ Some n → (x : View) × (get_elem? s.views j ≡ some x) × (x.lane ≡ Some n)
-    lane_of j u n there e = ⊎_elim (λ q. absurd (no_number (sym q.0 ∙ e))) (λ p. (p.0, p.1, p.2 ∙ e)) (from j u there)
+    lane_of : (j : ℕ) (u : View) (n : ℕ) → get_elem? views j ≡ some u → u.lane ≡ Some n → (x : View) × (get_elem? s.views j ≡ some x) × (x.lane ≡ Some n) × (x.fronts ≡ u.fronts)
+    lane_of j u n there e = ⊎_elim (λ q. absurd (no_number (sym q.0 ∙ e))) (λ p. (p.0, p.1, p.2 ∙ e, p.4)) (from j u there)
 
     count_of : (j : ℕ) (u : View) (c : ℕ) → get_elem? views j ≡ some u → u.given ≡ Some c → (x : View) × (get_elem? s.views j ≡ some x) × (x.given ≡ Some c)
     count_of j u c there e = ⊎_elim (λ q. absurd (no_number (sym q.1 ∙ e))) (λ p. (p.0, p.1, p.3 ∙ e)) (from j u there)
@@ -196,8 +240,8 @@ note_stays limits l s k id v at j u (beside other old) = k.fits j u old
 note_stays limits l s k id v at j u (behind last is) = subst (Fits limits l s.words k.history) is (note_fits limits l s.words k.history v (k.fits id v at))
 
 note_from : (s : State (Act ℕ) View) (id : ℕ) (v : View) → get_elem? s.views id ≡ some v → (j : ℕ) (u : View) → Stood s.views id v (note v) j u → Came s j u
-note_from s id v at j u (cut here is) = inr (v, subst (λ z. get_elem? s.views z ≡ some v) (sym here) at, ap (λ (x : View). x.lane) is, ap (λ (x : View). x.given) is)
-note_from s id v at j u (beside other old) = inr (u, old, refl, refl)
+note_from s id v at j u (cut here is) = inr (v, subst (λ z. get_elem? s.views z ≡ some v) (sym here) at, ap (λ (x : View). x.lane) is, ap (λ (x : View). x.given) is, ap (λ (x : View). x.fronts) is)
+note_from s id v at j u (beside other old) = inr (u, old, refl, refl, refl)
 note_from s id v at j u (behind last is) = inl (sym (ap (λ (x : View). x.lane) is), sym (ap (λ (x : View). x.given) is))
 
 -- a note is split off,
@@ -231,5 +275,5 @@ joins_note limits l id other v w s k at apart there =
     (at_set (set s.views id (noted v w)) other j spent u e))
     (λ j u e. ⊎_elim
     (λ t. inl (sym (ap (λ (x : View). x.lane) t.1), sym (ap (λ (x : View). x.given) t.1)))
-    (λ t. ⊎_elim (λ x. inr (v, subst (λ z. get_elem? s.views z ≡ some v) (sym x.0) at, ap (λ (z : View). z.lane) x.1, ap (λ (z : View). z.given) x.1)) (λ x. inr (u, x.1, refl, refl)) (at_set s.views id j (noted v w) u t.1))
+    (λ t. ⊎_elim (λ x. inr (v, subst (λ z. get_elem? s.views z ≡ some v) (sym x.0) at, ap (λ (z : View). z.lane) x.1, ap (λ (z : View). z.given) x.1, ap (λ (z : View). z.fronts) x.1)) (λ x. inr (u, x.1, refl, refl, refl)) (at_set s.views id j (noted v w) u t.1))
     (at_set (set s.views id (noted v w)) other j spent u e))

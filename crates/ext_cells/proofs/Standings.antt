@@ -100,6 +100,17 @@ drawn limits stands h words lane act index next are on free = record {
   apart = are.apart;
 }
 
+-- the word of no cell changes
+pub beside : (limits : Limits) (stands : ℕ → Standing) (h : History) (words : List ℕ) (index next : ℕ)
+    → AreCellsOf limits stands h words → ((cell : ℕ) → cell < limits.cells → stands cell ≡ At index → ⊥)
+    → AreCellsOf limits stands h (set words index next)
+beside limits stands h words index next are free = record {
+  each = λ other less. moved_at h h words (set words index next) other (stands other) refl refl
+      (λ at there. get_or-set_other words index at next 0 (λ e. free other less (there ∙ ap At e)))
+      (are.each other less);
+  apart = are.apart;
+}
+
 -- ---- a cell gets its mark
 
 pub marked : (limits : Limits) (stands after : ℕ → Standing) (h : History) (words later : List ℕ) (cell index : ℕ)

@@ -146,11 +146,11 @@ pub steps_on : (before now : Lane) (index word count : ℕ) → TriesOn before n
 steps_on before now index word count t = t.tries.steps
 
 -- and one more for the exchange that it ends with
-pub steps_next : (before now next : Lane) (index word count : ℕ) (h : History) (act : Act ℕ) → TriesOn before now index word count → Finds now.cells.limits now.view index word h
+pub steps_next : {found : ℕ} (before now next : Lane) (index word count : ℕ) (h : History) (act : Act ℕ) → TriesOn before now index word count → Finds now.cells.limits now.view index found h
     → next ≡ stepped now (h ++ by now.view.number act ∷ []) → length (call_fronts before.view next.view) ≡ count + 2
-steps_next before now next index word count h act t f e =
+steps_next {found} before now next index word count h act t f e =
     let limits = before.cells.limits in
-    let f' : Finds limits now.view index word h = subst (λ l. Finds l now.view index word h) (ap (λ z. z.limits) t.cells) f in
+    let f' : Finds limits now.view index found h = subst (λ l. Finds l now.view index found h) (ap (λ z. z.limits) t.cells) f in
     let after : LaneView = moved now.view ((h ++ by now.view.number act ∷ []) ∷ []) in
     let two = (event_calls f'.on (by now.view.number act) refl).0 in
     let all : length (call_fronts before.view after) ≡ length (call_fronts before.view now.view) + length (call_fronts now.view after) = steps_compose t.tries.calls two in

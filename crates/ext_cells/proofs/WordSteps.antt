@@ -1,8 +1,9 @@
--- Each step of a lane on a cell's word, or on the count, keeps the rule, and tells what it found.
-use Rattle.std.proofs.Common.{◌≡◌, ℕ, ◌<◌, eqb, false, List, [], ◌∷◌, ◌++◌, length, get_or, set, arith, refl, sym, ap, ◌∙◌, subst, Option, None, Some, true, get_or-set_same, get_or-set_other, length-set}
-use Rattle.std.specs.Prelude.{unwrap_or, IfSome}
+-- Each step of a lane on a cell's word keeps the rule, and tells what it found.
+use Rattle.std.proofs.Common.{◌≡◌, ℕ, ◌<◌, eqb, false, List, [], ◌∷◌, ◌++◌, length, get_or, set, arith, refl, sym, ap, ◌∙◌, subst, Option, None, Some, get_or-set_other, length-set}
+use Rattle.std.specs.Prelude.{unwrap_or}
 use mathlib.Core.Option.{some, none, some-injective}
 use prog.Atomic.{either}
+use base.Growing.{prefix_refl}
 use lib.ListN.{get_elem?}
 use Rattle.atomic_table.specs.Table.{State, Me, step, keeps, stepped, Allows, Valid, carried_after, Act as TableAct}
 use Rattle.atomic_table.proofs.Lists.{exchanged}
@@ -19,18 +20,18 @@ use Rattle.ext_cells.specs.Standings.{Standing, IsCellAt, AreCellsOf}
 use Rattle.ext_cells.specs.InnerLayouts.{Layout, IsLayout}
 use Rattle.ext_cells.specs.InnerViews.{limits_of, shown}
 use Rattle.ext_cells.specs.InnerRule.{StandsAt, Kept}
-use Rattle.ext_cells.specs.InnerTableSteps.{IsWordAt, index_in, FoundBy, IsKnown, Loaded, MayExchange, Exchanged}
+use Rattle.ext_cells.specs.InnerTableSteps.{Counts, IsWordAt, index_in, FoundBy, IsKnown, Loaded, MayExchange, Exchanged}
 use Rattle.ext_cells.proofs.Standings as standing
-use Rattle.ext_cells.proofs.Known.{IsIndexOf, the_count, a_cell, known_index, word_there, found}
+use Rattle.ext_cells.proofs.Known.{known_index, word_there, found}
 use Rattle.ext_cells.proofs.Passing.{not_both}
-use Rattle.ext_cells.proofs.Going.{Keeps, Follows, follows_same, fits_shown, goes_on, looks}
+use Rattle.ext_cells.proofs.Going.{Keeps, Follows, follows_same, fits_shown, shown_draws, goes_on, looks}
 
 -- ---- a word that is read
 
 pub shows : (limits : CellLimits) (l : Layout) (s : State (Act ℕ) View) (k : Kept limits l s) (id index : ℕ) (v : View) → get_elem? s.views id ≡ some v
     → Kept limits l (record { words = set s.words index (get_or s.words index 0); homes = s.homes; views = set s.views id (shown v k.history) })
 shows limits l s k id index v at =
-    looks limits l s k id v (shown v k.history) at refl refl index (fits_shown limits l s.words s.words k.history v (follows_same limits l s.words) (k.fits id v at) k.history)
+    looks limits l s k id v (shown v k.history) at refl refl (shown_draws v k.history k.history (k.fits id v at).seen_is (prefix_refl k.history)) index (fits_shown limits l s.words s.words k.history v (follows_same limits l s.words) (k.fits id v at) k.history)
 
 pub loads : (limits : CellLimits) (l : Layout) (slots id : ℕ) (me : Me (Act ℕ) View) (aim index lane : ℕ) → IsLayout (limits_of limits) l → me.0.lane ≡ Some lane → IsKnown l me.0 aim index
     → Allows (Kept limits l) slots id me index (λ n. n) (Loaded aim (step slots index 0 0 none) me)
@@ -62,13 +63,13 @@ no_draw (Abandon at) cell drawn on = refl
 no_draw (Seal at) cell drawn on = refl
 
 -- a word that is no block's changes
-off_blocks : (limits : CellLimits) (l : Layout) (words : List ℕ) (at next : ℕ) → IsLayout (limits_of limits) l → l.is_block at ≡ false → Follows limits l words (set words at next)
+pub off_blocks : (limits : CellLimits) (l : Layout) (words : List ℕ) (at next : ℕ) → IsLayout (limits_of limits) l → l.is_block at ≡ false → Follows limits l words (set words at next)
 off_blocks limits l words at next lay off = record {
   stays = λ cell index less is. lay.steady words at next cell off ∙ is;
   grows = λ index block. let same = get_or-set_other words at index next 0 (λ e. not_both off (ap l.is_block (sym e) ∙ block)) in omega (arith, same);
 }
 
-restand : (limits : Limits) (stands after : ℕ → Standing) (h : History) (words : List ℕ) → ((cell : ℕ) → after cell ≡ stands cell) → AreCellsOf limits stands h words → AreCellsOf limits after h words
+pub restand : (limits : Limits) (stands after : ℕ → Standing) (h : History) (words : List ℕ) → ((cell : ℕ) → after cell ≡ stands cell) → AreCellsOf limits stands h words → AreCellsOf limits after h words
 restand limits stands after h words same are = record {
   each = λ cell less. subst (IsCellAt h words cell) (sym (same cell)) (are.each cell less);
   apart = λ cell other index less fewer p q. are.apart cell other index less fewer (sym (same cell) ∙ p) (sym (same other) ∙ q);
@@ -85,43 +86,29 @@ module _ (limits : CellLimits) (l : Layout) (lay : IsLayout (limits_of limits) l
   still : (cell : ℕ) → l.is_block index ≡ false → l.stands later cell ≡ l.stands s.words cell
   still cell off = lay.steady s.words index new cell off
 
-  -- the count, by an act on no cell
-  draws : aim ≡ limits.cells → index ≡ l.count → place_of act ≡ None → Keeps limits l s.words after later
-  draws last here on =
-      let off : l.is_block index ≡ false = ap l.is_block here ∙ lay.count_is.1 in
-      let fits : index < length s.words = let w = k.wide in let less = lay.count_is.0 in omega (arith, w, less, here) in record {
-        follows = off_blocks limits l s.words index new lay off;
-        wide = length-set s.words index new ∙ k.wide;
-        sound = subst (λ n. l.sound (set s.words n new) ≡ true) (sym here) (lay.draws s.words new k.sound);
-        are = restand (limits_of limits) (l.stands s.words) (l.stands later) after later (λ cell. still cell off)
-            (standing.drawn (limits_of limits) (l.stands s.words) k.history s.words lane act index new k.cells_are on (λ cell less there. (lay.indices s.words cell index k.sound less there).2 here));
-        count = subst (λ n. get_or later n 0 ≡ new) here (get_or-set_same s.words index new 0 fits) ∙ leaves.count last;
-      }
-
-  -- or a cell's word, by an act on it
+  -- a cell's word, by an act on it
   changes : StandsAt limits l s.words aim index → place_of act ≡ Some aim → Keeps limits l s.words after later
   changes at on =
       let where_is = lay.indices s.words aim index k.sound at.within at.stands in
-      let fits : index < length s.words = let w = k.wide in let less = where_is.0 in omega (arith, w, less) in record {
+      let fits : index < length s.words = let w = k.wide in let less = where_is.0 in omega (arith, w, less) in
+      let same_count = get_or-set_other s.words index l.count new 0 (λ e. where_is.2 (sym e)) in record {
         follows = off_blocks limits l s.words index new lay where_is.1;
         wide = length-set s.words index new ∙ k.wide;
         sound = lay.changes s.words aim index new k.sound at.within at.stands;
         are = restand (limits_of limits) (l.stands s.words) (l.stands later) after later (λ cell. still cell where_is.1)
             (standing.changed (limits_of limits) (l.stands s.words) k.history s.words lane act aim index new k.cells_are at.within at.stands fits on (leaves.cell at.within));
-        count = get_or-set_other s.words index l.count new 0 (λ e. where_is.2 (sym e)) ∙ k.count_is ∙ sym (drawn-push k.history (by lane act) ∙ no_draw act aim (state_after k.history).drawn on);
+        same = same_count;
+        count = subst (λ (t : ℕ × ℕ). Counts limits.numbers t.0 t.1) (λ i. (sym same_count i, sym (drawn-push k.history (by lane act) ∙ no_draw act aim (state_after k.history).drawn on) i)) k.count_is;
       }
 
   abbrev Here : Option ℕ → Type 0
   Here o = aim ≡ unwrap_or o limits.cells
 
-  event_on : (o : Option ℕ) → place_of act ≡ o → Here o → IsIndexOf limits l s.words aim index → Keeps limits l s.words after later
-  event_on None on here (the_count e p) = draws e p on
-  event_on None on here (a_cell t) = let less = t.within in absurd (omega (arith, less, here))
-  event_on (Some at) on here (the_count e p) =
-      let within : at < limits.cells = subst (λ o. IfSome o (λ cell. cell < limits.cells)) on allowed.within in absurd (omega (arith, within, here, e))
-  event_on (Some at) on here (a_cell t) = changes t (on ∙ ap Some (sym here))
+  event_on : (o : Option ℕ) → place_of act ≡ o → Here o → StandsAt limits l s.words aim index → Keeps limits l s.words after later
+  event_on None on here t = let less = t.within in absurd (omega (arith, less, here))
+  event_on (Some at) on here t = changes t (on ∙ ap Some (sym here))
 
-  event_keeps : aim ≡ index_in (limits_of limits) act → IsIndexOf limits l s.words aim index → Keeps limits l s.words after later
+  event_keeps : aim ≡ index_in (limits_of limits) act → StandsAt limits l s.words aim index → Keeps limits l s.words after later
   event_keeps here at = event_on (place_of act) refl here at
 
 -- an exchange
@@ -142,9 +129,9 @@ exchanges limits l slots id me aim index old new lane act lay may knows s k _ at
       shown v (k.history ++ e ∷ []),
       keeps,
       tt,
-      goes_on limits l s k id v (shown v (k.history ++ e ∷ [])) at refl refl (k.history ++ e ∷ []) (e ∷ [], refl) (legal_push k.history e k.legal allowed)
+      goes_on limits l s k id v (shown v (k.history ++ e ∷ [])) at refl refl (shown_draws v k.history (k.history ++ e ∷ []) f.seen_is (e ∷ [], refl)) (k.history ++ e ∷ []) (e ∷ [], refl) (legal_push k.history e k.legal allowed)
           (λ j other. own_push_other lane_of j k.history e (λ is. other (may.lane_is ∙ ap Some is)))
-          (set s.words index new) keeps_it.follows keeps_it.wide keeps_it.sound keeps_it.are keeps_it.count
+          (set s.words index new) keeps_it
           (fits_shown limits l s.words (set s.words index new) k.history v keeps_it.follows f (k.history ++ e ∷ [])),
       (
         (λ miss. absurd (miss hit)),

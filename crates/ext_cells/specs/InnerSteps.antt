@@ -1,6 +1,6 @@
 -- What a lane learns from its two kinds of steps on the shared words, a load and an exchange, what changes a cell, and
 -- what ends a claim. No public contract cites it.
-use Rattle.std.specs.Prelude.{◌≡◌, ◌⊎◌, ℕ, ◌<◌, ◌≤◌, List, [], ◌∷◌, ◌++◌, Contains, Option, None, Some, Result, Ok, Err}
+use Rattle.std.specs.Prelude.{◌≡◌, ◌⊎◌, ℕ, ◌+◌, ◌<◌, ◌≤◌, List, [], ◌∷◌, ◌++◌, Contains, Option, None, Some, Result, Ok, Err}
 use Rattle.ext_model.specs.declared.event.Act.{Act}
 use Rattle.ext_model.specs.declared.event.Act.TheVariants.{Keep, Put, Remove, Claim, Fill, Fail, Abandon, Seal}
 use Rattle.ext_model.specs.Events as events
@@ -71,6 +71,16 @@ pub record Finds (limits : Limits) (lane : LaneView) (index word : ℕ) (h : His
 pub record MayGoOn (limits : Limits) (lane : LaneView) (h : History) (index word : ℕ) (act : Act ℕ) : Type 0 where
   pub allowed : IsAllowed limits h (by lane.number act)
   pub word_is : IsWordAt limits (h ++ by lane.number act ∷ []) index word
+
+-- The lane has drawn this number: a step of it found all those below it drawn, and left it drawn.
+pub record Draws (lane after : Lane) (number : ℕ) : Type 0 where
+  pub count : ℕ
+  pub next : number ≡ count + 1
+  pub left : count < lane.cells.limits.numbers
+  pub history : History
+  pub finds : Finds lane.cells.limits lane.view lane.cells.limits.cells count history
+  pub allowed : IsAllowed lane.cells.limits history (by lane.view.number (Keep number))
+  pub after_is : after ≡ stepped lane (history ++ by lane.view.number (Keep number) ∷ [])
 
 -- A put, a remove, a claim or a seal of the cell.
 abbrev pub IsChangeOf : ℕ → Act ℕ → Type 0

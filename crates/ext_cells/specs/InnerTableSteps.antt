@@ -1,10 +1,11 @@
 -- What each step of a lane asks, and what it tells. A step that shows a history adds a front; one that only leads to a
 -- cell adds none. No public contract cites it.
-use Rattle.std.specs.Prelude.{◌≡◌, ◌≢◌, ℕ, ◌<◌, ◌≤◌, ◌⊎◌, true, Some, List, [], ◌∷◌, ◌++◌, unwrap_or, Contains}
+use Rattle.std.specs.Prelude.{◌≡◌, ◌≢◌, ℕ, ◌+◌, ◌<◌, ◌≤◌, ◌⊎◌, true, Some, List, [], ◌∷◌, ◌++◌, unwrap_or, Contains}
 use mathlib.Core.Option.{some}
 use mathlib.Core.List.{IsPrefix}
 use Rattle.atomic_table.specs.Table.{Me, Step}
 use Rattle.ext_model.specs.declared.event.Act.{Act}
+use Rattle.ext_model.specs.declared.event.Act.TheVariants.{Keep}
 use Rattle.ext_model.specs.Events.{place_of}
 use Rattle.ext_model.specs.Closing.{IsSealedUnused}
 use Rattle.ext_model.specs.History.{History, Limits, by, own, state_after, IsAllowed, IsLegal}
@@ -17,7 +18,12 @@ use Rattle.ext_cells.specs.InnerViews.{limits_of, shown, led, sought}
 
 -- ---- words
 
--- The word of a cell after a history, or at the number behind those of the cells the count of numbers drawn
+-- How many numbers were drawn, by the count: it may be beyond the limit
+pub record Counts (numbers count drawn : ℕ) : Type 0 where
+  pub left : count < numbers → drawn ≡ count
+  pub full : numbers ≤ count → drawn ≡ numbers
+
+-- The word of a cell after a history, or at the number behind those of the cells how many numbers were drawn
 pub record IsWordAt (limits : Limits) (h : History) (aim word : ℕ) : Type 0 where
   pub cell : aim < limits.cells → word ≡ word_of h aim
   pub count : aim ≡ limits.cells → word ≡ (state_after h).drawn
@@ -41,10 +47,9 @@ pub record FoundBy (v : View) (aim word : ℕ) (h : History) : Type 0 where
 abbrev pub OnlyAt : Layout → ℕ → ℕ → Type 0
 OnlyAt l cell index = (words : List ℕ) (at : ℕ) → l.sound words ≡ true → l.stands words cell ≡ At at → at ≡ index
 
--- How a seat knows where a word is: it is the count; a step led to the cell; or the cell has had an event, and not just
--- the seal of an end, and has no other index
+-- How a seat knows where the word of a cell is: a step led there; or the cell has had an event, and not just the seal of
+-- an end, and has no other index
 pub data IsKnown (l : Layout) (v : View) (aim index : ℕ) : Type 0 where
-  by_count : aim ≡ v.limits.cells → index ≡ l.count → IsKnown l v aim index
   by_index : Contains v.indexed (aim, index) → IsKnown l v aim index
   by_use : OnlyAt l aim index → aim < v.limits.cells → word_of (seen v.fronts) aim ≢ 0
       → word_of (seen v.fronts) aim ≢ ended_word → IsKnown l v aim index
@@ -56,6 +61,22 @@ Shows aim word me after = (h : History) × FoundBy me.0 aim word h × (after ≡
 -- as a load does
 abbrev pub Loaded : ℕ → Step (Act ℕ) → Me (Act ℕ) View → ℕ → Me (Act ℕ) View → Type 0
 Loaded aim s me found after = Shows aim found me after
+
+-- ---- the count
+
+-- a load of the count
+abbrev pub CountLoaded : Me (Act ℕ) View → ℕ → Me (Act ℕ) View → Type 0
+CountLoaded me found after = (drawn : ℕ) × Counts me.0.limits.numbers found drawn × Shows me.0.limits.cells drawn me after
+
+-- an addition to it draws the next number, or finds that none was left
+pub record Drawn (me : Me (Act ℕ) View) (found : ℕ) (after : Me (Act ℕ) View) : Type 0 where
+  pub drew : found < me.0.limits.numbers → (lane : ℕ) → me.0.lane ≡ Some lane
+      → (h : History) × FoundBy me.0 me.0.limits.cells found h
+      × IsAllowed (limits_of me.0.limits) h (by lane (Keep (found + 1)))
+      × (after ≡ (shown me.0 (h ++ by lane (Keep (found + 1)) ∷ []), me.1))
+  pub full : me.0.limits.numbers ≤ found → Shows me.0.limits.cells me.0.limits.numbers me after
+
+-- ---- an exchange
 
 -- wherever the word is the old one, the lane may make the act, which leaves the new word
 pub record MayExchange (v : View) (lane : ℕ) (act : Act ℕ) (aim old new : ℕ) : Type 0 where

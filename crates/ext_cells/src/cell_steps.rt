@@ -1,8 +1,9 @@
 //! Single steps on the shared words. Only these touch them once they are open.
-ghost use Rattle.std.specs.Prelude.{◌≡◌, ◌≢◌, ℕ, ◌<◌, true, false, Some};
+ghost use Rattle.std.specs.Prelude.{◌≡◌, ◌≢◌, ℕ, ◌+◌, ◌<◌, ◌≤◌, true, false, Some};
 ghost use mathlib.Core.Option.{some, none};
 ghost use Rattle.atomic_table.specs.Table.{step};
-ghost use Rattle.ext_model.specs.History.{History};
+ghost use Rattle.ext_model.specs.History.{History, state_after};
+ghost use Rattle.ext_model.specs.declared.event.Act.TheVariants.{Keep};
 ghost use Rattle.ext_history.specs.Histories.{seen};
 ghost use Rattle.ext_cells.specs.Standings.{ended_word};
 ghost use Rattle.ext_cells.specs.InnerViews.{limits_of, shown, note, noted};
@@ -13,7 +14,9 @@ ghost use Rattle.ext_cells.specs.InnerSteps.{IsTable, IsMarked, Found, Made};
 use crate::marks::{
     END, ENDED_WORD, bits_of, block_index, has_mark, is_ended, is_marked, is_open, with_mark,
 };
-use crate::rule::{Aim, CellTable, End, Exchange, LaneSeat, Lead, Load, Mark, Note, Seek};
+use crate::rule::{
+    Aim, CellTable, Draw, End, Exchange, LaneSeat, Lead, Load, LoadCount, Mark, Note, Seek,
+};
 use ext_model::{Act, CellNo};
 
 /// The words of open cells, of their blocks, and the count of numbers. Only this module reaches
@@ -32,8 +35,8 @@ impl CellSteps {
         CellSteps { table }
     }
 
-    /// Reads the word at an index that the lane knows, as that of the count.
-    pub(crate) fn load(&self, seat: &mut LaneSeat, index: usize) -> u64
+    // Reads the word of a cell, at an index that the lane knows.
+    fn load(&self, seat: &mut LaneSeat, index: usize) -> u64
         requires table { seat.old.table_id ≡ self.now.table.shared.table_id }
         requires lane { (number : ℕ) × (seat.old.me.0.lane ≡ Some number) }
         requires known { IsKnown (marks self.now.table.shared.key.cells) seat.old.me.0 index index }
@@ -165,26 +168,36 @@ impl CellSteps {
         self.change(seat, index, old, new, act)
     }
 
-    /// Draws a number: changes the count, which stands behind the cells, if it is still the one
-    /// that was seen. Returns the count that it found.
-    #[inline(always)]
-    pub(crate) fn exchange_count(
-        &self,
-        seat: &mut LaneSeat,
-        index: usize,
-        old: u64,
-        new: u64,
-        act: Act<CellNo>,
-    ) -> u64
+    /// How many numbers were drawn, by the count, which stands right behind so many cells. Lanes may
+    /// have added to it beyond the limit.
+    pub(crate) fn load_count(&self, seat: &mut LaneSeat, cells: usize, numbers: u32) -> u64
         requires table { seat.old.table_id ≡ self.now.table.shared.table_id }
-        requires cells { IsTable self.now.table.shared.table_id.words self.now.table.shared.key.cells seat.old.me.0 seat.old.me.0.limits.cells }
-        requires count { index ≡ seat.old.me.0.limits.cells }
-        requires may { (lane : ℕ) × MayExchange seat.old.me.0 lane act index old new }
+        requires lane { (number : ℕ) × (seat.old.me.0.lane ≡ Some number) }
+        requires cells { IsTable self.now.table.shared.table_id.words self.now.table.shared.key.cells seat.old.me.0 cells }
+        requires numbers { numbers ≡ seat.old.me.0.limits.numbers }
         ensures table { seat.new.table_id ≡ seat.old.table_id }
-        ensures missed { result ≢ old → Found seat.old.me.0 seat.new.me.0 index result }
-        ensures made { result ≡ old → Made seat.old.me.0 seat.new.me.0 index old act }
+        ensures found { (h : History) × FoundBy seat.old.me.0 cells result h × (seat.new.me.0 ≡ shown seat.old.me.0 h) }
     {
-        self.change(seat, index, old, new, act)
+        let count = self.table.shared.load::<LoadCount>(seat, cells);
+        let most = u64::from(numbers);
+        if count < most {
+            return count;
+        }
+        most
+    }
+
+    /// Adds one to the count, and so draws the next number if one is left. The lane has seen that
+    /// one is. Returns the count that it found.
+    pub(crate) fn draw(&self, seat: &mut LaneSeat, cells: usize) -> u64
+        requires table { seat.old.table_id ≡ self.now.table.shared.table_id }
+        requires lane { (number : ℕ) × (seat.old.me.0.lane ≡ Some number) }
+        requires cells { IsTable self.now.table.shared.table_id.words self.now.table.shared.key.cells seat.old.me.0 cells }
+        requires left { (state_after (seen seat.old.me.0.fronts)).drawn < seat.old.me.0.limits.numbers }
+        ensures table { seat.new.table_id ≡ seat.old.table_id }
+        ensures drew { result < seat.old.me.0.limits.numbers → Made seat.old.me.0 seat.new.me.0 seat.old.me.0.limits.cells result (Keep (result + 1)) }
+        ensures full { seat.old.me.0.limits.numbers ≤ result → Found seat.old.me.0 seat.new.me.0 seat.old.me.0.limits.cells seat.old.me.0.limits.numbers }
+    {
+        self.table.shared.fetch_add::<Draw>(seat, cells, 1)
     }
 
     /// Ends the block whose word stands at this index. Returns the word that it found.
@@ -212,6 +225,6 @@ impl CellSteps {
     {
         let note = self.table.shared.split_seat::<Note>(from);
         self.table.shared.join_seat::<Note>(to, note);
-        self.load(to, cells);
+        self.table.shared.load::<LoadCount>(to, cells);
     }
 }

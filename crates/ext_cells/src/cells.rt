@@ -1,8 +1,8 @@
 //! The cells that lanes share, and all calls on them.
-ghost use Rattle.std.specs.Prelude.{◌≡◌, ◌≢◌, ◌≤◌, ◌<◌, ◌+◌, ◌*◌, ◌^◌, ◌↔◌, ℕ, nat_eq, [], ◌∷◌, ◌++◌, length, map, Some, All, Contains, IfOk, IfErr, IfSome, IsTrue, OnErr, true, Err};
+ghost use Rattle.std.specs.Prelude.{◌≡◌, ◌≢◌, ◌≤◌, ◌<◌, ◌+◌, ◌*◌, ◌^◌, ◌↔◌, ℕ, nat_eq, [], ◌∷◌, ◌++◌, length, map, Some, All, Contains, IfOk, IfErr, IfSome, IfNone, IsTrue, OnErr, true, Err};
 ghost use Rattle.std.specs.List.{IsDistinct};
 ghost use mathlib.Core.List.{IsPrefix};
-ghost use Rattle.ext_model.specs.History.{History, by, stored_number, fault_number, IsLegal};
+ghost use Rattle.ext_model.specs.History.{History, by, stored_number, fault_number, state_after, IsLegal};
 ghost use Rattle.ext_model.specs.CellWords.{word_of};
 ghost use Rattle.ext_history.specs.Histories.{seen_by, call_fronts};
 ghost use Rattle.ext_model.specs.CallActs.{Calls, IsHeld, MayStoreNow};
@@ -12,7 +12,7 @@ ghost use Rattle.ext_cells.specs.Lanes.{AreLimits, fresh_lanes};
 ghost use Rattle.ext_cells.specs.InnerMarks.{block_index, bits_of};
 ghost use Rattle.ext_cells.specs.InnerTableSteps.{IsWordAt, index_in};
 ghost use Rattle.ext_cells.specs.CellCalls.{Answers, SealAnswers, ComesLast, EndsClaim, EndsBlock, Collects, IsOvertakenOn, before_last_pass, IfWon, change_reply, claim_reply, number_reply, number_acts, put_acts, remove_acts, claim_acts};
-ghost use Rattle.ext_cells.specs.InnerSteps.{stepped, Finds, MayGoOn, IsChangeOf, IsEndOf, Changes};
+ghost use Rattle.ext_cells.specs.InnerSteps.{stepped, Finds, MayGoOn, IsChangeOf, IsEndOf, Draws, Changes};
 ghost use Rattle.ext_cells.specs.InnerPasses.{ReadPass};
 ghost use Rattle.ext_cells.specs.WordChanges.{HasState};
 
@@ -204,23 +204,15 @@ impl Cells {
         ensures storable { IfOk result (MayStoreNow lane.new.view) }
         ensures steps { length (call_fronts lane.old.view lane.new.view) ≤ self.now.tries + 1 }
     {
-        let index = self.limits.cells;
         let most = u64::from(self.limits.numbers);
-        let mut count = self.read(lane, index);
-        for _ in 0..self.tries {
-            if count >= most {
-                return Err(CellRefusal::NumbersFull);
-            }
-            let number = count as u32 + 1;
-            match self.exchange_count(lane, index, count, count + 1, Act::Keep(number)) {
-                Ok(()) => return Ok(number),
-                Err(found) => count = found,
-            }
+        let count = self.read(lane, self.limits.cells);
+        if count >= most {
+            return Err(CellRefusal::NumbersFull);
         }
-        if count < most {
-            return Err(CellRefusal::Contended);
+        match self.draw(lane) {
+            Some(number) => Ok(number),
+            None => Err(CellRefusal::NumbersFull),
         }
-        Err(CellRefusal::NumbersFull)
     }
 
     /// Stores the number in the cell, and answers the number that it replaces there, of a value or
@@ -479,7 +471,8 @@ impl Cells {
                 .table
                 .read::<Brand>(&mut lane.seat, self.limits.cells, index);
         }
-        self.table.load(&mut lane.seat, index)
+        self.table
+            .load_count(&mut lane.seat, index, self.limits.numbers)
     }
 
     /// Reads the word of a cell, where the index of its block's word is at hand, and the bits there
@@ -532,29 +525,19 @@ impl Cells {
         Err(found)
     }
 
-    /// Draws a number as `exchange` makes an event of a cell. The count stands behind the cells.
+    /// Draws the next number, if one is left; the lane has seen one left. The count stands behind the
+    /// cells.
     #[inline(always)]
-    fn exchange_count(
-        &self,
-        lane: &mut CellLane,
-        index: usize,
-        old: u64,
-        new: u64,
-        act: Act<CellNo>,
-    ) -> Result<(), u64>
+    fn draw(&self, lane: &mut CellLane) -> Option<u32>
         requires lane { lane.old.cells ≡ self.now.id }
-        requires index { index ≡ index_in self.now.id.limits act }
-        requires count { index ≡ self.now.id.limits.cells }
-        requires may { (h : History) → Finds lane.old.cells.limits lane.old.view index old h → MayGoOn lane.old.cells.limits lane.old.view h index new act }
-        ensures made { IfOk result (λ _. (h : History) × Finds lane.old.cells.limits lane.old.view index old h × MayGoOn lane.old.cells.limits lane.old.view h index new act × (lane.new ≡ stepped lane.old (h ++ by lane.old.view.number act ∷ []))) }
-        ensures missed { IfErr result (λ found. (found ≢ old) × ((h : History) × Finds lane.old.cells.limits lane.old.view index found h × (lane.new ≡ stepped lane.old h))) }
+        requires left { (state_after (seen_by lane.old.view)).drawn < self.now.id.limits.numbers }
+        ensures drew { IfSome result (λ number. Draws lane.old lane.new number) }
+        ensures full { IfNone result ((h : History) × Finds lane.old.cells.limits lane.old.view lane.old.cells.limits.cells lane.old.cells.limits.numbers h × (lane.new ≡ stepped lane.old h)) }
     {
-        let found = self
-            .table
-            .exchange_count(&mut lane.seat, index, old, new, act);
-        if found == old {
-            return Ok(());
+        let count = self.table.draw(&mut lane.seat, self.limits.cells);
+        if count < u64::from(self.limits.numbers) {
+            return Some(count as u32 + 1);
         }
-        Err(found)
+        None
     }
 }

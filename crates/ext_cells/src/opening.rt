@@ -1,5 +1,5 @@
 //! Opening the cells, and giving out their lanes.
-ghost use Rattle.std.specs.Prelude.{◌≡◌, ◌≤◌, ◌<◌, ◌+◌, ◌↔◌, IsTrue, IfOk, [], replicate};
+ghost use Rattle.std.specs.Prelude.{◌≡◌, ◌≤◌, ◌<◌, ◌+◌, ◌^◌, ◌↔◌, IsTrue, IfOk, [], replicate};
 ghost use Rattle.ext_cells.specs.Lanes.{AreLimits, fresh_lanes};
 ghost use Rattle.ext_cells.specs.InnerViews.{first_lane, limits_of};
 ghost use Rattle.ext_cells.specs.InnerMarks.{marks};
@@ -37,6 +37,7 @@ pub(crate) fn open_words(
 ) -> Result<(CellTable, LaneSeat), AllocError>
     requires cells { limits.now.cells ≤ 67108864 }
     requires lanes { 1 ≤ limits.now.lanes }
+    requires few { limits.now.numbers + limits.now.lanes < 2 ^ 32 }
     ensures words { IfOk result (λ r. r.0.shared.table_id.words ≡ (marks limits.now.cells).width) }
     ensures key { IfOk result (λ r. r.0.shared.key ≡ limits.now) }
     ensures table { IfOk result (λ r. r.1.table_id ≡ r.0.shared.table_id) }

@@ -4,6 +4,10 @@
 //! blocks say which, and how they say it is a layout, here that of marks. A block's end seals all
 //! its cells that have no word: one step, and an event for each.
 //!
+//! A lane adds one to the count of numbers once it has seen that one is left, and so draws the next
+//! number, or finds that no number was left. It has seen that then, and does not add again: so the
+//! count is beyond the limit by at most the number of lanes.
+//!
 //! A seat takes no bytes: its view exists in proofs only. An exchange announces the act that it
 //! makes, since a step cannot read it off the one word that it changes.
 ghost use Rattle.std.specs.Prelude.{ℕ};
@@ -49,6 +53,24 @@ impl Play<Act<CellNo>, View> for Exchange {
     ghost use Rattle.ext_cells.specs.InnerTableSteps.{Exchanged};
 
     ghost then = { λ s. Exchanged s.word s };
+}
+
+/// A load of the count of numbers.
+pub(crate) struct LoadCount;
+
+impl Play<Act<CellNo>, View> for LoadCount {
+    ghost use Rattle.ext_cells.specs.InnerTableSteps.{CountLoaded};
+
+    ghost then = { λ _ me. CountLoaded me };
+}
+
+/// An addition to the count, which draws the next number if one is left.
+pub(crate) struct Draw;
+
+impl Play<Act<CellNo>, View> for Draw {
+    ghost use Rattle.ext_cells.specs.InnerTableSteps.{Drawn};
+
+    ghost then = { λ _ me. Drawn me };
 }
 
 /// Splits a further lane off the first.

@@ -9,4 +9,4 @@ use Rattle.ext_cells.proofs.opening.open_words.Goals as goal
 pub of_words-requires : goal.of_words-requires
 of_words-requires c =
     let limits = c.args.limits.now in
-    opens limits (marks limits.cells) _ (is_layout (limits_of limits)) c.requires.lanes (c.as_slice.ensures.value ∙ c.in_ok-words.ensures ∙ ap (λ (n : ℕ). replicate {A = ℕ} (limits.cells + 16 + n) 0) c.block_count.ensures.count)
+    opens limits (marks limits.cells) _ (is_layout (limits_of limits)) c.requires.lanes c.requires.few (c.as_slice.ensures.value ∙ c.in_ok-words.ensures ∙ ap (λ (n : ℕ). replicate {A = ℕ} (limits.cells + 16 + n) 0) c.block_count.ensures.count)
