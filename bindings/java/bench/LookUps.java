@@ -1,5 +1,6 @@
 import extensionstore.Context;
 import extensionstore.Contexts;
+import extensionstore.Key;
 import extensionstore.Limits;
 import extensionstore.Namespace;
 import extensionstore.Store;
@@ -15,14 +16,14 @@ import java.util.function.Supplier;
  * What a look-up costs in Java whose value stands at the root, through contexts below one another: in our store, or in JUnit's own, by the class
  * {@code Peer} of bench/junit.
  *
- * <p>It takes the words PEER CASE THREADS ROUNDS MILLIS, where PEER is java or junit and CASE is such as get-root-4, and prints a line "PEER CASE THREADS WALL
+ * <p>It takes the words PEER CASE THREADS ROUNDS MILLIS, where PEER is java, key (with a {@code Key} for the name) or junit and CASE is such as get-root-4, and prints a line "PEER CASE THREADS WALL
  * PROCESSOR" for each round, in nanoseconds an operation. A round that is not counted comes first, as long as in {@code Peer}.
  */
 final class LookUps {
     private static final int LOOKS = 200_000;
     private static final ThreadMXBean THREADS = ManagementFactory.getThreadMXBean();
 
-    private static Supplier<Object> ours(int contexts) {
+    private static Supplier<Object> ours(int contexts, Object key) {
         List<String> ids = new ArrayList<>();
         for (int at = 0; at < contexts; at++) {
             ids.add(at == 0 ? "[engine:x]" : ids.get(at - 1) + "/[level:" + at + "]");
@@ -31,7 +32,7 @@ final class LookUps {
         opened.root().getStore(Namespace.GLOBAL).put("key0", "value");
         List<Context> all = opened.all();
         Store deepest = all.get(all.size() - 1).getStore(Namespace.GLOBAL);
-        return () -> deepest.get("key0");
+        return () -> deepest.get(key);
     }
 
     private static Supplier<Object> junits(int contexts) throws ReflectiveOperationException {
@@ -57,7 +58,7 @@ final class LookUps {
     }
 
     /** The mean of a round, on so many threads. */
-    private static double[] round(Supplier<Object> look, int threads, long millis) throws InterruptedException {
+    static double[] round(Supplier<Object> look, int threads, long millis) throws InterruptedException {
         long[] sum = new long[3];
         CountDownLatch gate = new CountDownLatch(threads);
         List<Thread> all = new ArrayList<>();
@@ -86,13 +87,17 @@ final class LookUps {
 
     public static void main(String[] words) throws Exception {
         if (words.length != 5 || !words[1].startsWith("get-root-")) {
-            System.err.println("usage: LookUps java|junit get-root-N THREADS ROUNDS MILLIS");
+            System.err.println("usage: LookUps java|key|junit get-root-N THREADS ROUNDS MILLIS");
             System.exit(2);
         }
         int contexts = Integer.parseInt(words[1].substring("get-root-".length()));
         int threads = Integer.parseInt(words[2]);
         long millis = Long.parseLong(words[4]);
-        Supplier<Object> look = words[0].equals("java") ? ours(contexts) : junits(contexts);
+        Supplier<Object> look = switch (words[0]) {
+            case "java" -> ours(contexts, "key0");
+            case "key" -> ours(contexts, Key.of("key0"));
+            default -> junits(contexts);
+        };
         round(look, threads, Peer.WARM_MILLIS);
         for (int at = 0; at < Integer.parseInt(words[3]); at++) {
             double[] spent = round(look, threads, millis);

@@ -1,6 +1,7 @@
 import extensionstore.CloseableResource;
 import extensionstore.Context;
 import extensionstore.Contexts;
+import extensionstore.Key;
 import extensionstore.Limits;
 import extensionstore.Namespace;
 import extensionstore.Store;
@@ -53,6 +54,42 @@ final class StoreTest extends OverContexts {
         equal(inClass.put("server", "three"), "two");
         equal(inClass.remove("server"), "three");
         equal(first.get("server"), "one");
+    }
+
+    void aKeyStandsForItsName() {
+        Key key = Key.of("server");
+        Namespace other = Namespace.create("other");
+        equal(Key.of(key) == key, true);
+        equal(first.get(key), null);
+        engine.put("server", "one");
+        equal(first.get(key), "one");
+        equal(contexts.root().getStore(other).put(key, "other's"), null);
+        equal(contexts.root().getStore(Namespace.create("other")).get("server"), "other's");
+        equal(first.get(key), "one");
+        equal(first.getOrComputeIfAbsent(key, it -> it == key ? "two" : "wrong"), "one");
+        equal(first.remove(key), null);
+        equal(engine.remove(key), "one");
+        equal(first.getOrComputeIfAbsent(key, it -> it == key ? "two" : "wrong"), "two");
+        equal(first.get("server"), "two");
+        equal(thrown(StoreException.class, () -> first.get(key, Integer.class)).getMessage(),
+                "Object stored under key [server] is not of required type [java.lang.Integer]");
+        thrown(NullPointerException.class, () -> Key.of(null));
+    }
+
+    void aKeyRemembersOneStore() {
+        Key[] keys = {Key.of("a"), Key.of("b"), Key.of("c")};
+        for (int at = 0; at < 100; at++) {
+            try (Contexts one = Contexts.open(Limits.USUAL, IDS); Contexts two = Contexts.open(Limits.USUAL, IDS)) {
+                Store[] stores = {one.root().getStore(Namespace.GLOBAL), two.root().getStore(Namespace.GLOBAL)};
+                for (int turn = 0; turn < 6; turn++) { // so that the keys have other numbers in the other store
+                    stores[turn % 2].put(keys[turn % 3], turn);
+                }
+                for (int turn = 0; turn < 6; turn++) {
+                    equal(stores[turn % 2].get(keys[turn % 3]), turn);
+                    equal(stores[turn % 2].get(keys[turn % 3].toString()), turn);
+                }
+            }
+        }
     }
 
     void nullIsAValue() {

@@ -1,5 +1,6 @@
 package proved;
 
+import extensionstore.Key;
 import extensionstore.StoreException;
 import extensionstore.junit.ProvedStore;
 import java.util.ArrayList;
@@ -123,6 +124,14 @@ class SameAnswersTests {
             Assertions.assertEquals(junits, proved);
             Assertions.assertEquals(answer(() -> context.getStore(null)), answer(() -> ProvedStore.of(context, null)));
             Store store = ProvedStore.of(context, own);
+            Key key = Key.of("class's");
+            Assertions.assertNull(store.get(key));
+            ProvedStore.of(ofClass, own).put("class's", "class's");
+            Assertions.assertEquals("class's", store.get(key));
+            Assertions.assertNull(ProvedStore.of(ofClass, own.append("other")).get(key));
+            store.put(key, "own");
+            Assertions.assertEquals("own", store.get("class's"));
+            Assertions.assertEquals("class's", ProvedStore.of(ofClass, own).remove(key));
             store.put("number", 7);
             Assertions.assertEquals("org.junit.jupiter.api.extension.ExtensionContextException: Object stored under key [number] is not of required type [long]",
                     answer(() -> store.get("number", long.class)));

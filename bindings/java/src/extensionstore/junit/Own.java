@@ -2,6 +2,7 @@ package extensionstore.junit;
 
 import extensionstore.CloseableResource;
 import extensionstore.Contexts;
+import extensionstore.Key;
 import extensionstore.Limits;
 import extensionstore.Store;
 import extensionstore.StoreException;
@@ -9,6 +10,7 @@ import java.lang.ref.WeakReference;
 import java.util.ArrayList;
 import java.util.Arrays;
 import java.util.List;
+import java.util.Optional;
 import java.util.function.Supplier;
 import org.junit.jupiter.api.extension.ExtensionContext;
 import org.junit.jupiter.api.extension.ExtensionContext.Namespace;
@@ -52,6 +54,7 @@ final class Own implements ExtensionContext.Store.CloseableResource, AutoCloseab
     private final Own above;
     private final ExtensionContext.Store junits;
     private final boolean closesAll;
+    private final Optional<Integer> asked; // by the configuration, which is one for the whole run
     private final int numbers;
     private final List<Contexts> opened = new ArrayList<>(); // by the lock `this`
     private volatile Store[] stores = {};
@@ -60,9 +63,9 @@ final class Own implements ExtensionContext.Store.CloseableResource, AutoCloseab
     private Own(ExtensionContext context) {
         above = context.getParent().map(Own::kept).orElse(null);
         junits = context.getStore(NAMESPACE);
-        closesAll = HAS_SCOPES && context.getConfigurationParameter(CLOSES_ALL).map(Boolean::valueOf).orElse(true);
-        int usual = above == null ? NUMBERS_OF_ROOT : context.getTestMethod().isPresent() ? NUMBERS_OF_METHOD : NUMBERS_OF_CLASS;
-        numbers = context.getConfigurationParameter(NUMBERS).map(Own::asked).orElse(usual);
+        closesAll = above != null ? above.closesAll : HAS_SCOPES && context.getConfigurationParameter(CLOSES_ALL).map(Boolean::valueOf).orElse(true);
+        asked = above != null ? above.asked : context.getConfigurationParameter(NUMBERS).map(Own::asked);
+        numbers = asked.orElse(above == null ? NUMBERS_OF_ROOT : context.getTestMethod().isPresent() ? NUMBERS_OF_METHOD : NUMBERS_OF_CLASS);
     }
 
     private static int asked(String text) {
@@ -103,7 +106,7 @@ final class Own implements ExtensionContext.Store.CloseableResource, AutoCloseab
     }
 
     /** What stands nearest, as it is stored; null where nothing does. */
-    Object found(Object name) {
+    Object found(Key name) {
         Object found = null;
         for (Own at = this; at != null && found == null; at = at.above) {
             found = at.standing(name);
@@ -111,7 +114,7 @@ final class Own implements ExtensionContext.Store.CloseableResource, AutoCloseab
         return found;
     }
 
-    private Object standing(Object name) {
+    private Object standing(Key name) {
         if (closed && stores.length == 0) {
             opened(0); // which refuses
         }
@@ -124,7 +127,7 @@ final class Own implements ExtensionContext.Store.CloseableResource, AutoCloseab
     }
 
     /** What stands here, or the creator's value, as it is stored. */
-    Object computed(Object name, Supplier<Object> creator) {
+    Object computed(Key name, Supplier<Object> creator) {
         try {
             return storeFor(name).getOrComputeIfAbsent(name, it -> stored(creator.get()));
         } catch (StoreException refused) {
@@ -132,7 +135,7 @@ final class Own implements ExtensionContext.Store.CloseableResource, AutoCloseab
         }
     }
 
-    void put(Object name, Object value) {
+    void put(Key name, Object value) {
         Object stored = stored(value);
         try {
             letGo(storeFor(name).put(name, stored));
@@ -142,11 +145,11 @@ final class Own implements ExtensionContext.Store.CloseableResource, AutoCloseab
     }
 
     /** Takes out what stands here, and answers its value. */
-    Object remove(Object name) {
+    Object remove(Key name) {
         return value(letGo(taken(name)));
     }
 
-    private Object taken(Object name) {
+    private Object taken(Key name) {
         if (closed && stores.length == 0) {
             opened(0);
         }
@@ -159,7 +162,7 @@ final class Own implements ExtensionContext.Store.CloseableResource, AutoCloseab
     }
 
     /** Takes out a null that stands here. What another thread has put in its place meanwhile is put there again. */
-    void removeNull(Object name) {
+    void removeNull(Key name) {
         Object taken = standing(name) == Nothing.HERE ? taken(name) : null;
         if (taken != null && taken != Nothing.HERE) {
             letGo(storeFor(name).put(name, taken));
@@ -214,7 +217,7 @@ final class Own implements ExtensionContext.Store.CloseableResource, AutoCloseab
         return refused.told(isMet ? message + "; the configuration parameter " + NUMBERS + " is " + numbers : message, value(value));
     }
 
-    private Store storeFor(Object name) {
+    private Store storeFor(Key name) {
         for (int at = 0; ; at++) {
             Store store = at < stores.length ? stores[at] : opened(at);
             if (store.takes(name)) {

@@ -1,6 +1,7 @@
 package extensionstore.junit;
 
 import extensionstore.Contexts;
+import extensionstore.Key;
 import extensionstore.StoreException;
 import java.lang.System.Logger.Level;
 import java.lang.invoke.MethodType;
@@ -31,7 +32,7 @@ import org.junit.platform.commons.PreconditionViolationException;
  *
  * <p>A context of a test method stores 4,095 values, a class's 65,535 and the root 262,143, those that are replaced, removed or refused among them; or as
  * many as the configuration parameter {@code extensionstore.numbers} says, 1 to 1,048,575. Keys have no limit: for each 1,024 more a store is opened, which
- * has as many numbers.
+ * has as many numbers. A constant {@link Key} stands for its name, and saves a look-up the hash.
  */
 public final class ProvedStore implements Store {
     private static final String NONE = "no proved store: ";
@@ -43,15 +44,6 @@ public final class ProvedStore implements Store {
     private ProvedStore(Namespace namespace, Own own) {
         this.namespace = namespace;
         this.own = own;
-    }
-
-    /** A key of a namespace. */
-    private record Name(Namespace namespace, Object key) {
-        /** The key, for messages. */
-        @Override
-        public String toString() {
-            return key.toString();
-        }
     }
 
     /**
@@ -92,7 +84,7 @@ public final class ProvedStore implements Store {
 
     @Override
     public <K, V> Object getOrComputeIfAbsent(K key, Function<K, V> defaultCreator) {
-        Name name = named(key);
+        Key name = named(key);
         given(defaultCreator, "defaultCreator function");
         Object found = own.found(name);
         return Own.value(found != null ? found : own.computed(name, () -> defaultCreator.apply(key)));
@@ -100,7 +92,7 @@ public final class ProvedStore implements Store {
 
     @Override
     public <K, V> V getOrComputeIfAbsent(K key, Function<K, V> defaultCreator, Class<V> requiredType) {
-        Name name = named(key);
+        Key name = named(key);
         given(defaultCreator, "defaultCreator function");
         return cast(name, type(requiredType), getOrComputeIfAbsent(key, defaultCreator));
     }
@@ -110,7 +102,7 @@ public final class ProvedStore implements Store {
      * null.
      */
     public <K, V> Object computeIfAbsent(K key, Function<? super K, ? extends V> defaultCreator) {
-        Name name = named(key);
+        Key name = named(key);
         given(defaultCreator, "defaultCreator function");
         Object value = get(key);
         while (value == null) {
@@ -148,8 +140,8 @@ public final class ProvedStore implements Store {
         return it;
     }
 
-    private Name named(Object key) {
-        return new Name(namespace, given(key, "key"));
+    private Key named(Object key) {
+        return Key.in(namespace, given(key, "key"));
     }
 
     private static <V> Class<V> type(Class<V> required) {
@@ -157,7 +149,7 @@ public final class ProvedStore implements Store {
     }
 
     @SuppressWarnings("unchecked")
-    private static <V> V cast(Name name, Class<V> type, Object value) {
+    private static <V> V cast(Key name, Class<V> type, Object value) {
         Class<?> wanted = type.isPrimitive() ? MethodType.methodType(type).wrap().returnType() : type;
         if (value != null && !wanted.isInstance(value)) {
             throw new ExtensionContextException("Object stored under key [" + name + "] is not of required type [" + type.getName() + "]");
