@@ -1,8 +1,8 @@
-"""Makes random plans of few nodes, asks the program what their races are (`check --races`), and goes through all schedules of each plan by a model. A plan that is
-told to be free has to have one report in all of them, which is that of its plain run: wholly, or but for `computed` and `found` where that is told. As a check of the
-model each fifth plan is run, plain and on 4 and 16 lanes: its reports have to be the model's. Plans with more states than are gone through are replaced by others.
-Then come the plans of examples/cases/races_told, whose first line says what is told of them, and what all their schedules come to. Prints each plan that is not as it
-has to be, and how many random plans are free, and how many race though they have one report.
+"""Makes random plans of few nodes, half of them as plans usually are, asks the program what their races are (`check --races`), and goes through all schedules of each
+plan by a model. A plan that is told to be free has to have one report in all of them, which is that of its plain run: wholly, or but for `computed` and `found` where
+that is told. As a check of the model each fifth plan is run, plain and on 4 and 16 lanes: its reports have to be the model's. Plans with more states than are gone
+through are replaced by others. Then come the plans of examples/cases/races_told, whose first line says what is told of them, and what all their schedules come to.
+Prints each plan that is not as it has to be, and how many random plans are free, and how many race though they have one report.
 
 words:
   --plans N  how many random plans are made, 300 without the word
@@ -31,6 +31,14 @@ WORDS = [
     ["put", "put", "want", "none"],
     ["compute", "want", "want", "remove"],
 ]
+# The words of usual plans, by where they stand: each key has one text, and what tests look up is mostly stored before.
+USUAL_WORDS = {
+    "before_all": ["put", "compute"],
+    "before_each": ["put", "compute", "want"],
+    "after_each": ["want", "remove"],
+    "after_all": ["want", "remove"],
+    "test": ["want", "want", "want", "want", "compute", "compute", "put", "remove"],
+}
 LOCKS = ['locks = ["READ_WRITE db"]', 'locks = ["READ_WRITE db"]', 'locks = ["READ db"]', "isolated = true"]
 CALLBACKS = [("before_all", 0.55, (1, 1, 2)), ("after_all", 0.2, (1,)), ("before_each", 0.2, (1,)), ("after_each", 0.15, (1,))]
 
@@ -45,13 +53,14 @@ class Maker:
         self.words = chance.choice(WORDS)
         self.is_locked = chance.random() < 0.25
 
-    def steps(self, depth, count):
-        return [self.step(depth) for _ in range(count)]
+    def steps(self, place, depth, count):
+        return [self.step(place, depth) for _ in range(count)]
 
-    def step(self, depth):
+    def step(self, place, depth):
+        """A step of a test or of callbacks of this kind, by a node of this depth."""
         word, key, text = self.chance.choice(self.words), self.chance.choice(self.keys), self.chance.choice(self.texts)
         up = min(self.chance.choice([0, 1, 1, 2]), depth)
-        return " ".join([word, key] + ([] if word in ("none", "remove") else [text]) + ([f"up {up}"] if up else []))
+        return joined(word, key, text, up)
 
     def node(self, node_id, is_test=False, is_concurrent=False):
         """The lines of a node."""
@@ -59,10 +68,10 @@ class Maker:
         lines = ["[[node]]", f'id = "{node_id}"'] + (['mode = "concurrent"'] if is_concurrent else [])
         if is_test:
             lines += [self.chance.choice(LOCKS)] if self.is_locked and self.chance.random() < 0.8 else []
-            return [*lines, f"test = {self.steps(depth, self.chance.choice([0, 1, 1, 2, 2, 3]))}"]
+            return [*lines, f"test = {self.steps('test', depth, self.chance.choice([0, 1, 1, 2, 2, 3]))}"]
         for kind, often, counts in CALLBACKS:
             if self.chance.random() < often:
-                lines.append(f"{kind} = {[self.steps(depth, self.chance.choice(counts))]}")
+                lines.append(f"{kind} = {[self.steps(kind, depth, self.chance.choice(counts))]}")
         return lines
 
     def plan(self):
@@ -76,6 +85,26 @@ class Maker:
             for number in range(chance.choice([1, 1, 2] if len(classes) > 1 else [2, 2, 3])):
                 lines += self.node(f"[e:x]/[c:{name}]/[t:{number}]", is_test=True, is_concurrent=len(classes) == 1 or chance.random() < 0.5)
         return ("\n".join(lines) + "\n").replace("'", '"')
+
+
+class UsualMaker(Maker):
+    """Makes a plan as it is usual: each key has one text and one kind of value, mostly in the context of the engine, or in that of a class."""
+
+    def __init__(self, chance):
+        super().__init__(chance)
+        self.marks = {key: chance.choice(["", "!"]) for key in self.keys}
+        self.level = chance.choice([0, 1, 1])
+
+    def step(self, place, depth):
+        word, key = self.chance.choice(USUAL_WORDS[place]), self.chance.choice(self.keys)
+        depth = 2 if place in ("before_each", "after_each") else depth
+        acts_at = depth if word == "want" else self.chance.choice([self.level, self.level, self.level, 2])
+        return joined(word + (self.marks[key] if word in ("put", "compute") else ""), key, f"x{key}", max(depth - acts_at, 0))
+
+
+def joined(word, key, text, up):
+    """The text of a step."""
+    return " ".join([word, key] + ([] if word in ("none", "remove") else [text]) + ([f"up {up}"] if up else []))
 
 
 def ran(program, text, *words):
@@ -135,7 +164,7 @@ def check_random(program, count, chance):
     checked, made = Checked(program), 0
     while made < count:
         try:
-            checked.check(Maker(chance).plan(), runs=made % 5 == 0)
+            checked.check(chance.choice([Maker, UsualMaker])(chance).plan(), runs=made % 5 == 0)
             made += 1
         except model.TooManyStates:
             continue

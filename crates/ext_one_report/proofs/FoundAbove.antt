@@ -1,4 +1,4 @@
--- A touch that does not change its place counts as a look-up, or it finds what a callback before all children of a node above has computed there. That compute changes the place.
+-- A touch that does not change its place counts as a look-up, or it finds what a callback before all children of a node above has put or computed there. That step changes the place.
 use Rattle.std.proofs.Common.{◌≡◌, ◌<◌, ◌⊎◌, ℕ, zero, suc, Bool, true, false, true≢false, List, [], ◌∷◌, ◌++◌, length, Contains, IfSome, drop, map, Option, Some, None, refl, ap, sym, subst, ◌∙◌, arith, inl, inr}
 use Rattle.std.specs.Prelude.{◌==◌, ◌||◌, if◌then◌else◌}
 use Rattle.std.specs.List.{list_any}
@@ -17,39 +17,37 @@ use Rattle.ext_plan.specs.ReadPlans.{IsReadPlan, ids_of_nodes}
 use Rattle.ext_plan.specs.StepCalls.{start_of}
 use Rattle.ext_plan.specs.Steps.{height}
 use Rattle.ext_plan.specs.StoreKeys.{is_there, key_of_step, number_of_key}
-use Rattle.ext_plan.specs.StepWords.{changes, gives_value, has_text, looks_along}
+use Rattle.ext_plan.specs.StepWords.{changes, gives_value, looks_along}
 use Rattle.ext_plan.specs.declared.word.Word.{Word}
 use Rattle.ext_plan.specs.declared.word.Word.TheVariants as words
 use Rattle.ext_plan.proofs.KeyLists.{not_contained, not_there, key_number_within}
-use Rattle.ext_races.specs.Acts.{ActText, act_of}
+use Rattle.ext_races.specs.Acts.{ActText, act_of, as_compute, stores}
 use Rattle.ext_races.specs.MadeSteps.{MadeText, calls_after, calls_before, calls_of, plan_path, steps_before, steps_made}
-use Rattle.ext_races.specs.Touches.{ComputeText, TouchText, computed_above, computed_by, computes_key, first_compute, found_above, is_removed, key_of_act, key_of_made, keys_named, look_at, or_above, reach, standing, touch_first, touch_of, touches_above, touches_along, touches_made, touches_of, touches_of_act, text_if}
+use Rattle.ext_races.specs.Touches.{ComputeText, TouchText, computes_key, first_stored, found_above, is_removed, key_of_act, key_of_made, keys_named, look_at, or_above, reach, standing, stored_above, stored_by, stores_key, touch_first, touch_of, touches_above, touches_along, touches_made, touches_of, touches_of_act}
 use Rattle.ext_races.proofs.Lists.{contains-flat_map_back, contains-map_back, contains_cases, contains_first, contains_later, contains_nothing}
 use Rattle.ext_races.proofs.Paths.{path_is}
 use Rattle.ext_races.proofs.Within.{nodes_within}
-use Rattle.ext_one_report.proofs.ComputedAbove.{IsComputedIn}
+use Rattle.ext_one_report.proofs.ComputedAbove.{IsStoredIn}
 use Rattle.ext_one_report.proofs.CoveredCalls.{call_stays}
 use Rattle.ext_one_report.proofs.CoveredPaths.{path_holds, path_there}
 use Rattle.ext_one_report.proofs.CoveredTouches.{first_changes, first_looks, is_made, look_at_is, looks_of, start_made, step_is, step_of}
 use Rattle.ext_one_report.proofs.KeysNamed.{there_all}
 pub use Rattle.ext_one_report.proofs.Matching.{one_of_place as one_key}
-use Rattle.ext_one_report.proofs.WordCases.{computes_all, of_computes}
+use Rattle.ext_one_report.proofs.WordCases.{stores_all}
 
--- a callback before all children of a node above the touch's node computes at its place what it finds, and nothing removes it
+-- a callback before all children of a node above the touch's node puts or computes at its place what it finds, and nothing removes it
 pub record IsFoundAbove (plan : PlanText) (t : TouchText) : Type 0 where
   pub key : KeyValue
   pub number : number_of_key (keys_named plan) key ≡ t.key
   pub named : is_there (keys_named plan) key ≡ true
-  pub computed : IsComputedIn plan (drop 1 (plan_path plan t.node)) t.context key
-  -- the touch of that compute
+  pub computed : IsStoredIn plan (drop 1 (plan_path plan t.node)) t.context key
+  -- the touch of that step
   pub touch : TouchText
   pub made : Contains (touches_made plan) touch
   pub node_is : touch.node ≡ computed.node
   pub context_is : touch.context ≡ t.context
   pub key_is : touch.key ≡ t.key
   pub changes : touch.changes ≡ true
-  pub acts : touch.acts ≡ t.acts
-  pub text : touch.text ≡ t.text
 
 -- ---- what is there
 
@@ -143,11 +141,16 @@ look_cases node key act (Some found) context = elim (cases_Bool (context == foun
 
 -- ---- what was computed above
 
+above_cases : (here above : Option ComputeText) (found : ComputeText) → or_above here above ≡ Some found → (here ≡ Some found) ⊎ (above ≡ Some found)
+above_cases None above found e = inr e
+above_cases (Some one) above found e = inl e
+
 -- a look-up finds what stands there only where no step before it computed its key
 pub record IsFoundBy (plan : PlanText) (made : MadeText) (act : ActText) (found : ComputeText) : Type 0 where
   pub still : changes act.word ≡ false
   pub none : (step : StepText) → Contains made.before step → computes_key plan.keys (key_of_step plan.keys act.key) (act_of step) ≡ false
-  pub above : computed_above plan (key_of_step plan.keys act.key) (drop 1 (plan_path plan made.node)) ≡ Some found
+  pub put : Bool
+  pub above : stored_above plan put (key_of_step plan.keys act.key) (drop 1 (plan_path plan made.node)) ≡ Some found
 
 pub found_parts : (plan : PlanText) (made : MadeText) (act : ActText) (found : ComputeText) → found_by plan made act ≡ Some found → IsFoundBy plan made act found
 found_parts plan made act found e =
@@ -155,75 +158,68 @@ found_parts plan made act found e =
     let p : StepText → Bool = λ step. computes_key plan.keys key (act_of step) in
     let first = unless_some (changes act.word || list_any p made.before) (standing plan made.node key) found e in
     let own = or_parts (changes act.word) (list_any p made.before) first.0 in
-    record {
-      still = own.0;
-      none = λ step there. false_from_ne_true (p step) (λ computes. true≢false (sym (list_any-from_Any p made.before (there.0, step, there.1, there.2, computes)) ∙ own.1));
-      above = first.1;
-    }
+    let path = drop 1 (plan_path plan made.node) in
+    let none : (step : StepText) → Contains made.before step → p step ≡ false =
+    λ step there. false_from_ne_true (p step) (λ computes. true≢false (sym (list_any-from_Any p made.before (there.0, step, there.1, there.2, computes)) ∙ own.1)) in
+    elim (above_cases (stored_above plan false key path) (stored_above plan true key path) found first.1) [
+      | inl computed ↦ record { still = own.0; none = none; put = false; above = computed }
+      | inr put ↦ record { still = own.0; none = none; put = true; above = put }
+    ]
 
--- the act computes this
-record IsComputeOf (declared : List KeyText) (key : KeyValue) (path : List ℕ) (acts : List (Option ActText)) (found : ComputeText) : Type 0 where
+-- the act stores this
+record IsStoredOf (declared : List KeyText) (key : KeyValue) (put : Bool) (path : List ℕ) (acts : List (Option ActText)) (found : ComputeText) : Type 0 where
   act : ActText
   there : Contains acts (Some act)
-  gives : gives_value act.word ≡ true
+  stored : stores put act.word ≡ true
   named : key_of_step declared act.key ≡ key
   at : start_of (drop act.up path) ≡ found.context
-  word : act.word ≡ found.word
-  text : act.text ≡ found.text
+  word : as_compute act.word ≡ found.word
 
-first_found : (declared : List KeyText) (key : KeyValue) (path : List ℕ) (acts : List (Option ActText)) (found : ComputeText) → first_compute declared key path acts ≡ Some found
-    → IsComputeOf declared key path acts found
-first_found declared key path [] found e = absurd (cc e)
-first_found declared key path (None ∷ more) found e =
-    let rest = first_found declared key path more found e in
-    record { act = rest.act; there = contains_later None (Some rest.act) more rest.there; gives = rest.gives; named = rest.named; at = rest.at; word = rest.word; text = rest.text }
-first_found declared key path (Some act ∷ more) found e =
-    let here : ComputeText = record { context = start_of (drop act.up path); word = act.word; text = act.text } in
-    elim (if_some_cases (computes_key declared key (Some act)) (Some here) (first_compute declared key path more) found e) [
-      | inl computes ↦
-          let parts = and_parts (gives_value act.word) (key_eq (key_of_step declared act.key) key) computes.0 in
-          let same : here ≡ found = cc computes.1 in
+first_found : (declared : List KeyText) (key : KeyValue) (put : Bool) (path : List ℕ) (acts : List (Option ActText)) (found : ComputeText) → first_stored declared key put path acts ≡ Some found
+    → IsStoredOf declared key put path acts found
+first_found declared key put path [] found e = absurd (cc e)
+first_found declared key put path (None ∷ more) found e =
+    let rest = first_found declared key put path more found e in
+    record { act = rest.act; there = contains_later None (Some rest.act) more rest.there; stored = rest.stored; named = rest.named; at = rest.at; word = rest.word }
+first_found declared key put path (Some act ∷ more) found e =
+    let here : ComputeText = record { context = start_of (drop act.up path); word = as_compute act.word; text = act.text } in
+    elim (if_some_cases (stores_key declared key put (Some act)) (Some here) (first_stored declared key put path more) found e) [
+      | inl stored ↦
+          let parts = and_parts (stores put act.word) (key_eq (key_of_step declared act.key) key) stored.0 in
+          let same : here ≡ found = cc stored.1 in
           record {
             act = act;
             there = contains_first (Some act) more;
-            gives = parts.0;
+            stored = parts.0;
             named = (keys_Decides (key_of_step declared act.key) key).0 parts.1;
             at = ap (λ c. c.context) same;
             word = ap (λ c. c.word) same;
-            text = ap (λ c. c.text) same;
           }
       | inr other ↦
-          let rest = first_found declared key path more found other.1 in
-          record { act = rest.act; there = contains_later (Some act) (Some rest.act) more rest.there; gives = rest.gives; named = rest.named; at = rest.at; word = rest.word; text = rest.text }
+          let rest = first_found declared key put path more found other.1 in
+          record { act = rest.act; there = contains_later (Some act) (Some rest.act) more rest.there; stored = rest.stored; named = rest.named; at = rest.at; word = rest.word }
     ]
 
-above_cases : (here above : Option ComputeText) (found : ComputeText) → or_above here above ≡ Some found → (here ≡ Some found) ⊎ (above ≡ Some found)
-above_cases None above found e = inr e
-above_cases (Some one) above found e = inl e
-
-module _ (plan : PlanText) (read : IsReadPlan plan) (key : KeyValue) (found : ComputeText) where
+module _ (plan : PlanText) (read : IsReadPlan plan) (key : KeyValue) (put : Bool) (found : ComputeText) where
   -- a callback before all children of a node of the path does, and it is not removed
   abbrev IsNodeOf : List ℕ → Type 0
-  IsNodeOf nodes = (n : ℕ) × Contains nodes n × (is_removed plan n key ≡ false) × (first_compute plan.keys key (plan_path plan n) (map act_of (steps_before plan n)) ≡ Some found)
+  IsNodeOf nodes = (n : ℕ) × Contains nodes n × (is_removed plan n key ≡ false) × (first_stored plan.keys key put (plan_path plan n) (map act_of (steps_before plan n)) ≡ Some found)
 
-  node_found : (k : ℕ) (walk : List ℕ) → IsWalk (ids_of_nodes plan.nodes) k walk → computed_above plan key walk ≡ Some found → IsNodeOf walk
+  node_found : (k : ℕ) (walk : List ℕ) → IsWalk (ids_of_nodes plan.nodes) k walk → stored_above plan put key walk ≡ Some found → IsNodeOf walk
   node_found k [] root e = absurd (cc e)
   node_found k (n ∷ above) (is, walks) e =
       let ids = ids_of_nodes plan.nodes in
       let along : n ∷ above ≡ plan_path plan n = path_is ids read.runnable.tree n (n ∷ above) is.parent_within (refl, walks) in
-      elim (above_cases (computed_by plan key n (n ∷ above)) (computed_above plan key above) found e) [
+      elim (above_cases (stored_by plan put key n (n ∷ above)) (stored_above plan put key above) found e) [
         | inl here ↦
-            let kept = unless_some (is_removed plan n key) (first_compute plan.keys key (n ∷ above) (map act_of (steps_before plan n))) found here in
-            (n, contains_first n above, kept.0, subst (λ path. first_compute plan.keys key path (map act_of (steps_before plan n)) ≡ Some found) along kept.1)
+            let kept = unless_some (is_removed plan n key) (first_stored plan.keys key put (n ∷ above) (map act_of (steps_before plan n))) found here in
+            (n, contains_first n above, kept.0, subst (λ path. first_stored plan.keys key put path (map act_of (steps_before plan n)) ≡ Some found) along kept.1)
         | inr later ↦ let rest = node_found n above walks later in (rest.0, contains_later n rest.0 above rest.1, rest.2, rest.3)
       ]
 
-  node_above : (k : ℕ) (path : List ℕ) → IsPathOf (ids_of_nodes plan.nodes) k path → computed_above plan key (drop 1 path) ≡ Some found → IsNodeOf (drop 1 path)
+  node_above : (k : ℕ) (path : List ℕ) → IsPathOf (ids_of_nodes plan.nodes) k path → stored_above plan put key (drop 1 path) ≡ Some found → IsNodeOf (drop 1 path)
   node_above k [] is e = absurd is
   node_above k (first ∷ walk) (same, walks) e = node_found k walk walks e
-
-told_text : (word : Word) (text : List ℕ) → gives_value word ≡ true → text_if (has_text word) text ≡ text
-told_text word text gives = of_computes (λ w. text_if (has_text w) text ≡ text) refl refl word gives
 
 module _ (plan : PlanText) (read : IsReadPlan plan) where
   near_path : (node : ℕ) → node < length plan.nodes → IsPathOf (ids_of_nodes plan.nodes) node (plan_path plan node)
@@ -235,8 +231,8 @@ module _ (plan : PlanText) (read : IsReadPlan plan) where
       let ids = ids_of_nodes plan.nodes in
       let key = key_of_step plan.keys act.key in
       let path = near_path made.node less in
-      let one = node_above plan read key found made.node (plan_path plan made.node) path is.above in
-      let compute = first_found plan.keys key (plan_path plan one.0) (map act_of (steps_before plan one.0)) found one.3 in
+      let one = node_above plan read key is.put found made.node (plan_path plan made.node) path is.above in
+      let compute = first_found plan.keys key is.put (plan_path plan one.0) (map act_of (steps_before plan one.0)) found one.3 in
       let step = contains-map_back act_of (steps_before plan one.0) (Some compute.act) compute.there in
       let call = contains-flat_map_back (steps_of_call plan) (calls_before plan one.0) step.0 step.1 in
       let near : one.0 < length ids = path_holds ids read.runnable.tree made.node one.0 (plan_path plan made.node) path (All-contains (Contains (plan_path plan made.node)) (drop 1 (plan_path plan made.node)) one.0 (All-drop (Contains (plan_path plan made.node)) 1 (plan_path plan made.node) (All-contains_itself (plan_path plan made.node))) one.1) in
@@ -246,8 +242,9 @@ module _ (plan : PlanText) (read : IsReadPlan plan) where
       let step_there : Contains (steps_of_call plan call.0) (step_of compute.act) = subst (Contains (steps_of_call plan call.0)) (step_is step.0 compute.act step.2) call.2 in
       let stays = All-contains (λ s. height s < length (plan_path plan one.0)) (steps_of_call plan call.0) (step_of compute.act)
       (call_stays plan read one.0 (plan_path plan one.0) (near_path one.0 within) call.0 among) step_there in
-      let changing = (computes_all compute.act.word compute.gives).0 in (
-        ap gives_value (sym compute.word) ∙ compute.gives,
+      let both = stores_all is.put compute.act.word compute.stored in
+      let changing = both.0 in (
+        ap gives_value (sym compute.word) ∙ both.1,
         record {
           key = key;
           number = refl;
@@ -257,7 +254,7 @@ module _ (plan : PlanText) (read : IsReadPlan plan) where
             among = one.1;
             step = step.0;
             held = step.1;
-            computes = record { act = compute.act; is = step.2; gives = compute.gives; at = compute.at ∙ sym at; named = compute.named };
+            computes = record { act = compute.act; is = step.2; put = is.put; stored = compute.stored; at = compute.at ∙ sym at; named = compute.named };
             kept = one.2;
           };
           touch = touch_of one.0 (number_of plan compute.act) compute.act true (start_of (drop compute.act.up (plan_path plan one.0)));
@@ -266,8 +263,6 @@ module _ (plan : PlanText) (read : IsReadPlan plan) where
           context_is = compute.at ∙ sym at;
           key_is = ap (number_of_key (keys_named plan)) compute.named;
           changes = refl;
-          acts = compute.word;
-          text = told_text compute.act.word compute.act.text compute.gives ∙ compute.text;
         },
       )
 

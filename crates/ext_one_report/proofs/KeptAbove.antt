@@ -30,7 +30,7 @@ use Rattle.ext_plan_plain.specs.StepRuns.{StepEnd}
 use Rattle.ext_plan_plain.specs.NodeCalls.{CallsEnd, befores_run, call_run, make, make_befores, make_if_successful, no_calls}
 use Rattle.ext_plan_plain.specs.PlainRun.{RunState, node_run}
 use Rattle.ext_one_report.proofs.CallLists.{if_made, stays, successful_more}
-use Rattle.ext_one_report.proofs.ComputedAbove.{ComputesAt, IsClosedAbove, IsComputedIn, all_clear}
+use Rattle.ext_one_report.proofs.ComputedAbove.{StoresAt, IsClosedAbove, IsStoredIn, all_clear}
 use Rattle.ext_one_report.proofs.Calls.{path_above}
 use Rattle.ext_one_report.proofs.CoveredCalls.{call_stays}
 use Rattle.ext_one_report.proofs.CoveredPaths.{path_holds, path_there}
@@ -145,7 +145,7 @@ fewer_closed plan nodes o later s fewer closed = record {
 }
 
 -- the contexts at and above the one on which a callback of the node computes are on the node's path
-computes_on : (plan : PlanText) → IsReadPlan plan → (n context : ℕ) (key : KeyValue) (step : StepText) → n < length plan.nodes → Contains (steps_before plan n) step → ComputesAt plan (plan_path plan n) step context key
+computes_on : (plan : PlanText) → IsReadPlan plan → (n context : ℕ) (key : KeyValue) (step : StepText) → n < length plan.nodes → Contains (steps_before plan n) step → StoresAt plan (plan_path plan n) step context key
     → All (On plan n) (plan_path plan context)
 computes_on plan read n context key step within held computes =
     let ids = ids_of_nodes plan.nodes in
@@ -239,14 +239,14 @@ module _ (plan : PlanText) (read : IsReadPlan plan) (node : ℕ) (path : List �
   each_keeps key kept call among s = steps_keep (On plan node) key plan.keys path (steps_of_call plan call) s (λ step there. spares key kept call step among there)
 
   -- what they computed
-  own_left : (context : ℕ) (key : KeyValue) (step : StepText) → Contains (steps_before plan node) step → ComputesAt plan (plan_path plan node) step context key → is_removed plan node key ≡ false → (s : ValueState)
+  own_left : (context : ℕ) (key : KeyValue) (step : StepText) → Contains (steps_before plan node) step → StoresAt plan (plan_path plan node) step context key → is_removed plan node key ≡ false → (s : ValueState)
       → all_successful (befores_run plan false node path s).calls ≡ true → all_clear (befores_run plan false node path s).state (plan_path plan context) key ≡ false
   own_left context key step held computes kept s good =
       let held_here : Contains (flat_map (steps_of_call plan) befores) step = subst (λ calls. Contains (flat_map (steps_of_call plan) calls) step) same_befores held in
       let from = contains-flat_map_back (steps_of_call plan) befores step held_here in
       let along = plan_path plan context in
       let all : All (On plan node) along = computes_on plan read node context key step within held computes in
-      let leaves = computes_leave plan tree node path step context key is (subst (λ p. ComputesAt plan p step context key) (sym on) computes) in
+      let leaves = computes_leave plan tree node path step context key is (subst (λ p. StoresAt plan p step context key) (sym on) computes) in
       befores_left plan (On plan node) key path along all befores (no_calls s) from.0 (each_keeps key kept) from.1
       (λ t. steps_left (On plan node) key plan.keys path along all (steps_of_call plan from.0) step t (λ other there. spares key kept from.0 other from.1 there) from.2 leaves) good
 
@@ -261,7 +261,7 @@ above_or_own plan node (first ∷ above) is n among = elim (contains_cons first 
 -- what they computed and what was computed above stands there or above
 pub body_closed : (plan : PlanText) → IsReadPlan plan → (node : ℕ) (path : List ℕ) → IsPathOf (ids_of_nodes plan.nodes) node path → is_some (test_of plan node) ≡ false
     → (o later : Open) (s : ValueState) → IsClosedAbove plan (drop 1 (plan_path plan node)) o s → ((context : ℕ) (key : KeyValue) (v : Given) → later context key ≡ Some v → o context key ≡ Some v)
-    → ((context : ℕ) (key : KeyValue) → IsComputedIn plan (node ∷ []) context key → later context key ≡ None)
+    → ((context : ℕ) (key : KeyValue) → IsStoredIn plan (node ∷ []) context key → later context key ≡ None)
     → all_successful (befores_run plan false node path s).calls ≡ true
     → IsClosedAbove plan path later (befores_run plan false node path s).state
 body_closed plan read node path is container o later s closed fewer own good = record {
@@ -272,7 +272,7 @@ body_closed plan read node path is container o later s closed fewer own good = r
   stands = λ context key computed. elim (above_or_own plan node path is computed.node computed.among) [
     | inl here ↦
         let held : Contains (steps_before plan node) computed.step = subst (λ n. Contains (steps_before plan n) computed.step) here computed.held in
-        let computes : ComputesAt plan (plan_path plan node) computed.step context key = subst (λ n. ComputesAt plan (plan_path plan n) computed.step context key) here computed.computes in
+        let computes : StoresAt plan (plan_path plan node) computed.step context key = subst (λ n. StoresAt plan (plan_path plan n) computed.step context key) here computed.computes in
         own_left plan read node path is container context key computed.step held computes (ap (λ n. is_removed plan n key) (sym here) ∙ computed.kept) s good
     | inr above ↦
         let n = computed.node in
@@ -285,7 +285,7 @@ body_closed plan read node path is container o later s closed fewer own good = r
     tree : NodesAreTree plan
     tree = read.runnable.tree
 
-    at_node : (context : ℕ) (key : KeyValue) → (computed : IsComputedIn plan path context key) → computed.node ≡ node → IsComputedIn plan (node ∷ []) context key
+    at_node : (context : ℕ) (key : KeyValue) → (computed : IsStoredIn plan path context key) → computed.node ≡ node → IsStoredIn plan (node ∷ []) context key
     at_node context key computed here = record {
       node = computed.node;
       among = subst (λ n. Contains (node ∷ []) n) (sym here) (contains_here node []);
@@ -295,7 +295,7 @@ body_closed plan read node path is container o later s closed fewer own good = r
       kept = computed.kept;
     }
 
-    at_above : (context : ℕ) (key : KeyValue) → (computed : IsComputedIn plan path context key) → Contains (drop 1 path) computed.node → IsComputedIn plan (drop 1 (plan_path plan node)) context key
+    at_above : (context : ℕ) (key : KeyValue) → (computed : IsStoredIn plan path context key) → Contains (drop 1 path) computed.node → IsStoredIn plan (drop 1 (plan_path plan node)) context key
     at_above context key computed above = record {
       node = computed.node;
       among = subst (λ p. Contains (drop 1 p) computed.node) (on plan read node path is container) above;

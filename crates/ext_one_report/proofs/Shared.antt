@@ -19,7 +19,7 @@ use Rattle.ext_races.specs.MadeSteps.{calls_after, calls_before, calls_of, plan_
 use Rattle.ext_one_report.proofs.PlanCells.{changed_by}
 use Rattle.ext_one_report.proofs.MatchingWords.{Places, RunView}
 use Rattle.ext_one_report.specs.Within.{is_within}
-use Rattle.ext_one_report.proofs.ComputedAbove.{IsComputedIn, NoneOpenAbove}
+use Rattle.ext_one_report.proofs.ComputedAbove.{IsStoredIn, NoneOpenAbove}
 use Rattle.ext_one_report.proofs.OfPlan.{IsLeftBeside, IsLeftWithin}
 use Rattle.ext_one_report.proofs.Orders.{Fails}
 use Rattle.ext_one_report.proofs.Open.{ComputesOpen, FailsOpen, Given, IsKeptBy, Open, given_by, of_value}
@@ -50,7 +50,7 @@ given_in plan node context key = given_of plan (find (is_open_at plan node conte
 
 -- each place at which the node shares a value is one at which a node above it computes
 abbrev pub SharesAbove : PlanText → (ℕ → Open) → ℕ → Type 0
-SharesAbove plan shares node = (context : ℕ) (key : KeyValue) (v : ValueText) → shares node context key ≡ Some (of_value v) → IsComputedIn plan (drop 1 (plan_path plan node)) context key
+SharesAbove plan shares node = (context : ℕ) (key : KeyValue) (v : ValueText) → shares node context key ≡ Some (of_value v) → IsStoredIn plan (drop 1 (plan_path plan node)) context key
 
 -- `shares` has the places at which each node, or a node below it, computes what a node beside it computes too
 module _ (plan : PlanText) (run : RunView) (touched changes : ℕ → Places) (shares : ℕ → Open) where
@@ -82,7 +82,7 @@ module _ (plan : PlanText) (run : RunView) (touched changes : ℕ → Places) (s
     pub below_changed : (parent child context : ℕ) (key : KeyValue) (v : Given) → IsParentOf (ids_of_nodes plan.nodes) parent child → shares parent context key ≡ Some v → changes child context key ≡ true
         → shares child context key ≡ Some v
     pub below : (parent child context : ℕ) (key : KeyValue) (v : Given) → IsParentOf (ids_of_nodes plan.nodes) parent child → shares parent context key ≡ Some v → touched child context key ≡ true
-        → ¬ IsComputedIn plan (plan_path plan parent) context key → shares child context key ≡ Some v
+        → ¬ IsStoredIn plan (plan_path plan parent) context key → shares child context key ≡ Some v
     -- children that run beside one another share each place that one of them changes and another touches
     pub beside : (parent child other context : ℕ) (key : KeyValue) → IsParentOf (ids_of_nodes plan.nodes) parent child → IsParentOf (ids_of_nodes plan.nodes) parent other → child ≢ other
         → concurrent_of plan child ≡ true → concurrent_of plan other ≡ true → changes child context key ≡ true → touched other context key ≡ true
@@ -92,5 +92,5 @@ module _ (plan : PlanText) (run : RunView) (touched changes : ℕ → Places) (s
         → shares child context key ≡ Some v → shares other context key ≡ Some w → v ≡ w
     -- where the close of such a value fails, a step of a node that changes the place may leave it there, and so may a step beside the node, unless it is computed above
     pub fails_below : (node context : ℕ) (key : KeyValue) (v : ValueText) → shares node context key ≡ Some (of_value v) → changes node context key ≡ true → Fails v → IsLeftWithin plan node context v.text
-    pub fails_beside : (node context : ℕ) (key : KeyValue) (v : ValueText) → shares node context key ≡ Some (of_value v) → ¬ IsComputedIn plan (drop 1 (plan_path plan node)) context key → Fails v
+    pub fails_beside : (node context : ℕ) (key : KeyValue) (v : ValueText) → shares node context key ≡ Some (of_value v) → ¬ IsStoredIn plan (drop 1 (plan_path plan node)) context key → Fails v
         → IsLeftBeside plan node context v.text

@@ -24,7 +24,7 @@ use Rattle.ext_one_report.proofs.Covered.{touched_in}
 use Rattle.ext_one_report.proofs.CoveredCalls.{call_stays}
 use Rattle.ext_one_report.proofs.CoveredPlans.{IsTouchedBelow, an_act, from_drop, touched_by, within_by, within_itself}
 use Rattle.ext_one_report.proofs.CoveredTouches.{contains_drop, kept_or_computed, step_is, step_of}
-use Rattle.ext_one_report.proofs.ComputedAbove.{IsComputedIn, NoneOpenAbove}
+use Rattle.ext_one_report.proofs.ComputedAbove.{IsStoredIn, NoneOpenAbove}
 use Rattle.ext_one_report.proofs.FoundAbove.{how_it_acts, key_there, one_key}
 use Rattle.ext_one_report.proofs.Open.{ComputesOpen, FailsOpen, Given, Open, also, at_place, place_of_step, some_or_none, still_open}
 use Rattle.ext_races.specs.OneReports.{SharesValues}
@@ -102,7 +102,7 @@ module _ (plan : PlanText) (read : IsReadPlan plan) (shares : SharesValues plan)
   -- at an open place it would give the value that others give, and so find what is computed above; but such a place is not open
   never_looked : (context : ℕ) (key : KeyValue) (v : Given) → opened context key ≡ Some v → (t : TouchText) → IsLook context key t → ⊥
   never_looked context key v is t look =
-      let none : ¬ IsComputedIn plan (drop 1 (plan_path plan node)) context key = λ computed. open_places.not_both (opened context key) v (none_above context key computed) is in
+      let none : ¬ IsStoredIn plan (drop 1 (plan_path plan node)) context key = λ computed. open_places.not_both (opened context key) v (none_above context key computed) is in
       let found = shares_found plan read node context key v (open_is context key v is) in
       let gives = all_give plan read shares node context key v found none false (look_below context key t look) in
       elim (how_it_acts plan read t look.made) [
@@ -112,8 +112,8 @@ module _ (plan : PlanText) (read : IsReadPlan plan) (shares : SharesValues plan)
           | inr finds ↦
               let from = finds.2 in
               let named : from.key ≡ key = one_key (keys_named plan) from.key key from.named (key_there plan t look.made key look.key_is) (from.number ∙ look.key_is) in
-              none (subst (IsComputedIn plan (drop 1 (plan_path plan node)) context) named (subst (λ x. IsComputedIn plan (drop 1 (plan_path plan node)) x from.key) look.context_is
-              (subst (λ n. IsComputedIn plan (drop 1 (plan_path plan n)) t.context from.key) look.node_is from.computed)))
+              none (subst (IsStoredIn plan (drop 1 (plan_path plan node)) context) named (subst (λ x. IsStoredIn plan (drop 1 (plan_path plan node)) x from.key) look.context_is
+              (subst (λ n. IsStoredIn plan (drop 1 (plan_path plan n)) t.context from.key) look.node_is from.computed)))
         ]
       ]
 

@@ -16,7 +16,7 @@ use Rattle.ext_races.specs.MadeSteps.{plan_path}
 use Rattle.ext_races.specs.OneReports.{SharesValues}
 use Rattle.ext_races.specs.Touches.{TouchText, touches_made}
 use Rattle.ext_one_report.specs.Within.{is_within}
-use Rattle.ext_one_report.proofs.ComputedAbove.{IsComputedIn}
+use Rattle.ext_one_report.proofs.ComputedAbove.{IsStoredIn}
 use Rattle.ext_one_report.proofs.Covered.{changed_in}
 use Rattle.ext_one_report.proofs.CoveredPlans.{changed_cases}
 use Rattle.ext_one_report.proofs.OfPlan.{IsLeftBeside, IsLeftWithin}
@@ -64,7 +64,7 @@ module _ (plan : PlanText) (read : IsReadPlan plan) (shares : SharesValues plan)
         }
   ]
 
-  pub fails_beside : (node context : ℕ) (key : KeyValue) (v : ValueText) → given_in plan node context key ≡ Some (of_value v) → ¬ IsComputedIn plan (drop 1 (plan_path plan node)) context key → Fails v
+  pub fails_beside : (node context : ℕ) (key : KeyValue) (v : ValueText) → given_in plan node context key ≡ Some (of_value v) → ¬ IsStoredIn plan (drop 1 (plan_path plan node)) context key → Fails v
       → IsLeftBeside plan node context v.text
   fails_beside node context key v e none fails =
       let is = shares_found plan read node context key (of_value v) e in

@@ -23,7 +23,7 @@ use Rattle.ext_races.proofs.TouchNodes.{touch_within}
 use Rattle.ext_one_report.specs.Shares.{is_at, is_beside_at}
 use Rattle.ext_races.specs.OneReports.{SharesValues}
 use Rattle.ext_one_report.specs.Within.{is_within}
-use Rattle.ext_one_report.proofs.ComputedAbove.{IsComputedIn}
+use Rattle.ext_one_report.proofs.ComputedAbove.{IsStoredIn}
 use Rattle.ext_one_report.proofs.CoveredPaths.{path_holds, path_there}
 use Rattle.ext_one_report.proofs.CoveredPlans.{IsTouchedBelow, within_found}
 use Rattle.ext_one_report.proofs.FoundAbove.{IsFoundAbove, how_it_acts, key_there, one_key}
@@ -272,7 +272,7 @@ module _ (plan : PlanText) (read : IsReadPlan plan) (shares : SharesValues plan)
       pub two : IsTouchedBeside plan node context key
       pub touch_is : two.touch ≡ from.touch
 
-    beside_or_above : (from : IsFoundAbove plan is.second.touch) → IsComputedBeside from ⊎ IsComputedIn plan (drop 1 (plan_path plan node)) context key
+    beside_or_above : (from : IsFoundAbove plan is.second.touch) → IsComputedBeside from ⊎ IsStoredIn plan (drop 1 (plan_path plan node)) context key
     beside_or_above from =
         let u = is.second in
         let beside = u.beside in
@@ -302,9 +302,9 @@ module _ (plan : PlanText) (read : IsReadPlan plan) (shares : SharesValues plan)
           | inr above ↦
               let less = above_near plan read node is.first.touch is.first.made is.first.below in
               let there = above_both plan read beside.container beside.child beside.other node found.node beside.child_is beside.other_is less beside.below above in
-              let here : IsComputedIn plan (drop 1 (plan_path plan node)) u.touch.context from.key = record { node = found.node; among = there; step = found.step; held = found.held; computes = found.computes; kept = found.kept } in
+              let here : IsStoredIn plan (drop 1 (plan_path plan node)) u.touch.context from.key = record { node = found.node; among = there; step = found.step; held = found.held; computes = found.computes; kept = found.kept } in
               let same : from.key ≡ key = one_key (keys_named plan) from.key key from.named (key_there plan u.touch u.made key u.key_is) (from.number ∙ u.key_is) in
-              inr (subst (IsComputedIn plan (drop 1 (plan_path plan node)) context) same (subst (λ x. IsComputedIn plan (drop 1 (plan_path plan node)) x from.key) u.context_is here))
+              inr (subst (IsStoredIn plan (drop 1 (plan_path plan node)) context) same (subst (λ x. IsStoredIn plan (drop 1 (plan_path plan node)) x from.key) u.context_is here))
         ]
 
     -- so a node beside it changes the place, and computes this
@@ -316,7 +316,7 @@ module _ (plan : PlanText) (read : IsReadPlan plan) (shares : SharesValues plan)
     want_computes : false ≡ true → ⊥
     want_computes is = absurd (cc is)
 
-    pub changed_or_above : IsChangedBeside ⊎ IsComputedIn plan (drop 1 (plan_path plan node)) context key
+    pub changed_or_above : IsChangedBeside ⊎ IsStoredIn plan (drop 1 (plan_path plan node)) context key
     changed_or_above = elim (how_it_acts plan read is.second.touch is.second.made) [
       | inl own ↦ inl (record { two = is.second; changes = own.0; value = second_gives.value })
       | inr still ↦ elim still [
@@ -327,21 +327,21 @@ module _ (plan : PlanText) (read : IsReadPlan plan) (shares : SharesValues plan)
               | inl found ↦ inl (record {
                 two = found.two;
                 changes = ap (λ (t : TouchText). t.changes) found.touch_is ∙ from.changes;
-                value = ap (touch_gives plan) found.touch_is ∙ (λ i. given_by plan.keep_faults (from.acts i) (from.text i)) ∙ second_gives.value;
+                value = sym (both_give node context key false is.first found.two (inr (ap (λ (t : TouchText). t.changes) found.touch_is ∙ from.changes))).value ∙ first_gives.value;
               })
               | inr above ↦ inr above
             ]
       ]
     ]
 
-    pub changed_beside : ¬ IsComputedIn plan (drop 1 (plan_path plan node)) context key → IsChangedBeside
+    pub changed_beside : ¬ IsStoredIn plan (drop 1 (plan_path plan node)) context key → IsChangedBeside
     changed_beside none = elim changed_or_above [
       | inl changed ↦ changed
       | inr above ↦ absurd (none above)
     ]
 
     -- a node at or below it changes the place, or it is computed above
-    pub changed_below : IsTouchedBelow plan node context key true ⊎ IsComputedIn plan (drop 1 (plan_path plan node)) context key
+    pub changed_below : IsTouchedBelow plan node context key true ⊎ IsStoredIn plan (drop 1 (plan_path plan node)) context key
     changed_below = elim (how_it_acts plan read is.first.touch is.first.made) [
       | inl own ↦ inl (record {
         touch = is.first.touch;
@@ -367,15 +367,15 @@ module _ (plan : PlanText) (read : IsReadPlan plan) (shares : SharesValues plan)
                 changes = λ told. from.changes;
               })
               | inr above ↦
-                  let here : IsComputedIn plan (drop 1 (plan_path plan node)) t.touch.context from.key = record { node = found.node; among = above; step = found.step; held = found.held; computes = found.computes; kept = found.kept } in
+                  let here : IsStoredIn plan (drop 1 (plan_path plan node)) t.touch.context from.key = record { node = found.node; among = above; step = found.step; held = found.held; computes = found.computes; kept = found.kept } in
                   let same : from.key ≡ key = one_key (keys_named plan) from.key key from.named (key_there plan t.touch t.made key t.key_is) (from.number ∙ t.key_is) in
-                  inr (subst (IsComputedIn plan (drop 1 (plan_path plan node)) context) same (subst (λ x. IsComputedIn plan (drop 1 (plan_path plan node)) x from.key) t.context_is here))
+                  inr (subst (IsStoredIn plan (drop 1 (plan_path plan node)) context) same (subst (λ x. IsStoredIn plan (drop 1 (plan_path plan node)) x from.key) t.context_is here))
             ]
       ]
     ]
 
     -- and all at or below it compute this, or find it
-    pub all_give : ¬ IsComputedIn plan (drop 1 (plan_path plan node)) context key → (told : Bool) → (one : IsTouchedBelow plan node context key told) → Gives plan one.touch v
+    pub all_give : ¬ IsStoredIn plan (drop 1 (plan_path plan node)) context key → (told : Bool) → (one : IsTouchedBelow plan node context key told) → Gives plan one.touch v
     all_give none told one =
         let other = changed_beside none in
         let give = both_give node context key told one other.two (inr other.changes) in

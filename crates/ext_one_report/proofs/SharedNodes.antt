@@ -20,7 +20,7 @@ use Rattle.ext_one_report.proofs.CoveredTouches.{touch_on_path}
 use Rattle.ext_races.specs.OneReports.{SharesValues}
 use Rattle.ext_one_report.proofs.Open.{Given, some_or_none}
 use Rattle.ext_one_report.proofs.Shared.{given_in, unshared}
-use Rattle.ext_one_report.proofs.ComputedAbove.{IsComputedIn}
+use Rattle.ext_one_report.proofs.ComputedAbove.{IsStoredIn}
 use Rattle.ext_one_report.proofs.SharedBeside.{AreBelow, IsBelowOther, also_below, beside_cases, not_below, turned, within_through}
 use Rattle.ext_one_report.proofs.SharedFound.{EitherChanges, IsShared, IsTouchedAt, IsTouchedBeside, above_near, below_at, beside_at, both_give, changed_beside, changing_gives, first_gives, give_one, same_count, second_gives, shares_found, shares_told, touch_gives}
 use Rattle.ext_one_report.proofs.SharedTouches.{IsLooked, compute_looks}
@@ -188,7 +188,7 @@ module _ (plan : PlanText) (read : IsReadPlan plan) (shares : SharesValues plan)
       ]
 
   pub below : (parent child context : ℕ) (key : KeyValue) (v : Given) → IsParentOf ids parent child → given_in plan parent context key ≡ Some v → touched_in plan child context key ≡ true
-      → ¬ IsComputedIn plan (plan_path plan parent) context key → given_in plan child context key ≡ Some v
+      → ¬ IsStoredIn plan (plan_path plan parent) context key → given_in plan child context key ≡ Some v
   below parent child context key v up e touched none =
       let is = shares_found plan read parent context key v e in
       elim (touched_cases plan child context key touched) [
@@ -204,7 +204,7 @@ module _ (plan : PlanText) (read : IsReadPlan plan) (shares : SharesValues plan)
       rest [] x there = contains_nothing x there
       rest (first ∷ more) x there = contains_later first x more there
 
-      from_above : (parent context : ℕ) (key : KeyValue) → IsComputedIn plan (drop 1 (plan_path plan parent)) context key → IsComputedIn plan (plan_path plan parent) context key
+      from_above : (parent context : ℕ) (key : KeyValue) → IsStoredIn plan (drop 1 (plan_path plan parent)) context key → IsStoredIn plan (plan_path plan parent) context key
       from_above parent context key is = record { node = is.node; among = rest (plan_path plan parent) is.node is.among; step = is.step; held = is.held; computes = is.computes; kept = is.kept }
 
   -- what a node below another concurrent child touches is touched beside the child

@@ -52,7 +52,7 @@ use Rattle.ext_one_report.proofs.SharedEvents.{shared_is_computed, shared_is_loo
 use Rattle.ext_one_report.proofs.SharedEventsFrozen.{frozen_is_quiet}
 use Rattle.ext_one_report.proofs.SharedNodesBasis.{HasPath, IsConcurrent, above_unchanged, has_path, in_plan, in_run, made_changes, run_tree, shares_too, up}
 use Rattle.ext_one_report.proofs.SharedNodesCells.{Between, quiet_up_to}
-use Rattle.ext_one_report.proofs.ComputedAbove.{IsClosedAbove, IsComputedIn, all_clear}
+use Rattle.ext_one_report.proofs.ComputedAbove.{IsClosedAbove, IsStoredIn, all_clear}
 use Rattle.ext_one_report.proofs.KeptAbove.{child_closed}
 use Rattle.ext_one_report.proofs.SharedNodesPlaces.{absent_is, is_clear_there, never_claimed, not_both, one_value, unshared_is}
 use Rattle.ext_one_report.proofs.SharedNodesRuns.{Job, acts, at_end, at_start, begun, ended, ends_within, job, lasts, made_by, made_in, one_maker as made_once, over as lasts_over, ran_of, until_in}
@@ -296,7 +296,7 @@ module _ (g : Ground) (b : Body g) where
   ]
 
   -- no place that was computed above the children is free, and so none is open for one of them
-  pub closed_off : (context : ℕ) (key : KeyValue) → IsComputedIn g.plan (plan_path g.plan g.node) context key → free context key ≡ false
+  pub closed_off : (context : ℕ) (key : KeyValue) → IsStoredIn g.plan (plan_path g.plan g.node) context key → free context key ≡ false
   closed_off context key computed =
       never (free context key) (λ on. elim (or_either (is_open b.o context key) (all_clear b.r.state (plan_path g.plan context) key) on) [
         | inl opens ↦ let some = open_value b.o context key opens in not_both (b.o context key) some.0 (b.closed.none context key computed) some.1

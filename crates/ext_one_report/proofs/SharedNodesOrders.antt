@@ -19,7 +19,7 @@ use Rattle.ext_plan_plain.specs.ValueStates.{value_of}
 use Rattle.ext_one_report.proofs.MatchingWords.{Places, TextMeaning, cell_of, plain_meaning, plain_slot}
 use Rattle.ext_one_report.proofs.OnCells.{same_slot}
 use Rattle.ext_one_report.proofs.ChildLists.{which}
-use Rattle.ext_one_report.proofs.ComputedAbove.{IsComputedIn}
+use Rattle.ext_one_report.proofs.ComputedAbove.{IsStoredIn}
 use Rattle.ext_one_report.proofs.Containers.{children_differ}
 use Rattle.ext_one_report.proofs.LanesAlone.{has_come}
 use Rattle.ext_one_report.proofs.Levels.{outside}
@@ -354,8 +354,8 @@ module _ (g : Ground) (b : Body g) (each : ChildrenEnd g) (drawn : (after_all g 
       let tree = plan_tree g.plan g.run g.locks g.h g.touched g.changes g.changed g.shares g.basis in
       let above : plan_path g.plan g.node ≡ drop 1 (plan_path g.plan c) =
       sym (its_path g.plan tree g.node g.path (path_in g)) ∙ ap (λ l. drop 1 l) (its_path g.plan tree c (c ∷ g.path) (child_on g c parent)) in
-      let not_above : ¬ IsComputedIn g.plan (drop 1 (plan_path g.plan c)) context key =
-      λ computed. both_ways (free g b context key) parts.0 (closed_off g b context key (subst (λ l. IsComputedIn g.plan l context key) (sym above) computed)) in
+      let not_above : ¬ IsStoredIn g.plan (drop 1 (plan_path g.plan c)) context key =
+      λ computed. both_ways (free g b context key) parts.0 (closed_off g b context key (subst (λ l. IsStoredIn g.plan l context key) (sym above) computed)) in
       let other = g.basis.shared.fails_beside c context key v parts.1 not_above fails in
       sym left.left.text_is
       ∙ (g.basis.closes.one left.left.touch other.left.touch left.left.made other.left.made (other.beside left.left.touch.node left.within) left.left.fails other.left.fails (left.left.context_is ∙ sym other.left.context_is)

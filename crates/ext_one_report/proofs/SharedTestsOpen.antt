@@ -10,22 +10,20 @@ use Rattle.ext_tree.specs.Trees.{IsPathOf}
 use Rattle.ext_lifecycle.specs.declared.call.Call.{Call}
 use Rattle.ext_lifecycle.specs.Callbacks.{test_call}
 use Rattle.ext_locks.specs.Opening.{LocksView}
-use Rattle.ext_plan.specs.declared.word.Word.{Word}
 use Rattle.ext_plan.specs.declared.word.Word.TheVariants as words
 use Rattle.ext_plan.specs.Plans.{PlanText, StepKeyText, StepText, keyed, fail, abort}
 use Rattle.ext_plan.specs.PlanCalls.{steps_of_call}
 use Rattle.ext_plan.specs.ReadPlans.{ids_of_nodes}
 use Rattle.ext_plan.specs.StepCalls.{start_of}
-use Rattle.ext_plan.specs.StepWords.{changes as changes_of, gives_value}
 use Rattle.ext_plan.specs.StoreKeys.{key_of_step}
 use Rattle.ext_plan_plain.specs.ValueStates.{ValueState}
-use Rattle.ext_races.specs.Acts.{ActText}
+use Rattle.ext_races.specs.Acts.{ActText, stores}
 use Rattle.ext_races.specs.MadeSteps.{calls_after, calls_before, plan_path, steps_before}
 use Rattle.ext_races.proofs.Lists.{contains-flat_map, contains-flat_map_back}
 use Rattle.ext_one_report.proofs.MatchingWords.{Places, RunView}
 use Rattle.ext_one_report.proofs.PlanCells.{changed_by}
 use Rattle.ext_one_report.proofs.ChildLists.{only}
-use Rattle.ext_one_report.proofs.ComputedAbove.{ComputesAt, IsComputedIn, NoneOpenAbove}
+use Rattle.ext_one_report.proofs.ComputedAbove.{StoresAt, IsStoredIn, NoneOpenAbove}
 use Rattle.ext_one_report.specs.Within.{is_within}
 use Rattle.ext_one_report.proofs.Open.{AreOpenBeside, ComputesOpen, FailsOpen, Given, IsKeptBy, Open, also, some_or_none, still_open, values_of, of_fault, of_nothing, of_value}
 use Rattle.ext_one_report.specs.Shares.{SharesNothing}
@@ -38,6 +36,7 @@ use Rattle.ext_one_report.proofs.SharedNodesPlaces.{not_both, still_parts, unsha
 use Rattle.ext_one_report.proofs.OpenLists.{computes_before}
 use Rattle.ext_one_report.proofs.Fills.{Fills, Spot}
 use Rattle.ext_one_report.proofs.FillsCounts.{none_filled_apart}
+use Rattle.ext_one_report.proofs.WordCases.{stores_all}
 
 -- ---- fewer open places
 
@@ -63,20 +62,14 @@ none_fewer plan nodes o later fewer none context key computed = elim (some_or_no
   | inr some ↦ not_both (o context key) some.0 (none context key computed) (fewer context key some.0 some.1)
 ]
 
--- ---- a step that computes a value
+-- ---- a step that stores a value
 
-gives_changes : (word : Word) → gives_value word ≡ true → changes_of word ≡ true
-gives_changes words.Put gives = absurd (cc gives)
-gives_changes words.PutCloseable gives = absurd (cc gives)
-gives_changes words.Want gives = absurd (cc gives)
-gives_changes words.None gives = absurd (cc gives)
-gives_changes words.Remove gives = absurd (cc gives)
-gives_changes words.Compute gives = refl
-gives_changes words.ComputeCloseable gives = refl
-gives_changes words.ComputeFail gives = absurd (cc gives)
+fails_none : (put : Bool) → stores put words.ComputeFail ≡ false
+fails_none true = refl
+fails_none false = refl
 
 -- At a place that is shared it computes the value that is shared, and so that of a place that is open
-computes_open : (plan : PlanText) (path : List ℕ) (shared later : Open) (step : StepText) (context : ℕ) (key : KeyValue) (v : Given) → ComputesAt plan path step context key
+computes_open : (plan : PlanText) (path : List ℕ) (shared later : Open) (step : StepText) (context : ℕ) (key : KeyValue) (v : Given) → StoresAt plan path step context key
     → ((key : StepKeyText) (up : ℕ) (w : Given) → changed_by step ≡ Some (key, up) → shared (start_of (drop up path)) (key_of_step plan.keys key) ≡ Some w
     → ComputesOpen plan.keys path shared step ⊎ FailsOpen plan.keys path shared step)
     → shared context key ≡ Some v → later context key ≡ Some v → ComputesOpen plan.keys path later step
@@ -86,16 +79,16 @@ computes_open plan path shared later (keyed word step_key text up) context key v
     let act : ActText = record { word = word; key = step_key; text = text; up = up } in
     let there : Some act ≡ Some computes.act = computes.is in
     let same : computes.act ≡ act = sym (cc there) in
-    let gives : gives_value word ≡ true = subst (λ (a : ActText). gives_value a.word ≡ true) same computes.gives in
+    let stored : stores computes.put word ≡ true = subst (λ (a : ActText). stores computes.put a.word ≡ true) same computes.stored in
     let at : context ≡ start_of (drop up path) = sym (subst (λ (a : ActText). start_of (drop a.up path) ≡ context) same computes.at) in
     let of : key ≡ key_of_step plan.keys step_key = sym (subst (λ (a : ActText). key_of_step plan.keys a.key ≡ key) same computes.named) in
-    let changed : changed_by (keyed word step_key text up) ≡ Some (step_key, up) = ap (λ b. if b then Some (step_key, up) else None) (gives_changes word gives) in
+    let changed : changed_by (keyed word step_key text up) ≡ Some (step_key, up) = ap (λ b. if b then Some (step_key, up) else None) (stores_all computes.put word stored).0 in
     let P : Open → ℕ → KeyValue → Type 0 = λ o c k. o c k ≡ Some v in
     let was_there = subst (λ c. P shared c (key_of_step plan.keys step_key)) at (subst (λ k. P shared context k) of was) in
     let is_there = subst (λ c. P later c (key_of_step plan.keys step_key)) at (subst (λ k. P later context k) of is) in
     elim (each step_key up v changed was_there) [
       | inl whole ↦ (whole.0, is_there ∙ sym was_there ∙ whole.1)
-      | inr fails ↦ absurd (true≢false (sym gives ∙ ap gives_value fails.0))
+      | inr fails ↦ absurd (true≢false (sym stored ∙ ap (stores computes.put) fails.0 ∙ fails_none computes.put))
     ]
 
 -- ---- the open places of a node
@@ -214,7 +207,7 @@ module _ (plan : PlanText) (run : RunView) (locks : LocksView) (h : History) (to
     after_fits apart call there = basis.shared.afters node path call open_at its there open_is apart
 
     -- where none is open whose value its own callbacks before the body compute, none is that they compute
-    pub none_computed : NoneOpen plan.keys path open_at (steps_before plan node) → (context : ℕ) (key : KeyValue) → IsComputedIn plan (node ∷ []) context key → open_at context key ≡ None
+    pub none_computed : NoneOpen plan.keys path open_at (steps_before plan node) → (context : ℕ) (key : KeyValue) → IsStoredIn plan (node ∷ []) context key → open_at context key ≡ None
     none_computed none context key computed = elim (some_or_none (open_at context key)) [
       | inl closed ↦ closed
       | inr some ↦
@@ -224,6 +217,6 @@ module _ (plan : PlanText) (run : RunView) (locks : LocksView) (h : History) (to
           let of = contains-flat_map_back (steps_of_call plan) (calls_before plan node) computed.step held in
           let own = Contains-append_left (calls_before plan node ++ test_call node ∷ []) (calls_after plan node) of.0 (Contains-append_left (calls_before plan node) (test_call node ∷ []) of.0 of.1) in
           absurd (none.none computed.step held
-          (computes_open plan path (shares node) open_at computed.step context key some.0 (subst (λ l. ComputesAt plan l computed.step context key) along computed.computes)
+          (computes_open plan path (shares node) open_at computed.step context key some.0 (subst (λ l. StoresAt plan l computed.step context key) along computed.computes)
           (λ step_key up w changed shared. basis.shared.computes node path of.0 computed.step step_key up w its own of.2 changed shared) (open_is context key some.0 some.1) some.1))
     ]

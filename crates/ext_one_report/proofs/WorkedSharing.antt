@@ -8,7 +8,6 @@ use Rattle.ext_plan.specs.Plans.{PlanText, keyed}
 use Rattle.ext_plan.specs.declared.word.Word.TheVariants as words
 use Rattle.ext_races.specs.declared.race.Race.{Race}
 use Rattle.ext_races.specs.Beside.{nodes_beside}
-use Rattle.ext_races.specs.Clashes.{agree}
 use Rattle.ext_races.specs.Races.{IsRace}
 use Rattle.ext_races.specs.MadeSteps.{path_from}
 use Rattle.ext_races.specs.Touches.{TouchText, text_if, touches_made}
@@ -38,22 +37,22 @@ behind_no_race text wanted race = no_race (behind text wanted) race (rw (same_te
 pub looks_behind_share_values : LooksBehindShareValues
 looks_behind_share_values text wanted = race_free_shares_values (behind text wanted) (behind_no_race text wanted)
 
--- the touches are of one place that the first may change, by nodes that may run beside one another, and do not agree
+-- the touches are of one place that the first may change, by nodes that may run beside one another, and do not both count as the same compute
 abbrev unlike : PlanText → TouchText → TouchText → Bool
-unlike plan t u = meet plan t u && not (agree t u)
+unlike plan t u = meet plan t u && not (computes t.acts && word_eq t.acts u.acts)
 
 all_like : (plan : PlanText) → SharesValues plan → no_pair plan (unlike plan) ≡ true
 all_like plan shares = none_such plan (unlike plan) (λ t u one two such.
-    let parts = and_parts (meet plan t u) (not (agree t u)) such in
+    let parts = and_parts (meet plan t u) (not (computes t.acts && word_eq t.acts u.acts)) such in
     let key = and_parts (nodes_beside plan t.node u.node && t.changes && (t.context == u.context)) (t.key == u.key) parts.0 in
     let context = and_parts (nodes_beside plan t.node u.node && t.changes) (t.context == u.context) key.0 in
     let changing = and_parts (nodes_beside plan t.node u.node) t.changes context.0 in
     let alike = shares.alike t u one two (nodes_found plan t.node u.node changing.0) changing.1 (eqb-true t.context u.context context.1) (eqb-true t.key u.key key.1) in
-    true≢false (sym parts.1 ∙ ap not alike))
+    true≢false (sym parts.1 ∙ ap not (and_parts (computes t.acts && word_eq t.acts u.acts) (bytes_eq t.text u.text) alike).0))
 
 after_unlike : (text wanted : List ℕ) → no_pair (computing_each text [] (keyed words.Want a wanted 0 ∷ [])) (unlike (computing_each text [] (keyed words.Want a wanted 0 ∷ []))) ≡ false
 unfolding path_from
-after_unlike text wanted = rw (same_text text) refl
+after_unlike text wanted = refl
 
 pub looks_after_do_not : LooksAfterDoNot
 looks_after_do_not text wanted shares = true≢false (sym (all_like (computing_each text [] (keyed words.Want a wanted 0 ∷ [])) shares) ∙ after_unlike text wanted)

@@ -14,7 +14,7 @@ use Rattle.ext_tree.proofs.TreeLaws.{parents_list_children}
 use Rattle.ext_plan.specs.Plans.{KeyText, PlanText, StepText, step_view}
 use Rattle.ext_plan.specs.ReadPlans.{ids_of_nodes}
 use Rattle.ext_plan.specs.StepCalls.{start_of}
-use Rattle.ext_plan.specs.StepWords.{gives_value, word_eq}
+use Rattle.ext_plan.specs.StepWords.{word_eq}
 use Rattle.ext_plan.specs.StoreKeys.{is_there, key_of_step, number_of_key}
 use Rattle.ext_plan.specs.declared.plan.Step.{Step}
 use Rattle.ext_plan.specs.declared.word.Word.TheVariants as words
@@ -22,11 +22,11 @@ use Rattle.ext_plan.proofs.KeyLists.{has_key_number, not_contained}
 use Rattle.ext_races.specs.declared.made.MadeStep.{MadeStep}
 use Rattle.ext_races.specs.declared.standing.Compute.{Compute}
 use Rattle.ext_races.specs.declared.standing.Standing.{Standing}
-use Rattle.ext_races.specs.Acts.{ActText, act_of}
+use Rattle.ext_races.specs.Acts.{ActText, act_of, as_compute, stores}
 use Rattle.ext_races.specs.InnerMade.{left_by, made_view, made_views}
-use Rattle.ext_races.specs.InnerStanding.{AreComputed, AreFirst, AreWithoutRemoved, IsNumber, TellsAbove, compute_at, compute_view, computed_in, computes_of, computes_view, removed_by, removed_past, unless}
+use Rattle.ext_races.specs.InnerStanding.{AreComputed, AreFirst, AreStored, AreWithoutRemoved, IsNumber, TellsAbove, compute_at, compute_view, computed_in, computes_of, computes_view, removed_by, removed_past, unless}
 use Rattle.ext_races.specs.MadeSteps.{path_of, plan_path, steps_before, steps_made}
-use Rattle.ext_races.specs.Touches.{ComputeText, computed_above, computed_by, computes_key, first_compute, or_above, removes_key, removes_past, standing}
+use Rattle.ext_races.specs.Touches.{ComputeText, first_stored, or_above, removes_key, removes_past, standing, stored_above, stored_by, stores_key}
 use Rattle.ext_races.proofs.Lists.{contains_nothing, map-take_more}
 use Rattle.ext_races.proofs.Paths.{path_is}
 
@@ -42,15 +42,15 @@ pub or_none : (found : Option ComputeText) → or_above found None ≡ found
 or_none None = refl
 or_none (Some found) = refl
 
-pub first_push : (declared : List KeyText) (key : KeyValue) (path : List ℕ) (acts : List (Option ActText)) (act : Option ActText)
-    → first_compute declared key path (acts ++ act ∷ []) ≡ or_above (first_compute declared key path acts) (first_compute declared key path (act ∷ []))
-first_push declared key path [] act = refl
-first_push declared key path (None ∷ more) act = first_push declared key path more act
-first_push declared key path (Some first ∷ more) act = by (computes_key declared key (Some first)) (first_push declared key path more act)
+pub first_push : (declared : List KeyText) (key : KeyValue) (put : Bool) (path : List ℕ) (acts : List (Option ActText)) (act : Option ActText)
+    → first_stored declared key put path (acts ++ act ∷ []) ≡ or_above (first_stored declared key put path acts) (first_stored declared key put path (act ∷ []))
+first_push declared key put path [] act = refl
+first_push declared key put path (None ∷ more) act = first_push declared key put path more act
+first_push declared key put path (Some first ∷ more) act = by (stores_key declared key put (Some first)) (first_push declared key put path more act)
   where
-    by : (computes : Bool) → first_compute declared key path (more ++ act ∷ []) ≡ or_above (first_compute declared key path more) (first_compute declared key path (act ∷ []))
-        → (if computes then Some (record { context = start_of (drop first.up path); word = first.word; text = first.text }) else first_compute declared key path (more ++ act ∷ []))
-        ≡ or_above (if computes then Some (record { context = start_of (drop first.up path); word = first.word; text = first.text }) else first_compute declared key path more) (first_compute declared key path (act ∷ []))
+    by : (stored : Bool) → first_stored declared key put path (more ++ act ∷ []) ≡ or_above (first_stored declared key put path more) (first_stored declared key put path (act ∷ []))
+        → (if stored then Some (record { context = start_of (drop first.up path); word = as_compute first.word; text = first.text }) else first_stored declared key put path (more ++ act ∷ []))
+        ≡ or_above (if stored then Some (record { context = start_of (drop first.up path); word = as_compute first.word; text = first.text }) else first_stored declared key put path more) (first_stored declared key put path (act ∷ []))
     by true rest = refl
     by false rest = rest
 
@@ -98,49 +98,49 @@ module _ (declared : List KeyText) (directory : List KeyValue) where
 
   -- ---- one step more
 
-  pub first_more : (path : List ℕ) (before : List (Option ActText)) (act : Option ActText) (old new : List Compute) → AreFirst declared directory path before old
-      → ((key : KeyValue) → is_there directory key ≡ true → compute_at new (number_of_key directory key) ≡ or_above (compute_at old (number_of_key directory key)) (first_compute declared key path (act ∷ [])))
-      → AreFirst declared directory path (before ++ act ∷ []) new
-  first_more path before act old new are more = record {
-    each = λ key there. more key there ∙ ap (λ found. or_above found (first_compute declared key path (act ∷ []))) (are.each key there) ∙ sym (first_push declared key path before act);
+  pub first_more : (put : Bool) (path : List ℕ) (before : List (Option ActText)) (act : Option ActText) (old new : List Compute) → AreFirst declared directory put path before old
+      → ((key : KeyValue) → is_there directory key ≡ true → compute_at new (number_of_key directory key) ≡ or_above (compute_at old (number_of_key directory key)) (first_stored declared key put path (act ∷ [])))
+      → AreFirst declared directory put path (before ++ act ∷ []) new
+  first_more put path before act old new are more = record {
+    each = λ key there. more key there ∙ ap (λ found. or_above found (first_stored declared key put path (act ∷ []))) (are.each key there) ∙ sym (first_push declared key put path before act);
   }
 
-  -- an act that computes no key of the directory
-  pub first_same : (path : List ℕ) (before : List (Option ActText)) (act : Option ActText) (computes : List Compute) → ((key : KeyValue) → is_there directory key ≡ true → computes_key declared key act ≡ false)
-      → AreFirst declared directory path before computes → AreFirst declared directory path (before ++ act ∷ []) computes
-  first_same path before act computes none are = first_more path before act computes computes are (λ key there. sym (ap (or_above (compute_at computes (number_of_key directory key))) (no_compute key act (none key there)) ∙ or_none _))
+  -- an act that stores no key of the directory
+  pub first_same : (put : Bool) (path : List ℕ) (before : List (Option ActText)) (act : Option ActText) (computes : List Compute) → ((key : KeyValue) → is_there directory key ≡ true → stores_key declared key put act ≡ false)
+      → AreFirst declared directory put path before computes → AreFirst declared directory put path (before ++ act ∷ []) computes
+  first_same put path before act computes none are = first_more put path before act computes computes are (λ key there. sym (ap (or_above (compute_at computes (number_of_key directory key))) (no_compute key act (none key there)) ∙ or_none _))
     where
-      no_compute : (key : KeyValue) (act : Option ActText) → computes_key declared key act ≡ false → first_compute declared key path (act ∷ []) ≡ None
+      no_compute : (key : KeyValue) (act : Option ActText) → stores_key declared key put act ≡ false → first_stored declared key put path (act ∷ []) ≡ None
       no_compute key None is = refl
-      no_compute key (Some act) is = ap (λ b. if b then Some (record { context = start_of (drop act.up path); word = act.word; text = act.text }) else None) is
+      no_compute key (Some act) is = ap (λ b. if b then Some (record { context = start_of (drop act.up path); word = as_compute act.word; text = act.text }) else None) is
 
-  pub no_value : (act : ActText) (key : KeyValue) → gives_value act.word ≡ false → computes_key declared key (Some act) ≡ false
-  no_value act key none = ap (λ b. b && key_eq (key_of_step declared act.key) key) none
+  pub no_value : (put : Bool) (act : ActText) (key : KeyValue) → stores put act.word ≡ false → stores_key declared key put (Some act) ≡ false
+  no_value put act key none = ap (λ b. b && key_eq (key_of_step declared act.key) key) none
 
-  pub no_key : (act : ActText) (key : KeyValue) → is_there directory (key_of_step declared act.key) ≡ false → is_there directory key ≡ true → computes_key declared key (Some act) ≡ false
-  no_key act key missing there = ap (λ b. gives_value act.word && b) (not_own (key_of_step declared act.key) key missing there) ∙ never (gives_value act.word)
+  pub no_key : (put : Bool) (act : ActText) (key : KeyValue) → is_there directory (key_of_step declared act.key) ≡ false → is_there directory key ≡ true → stores_key declared key put (Some act) ≡ false
+  no_key put act key missing there = ap (λ b. stores put act.word && b) (not_own (key_of_step declared act.key) key missing there) ∙ never (stores put act.word)
     where
       never : (b : Bool) → (b && false) ≡ false
       never true = refl
       never false = refl
 
   -- one that does
-  pub first_pushed : (path : List ℕ) (before : List (Option ActText)) (act : ActText) (one : Compute) (old new : List Compute) → gives_value act.word ≡ true → is_there directory (key_of_step declared act.key) ≡ true
-      → one.key ≡ number_of_key directory (key_of_step declared act.key) → compute_view one ≡ record { context = start_of (drop act.up path); word = act.word; text = act.text }
-      → ((key : ℕ) → compute_at new key ≡ or_above (compute_at old key) (compute_at (one ∷ []) key)) → AreFirst declared directory path before old → AreFirst declared directory path (before ++ Some act ∷ []) new
-  first_pushed path before act one old new gives there number is push are = first_more path before (Some act) old new are (λ key key_there. push (number_of_key directory key) ∙ ap (or_above (compute_at old (number_of_key directory key))) (same key key_there))
+  pub first_pushed : (put : Bool) (path : List ℕ) (before : List (Option ActText)) (act : ActText) (one : Compute) (old new : List Compute) → stores put act.word ≡ true → is_there directory (key_of_step declared act.key) ≡ true
+      → one.key ≡ number_of_key directory (key_of_step declared act.key) → compute_view one ≡ record { context = start_of (drop act.up path); word = as_compute act.word; text = act.text }
+      → ((key : ℕ) → compute_at new key ≡ or_above (compute_at old key) (compute_at (one ∷ []) key)) → AreFirst declared directory put path before old → AreFirst declared directory put path (before ++ Some act ∷ []) new
+  first_pushed put path before act one old new gives there number is push are = first_more put path before (Some act) old new are (λ key key_there. push (number_of_key directory key) ∙ ap (or_above (compute_at old (number_of_key directory key))) (same key key_there))
     where
       own : KeyValue
       own = key_of_step declared act.key
 
-      same : (key : KeyValue) → is_there directory key ≡ true → compute_at (one ∷ []) (number_of_key directory key) ≡ first_compute declared key path (Some act ∷ [])
+      same : (key : KeyValue) → is_there directory key ≡ true → compute_at (one ∷ []) (number_of_key directory key) ≡ first_stored declared key put path (Some act ∷ [])
       same key key_there =
           ap (λ n. option_map compute_view (if n == number_of_key directory key then Some one else None)) number
           ∙ ap (λ b. option_map compute_view (if b then Some one else None)) (same_number own key there key_there)
           ∙ by (key_eq own key)
-          ∙ ap (λ g. if g && key_eq own key then Some (record { context = start_of (drop act.up path); word = act.word; text = act.text }) else None) (sym gives)
+          ∙ ap (λ g. if g && key_eq own key then Some (record { context = start_of (drop act.up path); word = as_compute act.word; text = act.text }) else None) (sym gives)
         where
-          by : (b : Bool) → option_map compute_view (if b then Some one else None) ≡ (if true && b then Some (record { context = start_of (drop act.up path); word = act.word; text = act.text }) else None)
+          by : (b : Bool) → option_map compute_view (if b then Some one else None) ≡ (if true && b then Some (record { context = start_of (drop act.up path); word = as_compute act.word; text = act.text }) else None)
           by true = ap Some is
           by false = refl
 
@@ -169,43 +169,51 @@ module _ (plan : PlanText) (ids : List Id) (tree : IsTree ids) (nodes : ids ≡ 
       let there = (parents_list_children ids parent is.parent_within).listed child is in
       contains_nothing child (subst (λ xs. Contains xs child) (ap (λ i. children_of i parent) nodes ∙ none) there)
 
-  module _ (first lists : List (List Compute)) (made : List MadeStep) (are : AreComputed plan plan.keys directory (length ids) first) (left : AreWithoutRemoved plan.keys directory ids (map made_view made) first lists)
+  module _ (put : Bool) (first lists : List (List Compute)) (made : List MadeStep) (are : AreComputed plan plan.keys directory put (length ids) first) (left : AreWithoutRemoved plan.keys directory ids (map made_view made) first lists)
       (steps : made_views [] made ≡ steps_made plan) (key : KeyValue) (there : is_there directory key ≡ true) where
     abbrev number : ℕ
     number = number_of_key directory key
 
-    -- what a node computes, if it is not removed
-    by_node : (parent : ℕ) (path : List ℕ) → parent < length ids → plan_path plan parent ≡ path → children_of (ids_of_nodes plan.nodes) parent ≢ [] → compute_at (computes_of lists parent) number ≡ computed_by plan key parent path
+    -- what a node stores, if it is not removed
+    by_node : (parent : ℕ) (path : List ℕ) → parent < length ids → plan_path plan parent ≡ path → children_of (ids_of_nodes plan.nodes) parent ≢ [] → compute_at (computes_of lists parent) number ≡ stored_by plan put key parent path
     by_node parent path within is some =
         let past = removed_past plan.keys ids (map made_view made) parent key in
         let own = removed_by plan.keys (steps_before plan parent) key in
-        let acts = first_compute plan.keys key (plan_path plan parent) (map act_of (steps_before plan parent)) in
+        let acts = first_stored plan.keys key put (plan_path plan parent) (map act_of (steps_before plan parent)) in
         let all : past ≡ list_any (λ m. removes_past plan.keys key parent (plan_path plan parent) (plan_path plan m.node) (act_of m.step)) (steps_made plan) =
         any_same (λ n s. removes_past plan.keys key parent (path_of ids parent) (path_of ids n) (act_of s)) [] made
         ∙ ap (λ i. list_any (λ m. removes_past plan.keys key parent (path_of i parent) (path_of i m.node) (act_of m.step)) (made_views [] made)) nodes
         ∙ ap (list_any (λ m. removes_past plan.keys key parent (plan_path plan parent) (plan_path plan m.node) (act_of m.step))) steps in
         (left.each parent).each key there ∙ ap (unless past) ((are.each parent within some).each key there) ∙ both_unless own past acts
-        ∙ ap (λ b. unless (own || b) acts) all ∙ ap (λ p. computed_by plan key parent p) is
+        ∙ ap (λ b. unless (own || b) acts) all ∙ ap (λ p. stored_by plan put key parent p) is
 
-    along : (node : ℕ) (walk : List ℕ) → IsWalk ids node walk → computed_in lists number walk ≡ computed_above plan key walk
+    along : (node : ℕ) (walk : List ℕ) → IsWalk ids node walk → computed_in lists number walk ≡ stored_above plan put key walk
     along node [] walks = refl
     along node (parent ∷ rest) (is, walks) =
         let path : plan_path plan parent ≡ parent ∷ rest = sym (path_is ids tree parent (parent ∷ rest) is.parent_within (refl, walks) ∙ ap (λ i. path_of i parent) nodes) in
         let here = by_node parent (parent ∷ rest) is.parent_within path (has_child parent node rest (is, walks)) in
-        ap (λ found. or_above found (computed_in lists number rest)) here ∙ ap (or_above (computed_by plan key parent (parent ∷ rest))) (along parent rest walks)
+        ap (λ found. or_above found (computed_in lists number rest)) here ∙ ap (or_above (stored_by plan put key parent (parent ∷ rest))) (along parent rest walks)
 
-    pub above : (node : ℕ) (path : List ℕ) → node < length ids → IsPathOf ids node path → computed_in lists number (drop 1 path) ≡ standing plan node key
+    pub above : (node : ℕ) (path : List ℕ) → node < length ids → IsPathOf ids node path → computed_in lists number (drop 1 path) ≡ stored_above plan put key (drop 1 (plan_path plan node))
     above node [] less is = absurd is
     above node (head ∷ walk) less (same, walks) =
-        along node walk walks ∙ ap (λ p. computed_above plan key (drop 1 p)) (path_is ids tree node (head ∷ walk) less (same, walks) ∙ ap (λ i. path_of i node) nodes)
+        along node walk walks ∙ ap (λ p. stored_above plan put key (drop 1 p)) (path_is ids tree node (head ∷ walk) less (same, walks) ∙ ap (λ i. path_of i node) nodes)
 
-  pub tells_above : (declared : List KeyText) (first : List (List Compute)) (made : List MadeStep) (noted : Standing) → declared ≡ plan.keys → made_views [] made ≡ steps_made plan
-      → AreComputed plan declared directory (length ids) first → AreWithoutRemoved declared directory ids (map made_view made) first (computes_view noted.computes.items) → TellsAbove ids directory (standing plan) noted
-  tells_above declared first made noted keys steps computes left = record {
+  pub stored_are : (declared : List KeyText) (put : Bool) (first lists : List (List Compute)) (made : List MadeStep) → declared ≡ plan.keys → made_views [] made ≡ steps_made plan
+      → AreComputed plan declared directory put (length ids) first → AreWithoutRemoved declared directory ids (map made_view made) first lists → AreStored plan directory put lists
+  stored_are declared put first lists made keys steps computes left = record {
     each = λ node path key less is there.
-        above first (computes_view noted.computes.items) made (subst (λ d. AreComputed plan d directory (length ids) first) keys computes)
-        (subst (λ d. AreWithoutRemoved d directory ids (map made_view made) first (computes_view noted.computes.items)) keys left) steps key there node path less is;
+        above put first lists made (subst (λ d. AreComputed plan d directory put (length ids) first) keys computes)
+        (subst (λ d. AreWithoutRemoved d directory ids (map made_view made) first lists) keys left) steps key there node path
+        (subst (λ i. node < length i) (sym nodes) less) (subst (λ i. IsPathOf i node path) (sym nodes) is);
   }
+
+-- what is noted of both
+pub tells_above : (plan : PlanText) (directory : List KeyValue) (noted : Standing) → AreStored plan directory false (computes_view noted.computes.items) → AreStored plan directory true (computes_view noted.puts.items)
+    → TellsAbove (ids_of_nodes plan.nodes) directory (standing plan) noted
+tells_above plan directory noted computes puts = record {
+  each = λ node path key less is there i. or_above (computes.each node path key less is there i) (puts.each node path key less is there i);
+}
 
 -- ---- in memory
 
@@ -222,6 +230,10 @@ number_is directory key result found absent = elim (cases_Bool (is_there directo
   | inl there ↦ subst (IsNumber directory key) (sym (found (number_of_key directory key) (has_key_number directory key there))) (there, refl)
   | inr missing ↦ subst (IsNumber directory key) (sym (absent.1 (not_contained directory key missing))) missing
 ]
+
+pub there_number : (directory : List KeyValue) (key : KeyValue) (number : Option ℕ) → IsNumber directory key number → is_some number ≡ true → is_there directory key ≡ true
+there_number directory key None is some = absurd (true≢false (sym some))
+there_number directory key (Some number) is some = is.0
 
 pub some_map : {A B : Type 0} (f : A → B) (found : Option A) → is_some (option_map f found) ≡ is_some found
 some_map f None = refl
@@ -240,5 +252,5 @@ acts_more before steps i step less read =
     let acts = map act_of (map step_view (take i steps)) in
     append_assoc before acts (act_of (step_view step) ∷ []) ∙ ap (λ xs. before ++ xs) (sym (ap (map act_of) (map-take_more step_view steps i step less read) ∙ map-append act_of (map step_view (take i steps)) (step_view step ∷ [])))
 
-pub first_none : (declared : List KeyText) (directory : List KeyValue) (path : List ℕ) (computes : List Compute) → computes ≡ [] → AreFirst declared directory path [] computes
-first_none declared directory path computes none = record { each = λ key there. ap (λ xs. compute_at xs (number_of_key directory key)) none }
+pub first_none : (declared : List KeyText) (directory : List KeyValue) (put : Bool) (path : List ℕ) (computes : List Compute) → computes ≡ [] → AreFirst declared directory put path [] computes
+first_none declared directory put path computes none = record { each = λ key there. ap (λ xs. compute_at xs (number_of_key directory key)) none }

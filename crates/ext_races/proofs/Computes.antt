@@ -1,5 +1,5 @@
 -- What nodes compute, noted one after another.
-use Rattle.std.proofs.Common.{◌≡◌, ◌≢◌, ℕ, ◌+◌, ◌<◌, ◌≤◌, true, false, List, [], ◌∷◌, ◌++◌, length, length-append, map, drop, take, get_or, Option, Some, None, refl, sym, ap, subst, ◌∙◌, arith, append-nil, inl, inr}
+use Rattle.std.proofs.Common.{◌≡◌, ◌≢◌, ℕ, ◌+◌, ◌<◌, ◌≤◌, Bool, true, false, List, [], ◌∷◌, ◌++◌, length, length-append, map, drop, take, get_or, Option, Some, None, refl, sym, ap, subst, ◌∙◌, arith, append-nil, inl, inr}
 use Rattle.std.specs.Prelude.{is_some, option_map}
 use Rattle.std.specs.List.{flat_map}
 use Rattle.std.specs.declared.alloc.Global.{Global}
@@ -35,27 +35,27 @@ calls_more plan calls at d steps less is =
 -- ---- one node more
 
 module _ (plan : PlanText) (declared : List KeyText) (directory : List KeyValue) where
-  pub computed_none : AreComputed plan declared directory 0 []
-  computed_none = record { long = refl; each = λ node less. absurd (omega (arith, less)) }
+  pub computed_none : (put : Bool) → AreComputed plan declared directory put 0 []
+  computed_none put = record { long = refl; each = λ node less. absurd (omega (arith, less)) }
 
-  pub computed_more : (count : ℕ) (lists after : List (Vec Compute Global)) (v : Vec Compute Global)
-      → (children_of (ids_of_nodes plan.nodes) count ≢ [] → AreLeft declared directory (plan_path plan count) (steps_before plan count) v.items) → after ≡ lists ++ v ∷ []
-      → AreComputed plan declared directory count (computes_view lists) → AreComputed plan declared directory (count + 1) (computes_view after)
-  computed_more count lists after v last put are = record {
+  pub computed_more : (put : Bool) (count : ℕ) (lists after : List (Vec Compute Global)) (v : Vec Compute Global)
+      → (children_of (ids_of_nodes plan.nodes) count ≢ [] → AreLeft declared directory put (plan_path plan count) (steps_before plan count) v.items) → after ≡ lists ++ v ∷ []
+      → AreComputed plan declared directory put count (computes_view lists) → AreComputed plan declared directory put (count + 1) (computes_view after)
+  computed_more put count lists after v last added are = record {
     long = ap length same ∙ length-append (computes_view lists) (v.items ∷ []) ∙ ap (λ n. n + 1) are.long;
     each = λ node less some. elim (cases_eq node count) [
-      | inl is ↦ subst (λ n. children_of (ids_of_nodes plan.nodes) n ≢ [] → AreLeft declared directory (plan_path plan n) (steps_before plan n) (computes_of (computes_view after) n)) (sym is)
-          (λ there. subst (AreLeft declared directory (plan_path plan count) (steps_before plan count)) (sym at_end) (last there)) some
+      | inl is ↦ subst (λ n. children_of (ids_of_nodes plan.nodes) n ≢ [] → AreLeft declared directory put (plan_path plan n) (steps_before plan n) (computes_of (computes_view after) n)) (sym is)
+          (λ there. subst (AreLeft declared directory put (plan_path plan count) (steps_before plan count)) (sym at_end) (last there)) some
       | inr other ↦
           let before : node < count = omega (arith, less, other) in
           let long = are.long in
-          subst (AreLeft declared directory (plan_path plan node) (steps_before plan node))
+          subst (AreLeft declared directory put (plan_path plan node) (steps_before plan node))
           (sym (ap (λ xs. computes_of xs node) same ∙ get_or_append_left (computes_view lists) (v.items ∷ []) [] node (omega (arith, before, long)))) (are.each node before some)
     ];
   }
     where
       same : computes_view after ≡ computes_view lists ++ v.items ∷ []
-      same = ap computes_view put ∙ map-push (λ (u : Vec Compute Global). u.items) lists v
+      same = ap computes_view added ∙ map-push (λ (u : Vec Compute Global). u.items) lists v
 
       at_end : computes_of (computes_view after) count ≡ v.items
       at_end = ap (λ xs. computes_of xs count) same ∙ ap (computes_of (computes_view lists ++ v.items ∷ [])) (sym are.long) ∙ get_or-append_seam (computes_view lists) v.items [] []

@@ -132,9 +132,9 @@ module _ (declared : List KeyText) (directory : List KeyValue) where
       ap (λ ss. removed_by declared ss key) all ∙ list_any-append (λ s. removes_key declared key (act_of s)) done steps
 
   -- the first computes, but for the keys that the same steps remove
-  pub left_is : (path : List ℕ) (steps : List StepText) (before after : List Compute) → AreFirst declared directory path (map act_of steps) before → AreWithout directory (removed_by declared steps) before after
-      → AreLeft declared directory path steps after
-  left_is path steps before after first left = record { each = λ key there. left.each key there ∙ ap (unless (removed_by declared steps key)) (first.each key there) }
+  pub left_is : (put : Bool) (path : List ℕ) (steps : List StepText) (before after : List Compute) → AreFirst declared directory put path (map act_of steps) before → AreWithout directory (removed_by declared steps) before after
+      → AreLeft declared directory put path steps after
+  left_is put path steps before after first left = record { each = λ key there. left.each key there ∙ ap (unless (removed_by declared steps key)) (first.each key there) }
 
 -- ---- the lists of several nodes
 

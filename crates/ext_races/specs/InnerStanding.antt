@@ -1,5 +1,5 @@
--- What is noted of a plan to tell what was computed above a node (`standing`): the computes in the callbacks before the
--- body of each node with children, but for the keys that are removed.
+-- What is noted of a plan to tell what was computed or put above a node (`standing`): the computes and the puts in the
+-- callbacks before the body of each node with children, but for the keys that are removed.
 use Rattle.std.specs.Prelude.{ℕ, ◌≡◌, ◌≢◌, ◌<◌, ◌==◌, Bool, true, false, List, [], ◌∷◌, length, map, drop, find, Option, Some, None, option_map, slice_index_or, if◌then◌else◌}
 use Rattle.std.specs.List.{list_any}
 use Rattle.std.specs.declared.alloc.Global.{Global}
@@ -14,7 +14,7 @@ use Rattle.ext_races.specs.declared.standing.Compute.{Compute}
 use Rattle.ext_races.specs.declared.standing.Standing.{Standing}
 use Rattle.ext_races.specs.Acts.{ActText, act_of}
 use Rattle.ext_races.specs.MadeSteps.{MadeText, path_of, plan_path, steps_before}
-use Rattle.ext_races.specs.Touches.{ComputeText, first_compute, or_above, removes_key, removes_past}
+use Rattle.ext_races.specs.Touches.{ComputeText, first_stored, or_above, removes_key, removes_past, stored_above}
 
 -- ---- what is read
 
@@ -36,11 +36,19 @@ abbrev pub computed_in : List (List Compute) → ℕ → List ℕ → Option Com
 computed_in lists key [] = None
 computed_in lists key (node ∷ more) = or_above (compute_at (computes_of lists node) key) (computed_in lists key more)
 
--- What was computed above the node with this path.
+-- What was computed or put above the node with this path.
 abbrev pub stands : Standing → List ℕ → ℕ → Option ComputeText
-stands noted path key = computed_in (computes_view noted.computes.items) key (drop 1 path)
+stands noted path key = or_above (computed_in (computes_view noted.computes.items) key (drop 1 path))
+    (computed_in (computes_view noted.puts.items) key (drop 1 path))
 
--- So it is noted what was computed above each node for each key of the directory.
+-- So it is noted what was put above each node for each key of the directory, if `put`, and else what was computed.
+pub record AreStored (plan : PlanText) (directory : List KeyValue) (put : Bool) (lists : List (List Compute)) : Type 0 where
+  pub each : (node : ℕ) (path : List ℕ) (key : KeyValue) → node < length (ids_of_nodes plan.nodes)
+      → IsPathOf (ids_of_nodes plan.nodes) node path → is_there directory key ≡ true
+      → computed_in lists (number_of_key directory key) (drop 1 path)
+      ≡ stored_above plan put key (drop 1 (plan_path plan node))
+
+-- So it is noted what was computed or put above each node for each key of the directory.
 pub record TellsAbove (ids : List Id) (directory : List KeyValue) (above : ℕ → KeyValue → Option ComputeText)
     (noted : Standing) : Type 0 where
   pub each : (node : ℕ) (path : List ℕ) (key : KeyValue) → node < length ids → IsPathOf ids node path
@@ -80,15 +88,15 @@ pub record AreWithout (directory : List KeyValue) (gone : KeyValue → Bool) (be
       ≡ unless (gone key) (compute_at before (number_of_key directory key))
 
 module _ (declared : List KeyText) (directory : List KeyValue) where
-  -- These have the first compute of each key in these acts of a node with this path.
-  pub record AreFirst (path : List ℕ) (acts : List (Option ActText)) (computes : List Compute) : Type 0 where
+  -- These have the first put or compute of each key in these acts of a node with this path.
+  pub record AreFirst (put : Bool) (path : List ℕ) (acts : List (Option ActText)) (computes : List Compute) : Type 0 where
     pub each : (key : KeyValue) → is_there directory key ≡ true
-        → compute_at computes (number_of_key directory key) ≡ first_compute declared key path acts
+        → compute_at computes (number_of_key directory key) ≡ first_stored declared key put path acts
 
   -- So they do, but for the keys that one of these steps removes.
-  pub record AreLeft (path : List ℕ) (steps : List StepText) (computes : List Compute) : Type 0 where
+  pub record AreLeft (put : Bool) (path : List ℕ) (steps : List StepText) (computes : List Compute) : Type 0 where
     pub each : (key : KeyValue) → is_there directory key ≡ true → compute_at computes (number_of_key directory key)
-        ≡ unless (removed_by declared steps key) (first_compute declared key path (map act_of steps))
+        ≡ unless (removed_by declared steps key) (first_stored declared key put path (map act_of steps))
 
   -- So they are in each list, but for the keys that these steps of nodes below remove.
   pub record AreWithoutRemoved (ids : List Id) (made : List MadeText) (before after : List (List Compute)) : Type 0 where
@@ -103,8 +111,8 @@ pub record IsRemoved (declared : List KeyText) (directory : List KeyValue) (act 
       → removes_key declared key act ≡ is_number number (number_of_key directory key)
 
 -- So it is for each of the first so many nodes that has children.
-pub record AreComputed (plan : PlanText) (declared : List KeyText) (directory : List KeyValue) (count : ℕ)
+pub record AreComputed (plan : PlanText) (declared : List KeyText) (directory : List KeyValue) (put : Bool) (count : ℕ)
     (lists : List (List Compute)) : Type 0 where
   pub long : length lists ≡ count
   pub each : (node : ℕ) → node < count → children_of (ids_of_nodes plan.nodes) node ≢ []
-      → AreLeft declared directory (plan_path plan node) (steps_before plan node) (computes_of lists node)
+      → AreLeft declared directory put (plan_path plan node) (steps_before plan node) (computes_of lists node)

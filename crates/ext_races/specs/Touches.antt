@@ -15,7 +15,7 @@ use Rattle.ext_plan.specs.declared.word.Word.{Word}
 use Rattle.ext_plan.specs.declared.word.Word.TheVariants as words
 use Rattle.ext_plan.specs.StepWords.{changes, gives_value, has_text, looks_along, word_eq}
 use Rattle.ext_races.specs.declared.touch.Touch.{Touch}
-use Rattle.ext_races.specs.Acts.{ActText, act_of, draws}
+use Rattle.ext_races.specs.Acts.{ActText, act_of, as_compute, draws, stores}
 use Rattle.ext_races.specs.MadeSteps.{MadeText, path_of, plan_path, steps_before, steps_made}
 
 -- ---- the keys that steps name
@@ -85,9 +85,9 @@ touch_of node key act change context = record {
   text = text_if (change && has_text act.word) act.text;
 }
 
--- ---- what was computed above
+-- ---- what was computed or put above
 
--- A compute: the context on which the step acts, its word and its text.
+-- A value that was computed or put: the context on which the step acts, the word of its compute, and its text.
 pub record ComputeText : Type 0 where
   pub context : ℕ
   pub word : Word
@@ -98,6 +98,11 @@ module _ (declared : List KeyText) (key : KeyValue) where
   abbrev pub computes_key : Option ActText → Bool
   computes_key None = false
   computes_key (Some act) = gives_value act.word && key_eq (key_of_step declared act.key) key
+
+  -- It puts a value of the key, if `put`, and else it computes one.
+  abbrev pub stores_key : Bool → Option ActText → Bool
+  stores_key put None = false
+  stores_key put (Some act) = stores put act.word && key_eq (key_of_step declared act.key) key
 
   -- It removes the key.
   abbrev pub removes_key : Option ActText → Bool
@@ -110,14 +115,14 @@ module _ (declared : List KeyText) (key : KeyValue) where
   removes_past node contexts path (Some act) = removes_key (Some act) && list_any (λ c. c == node) (drop 1 path)
       && list_any (λ c. c == start_of (drop act.up path)) contexts
 
-  -- The first of these acts that computes the key, as a compute of the node with this path.
-  abbrev pub first_compute : List ℕ → List (Option ActText) → Option ComputeText
-  first_compute path [] = None
-  first_compute path (None ∷ more) = first_compute path more
-  first_compute path (Some act ∷ more) =
-      if computes_key (Some act)
-      then Some (record { context = start_of (drop act.up path); word = act.word; text = act.text })
-      else first_compute path more
+  -- What the first of these acts of the node with this path that puts or computes the key stores.
+  abbrev pub first_stored : Bool → List ℕ → List (Option ActText) → Option ComputeText
+  first_stored put path [] = None
+  first_stored put path (None ∷ more) = first_stored put path more
+  first_stored put path (Some act ∷ more) =
+      if stores_key put (Some act)
+      then Some (record { context = start_of (drop act.up path); word = as_compute act.word; text = act.text })
+      else first_stored put path more
 
 abbrev pub or_above : Option ComputeText → Option ComputeText → Option ComputeText
 or_above None above = above
@@ -132,22 +137,23 @@ module _ (plan : PlanText) where
       || list_any (λ made. removes_past plan.keys key node (plan_path plan node) (plan_path plan made.node)
       (act_of made.step)) (steps_made plan)
 
-  -- The first compute of the key in the callbacks before all children of the node, which has this path, unless it is
-  -- removed.
-  abbrev pub computed_by : KeyValue → ℕ → List ℕ → Option ComputeText
-  computed_by key node path = if is_removed node key then None
-      else first_compute plan.keys key path (map act_of (steps_before plan node))
+  -- The first value of the key that is put or computed in the callbacks before all children of the node, which has this
+  -- path, unless it is removed.
+  abbrev pub stored_by : Bool → KeyValue → ℕ → List ℕ → Option ComputeText
+  stored_by put key node path = if is_removed node key then None
+      else first_stored plan.keys key put path (map act_of (steps_before plan node))
 
   -- That of the nearest node that has one. Each of these nodes is followed by those above it.
-  abbrev pub computed_above : KeyValue → List ℕ → Option ComputeText
-  computed_above key [] = None
-  computed_above key (node ∷ above) = or_above (computed_by key node (node ∷ above)) (computed_above key above)
+  abbrev pub stored_above : Bool → KeyValue → List ℕ → Option ComputeText
+  stored_above put key [] = None
+  stored_above put key (node ∷ above) = or_above (stored_by put key node (node ∷ above)) (stored_above put key above)
 
-  -- The compute whose value stands when a node begins. By then these callbacks of the nodes above it have succeeded, so
-  -- a value stands in the context on which the compute acts, or above it, and does so until their node's children have
-  -- ended.
+  -- The value that stands when a node begins: the nearest that is computed, or else the nearest that is put. By then
+  -- these callbacks of the nodes above it have succeeded, so a value stands in the context on which the step acts, or
+  -- above it, and does so until their node's children have ended.
   abbrev pub standing : ℕ → KeyValue → Option ComputeText
-  standing node key = computed_above key (drop 1 (plan_path plan node))
+  standing node key = or_above (stored_above false key (drop 1 (plan_path plan node)))
+      (stored_above true key (drop 1 (plan_path plan node)))
 
 -- How a look-up touches the place in a context, after this compute above its node.
 abbrev pub look_at : ℕ → ℕ → ActText → Option ComputeText → ℕ → TouchText
@@ -182,10 +188,11 @@ touches_along node key act found (context ∷ above) =
 -- whose factory fails hides nothing: it leaves its place empty and succeeds, so another node's factory may still run
 -- after it.
 --
--- A look-up of a key that its own node has not computed before finds what was computed above (`standing`). It touches
--- the place on which that compute acts as if it computed the same there, but does not change it: so it clashes with all
--- that may change that place, except computes of the same value. It looks at all other places as ever, since the value
--- may stand above that place.
+-- A look-up of a key that its own node has not computed before finds what was computed or put above (`standing`). It
+-- touches the place on which that step acts as if it computed the same there, but does not change it: so it clashes with
+-- all that may change that place, except computes of the same value. Those of nodes below the step's own find a value
+-- there, and those of nodes beside it clash with a put. A look-up looks at all other places as ever, since the value may
+-- stand above that place.
 module _ (declared : List KeyText) (key : KeyValue) where
   -- The part of the path below the context in which the act computes this key, if it does.
   abbrev pub below_act : List ℕ → Option ActText → List ℕ

@@ -1,7 +1,7 @@
 //! What a step does with the store.
 ghost use Rattle.std.specs.Prelude.{◌≡◌, option_map};
 ghost use Rattle.ext_plan.specs.Plans.{step_view};
-ghost use Rattle.ext_races.specs.Acts.{act_of, act_view, draws, word_draws};
+ghost use Rattle.ext_races.specs.Acts.{act_of, act_view, as_compute, draws, puts, stores, word_draws};
 
 use ext_plan::{KeyedStep, Step, StepParts, Word};
 
@@ -34,5 +34,37 @@ fn word_draws(keep_faults: bool, word: Word) -> bool
         Word::Put | Word::PutCloseable | Word::Compute | Word::ComputeCloseable => true,
         Word::ComputeFail => keep_faults,
         Word::Want | Word::None | Word::Remove => false,
+    }
+}
+
+/// Tests whether a step of this word puts a value, if `put`, and else whether it computes one.
+pub(crate) fn stores(put: bool, word: Word) -> bool
+    ensures { result ≡ stores put word }
+{
+    if put {
+        return puts(word);
+    }
+    word.gives_value()
+}
+
+/// Tests whether a step of this word puts a value.
+fn puts(word: Word) -> bool
+    ensures { result ≡ puts word }
+{
+    match word {
+        Word::Put | Word::PutCloseable => true,
+        Word::Want | Word::None | Word::Remove => false,
+        Word::Compute | Word::ComputeCloseable | Word::ComputeFail => false,
+    }
+}
+
+/// The word of a compute of what a step of this word stores.
+pub(crate) fn as_compute(word: Word) -> Word
+    ensures { result ≡ as_compute word }
+{
+    match word {
+        Word::Put => Word::Compute,
+        Word::PutCloseable => Word::ComputeCloseable,
+        other => other,
     }
 }

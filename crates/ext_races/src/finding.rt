@@ -30,8 +30,8 @@ use std::alloc::{AllocError, Global};
 /// no one report, whatever its nodes touch.
 ///
 /// Takes memory for the steps that the plan may make, 24 bytes each, for what they touch, for each
-/// node, for each key that its callbacks before all children compute, 40 bytes, and for a list for
-/// each key that the steps name in each context; fails with `AllocError` only if that is refused.
+/// node, for each key that its callbacks before all children compute or put, 40 bytes, and for a list
+/// for each key that the steps name in each context; fails with `AllocError` only if that is refused.
 /// The time grows with the number of steps. At a place where nodes that may run beside one another
 /// don't all look, or all compute the same or find it, it grows with the number of pairs of touches,
 /// too, until `most` races are listed.

@@ -17,7 +17,6 @@ ghost use Rattle.ext_races.specs.Touches.{ComputeText, key_of_made, touch_view, 
 
 use crate::act::act_of;
 use crate::made::{MadeStep, path_in};
-use crate::naming::store_key;
 use crate::reach::{forget, is_computed, note, reach, whole_paths};
 use crate::standing::{Compute, Standing, stands};
 use crate::touch::{Touch, look_at, touch_first};
@@ -128,8 +127,8 @@ fn key_number(
     ensures number { IfOk result (λ n. n ≡ number_of_key directory.now (key_of_step (keys_in keys.now) (step_key_view key.now))) }
     ensures few { IfOk result (λ n. n < length directory.now) }
 {
-    let called = store_key(alloc, keys, key)?;
-    Ok(directory.number_of(&called).unwrap_or(0))
+    let called = keys.key_of(alloc, key)?;
+    Ok(directory.number_of(called.key()).unwrap_or(0))
 }
 
 /// What was computed above the node with this path for an act on the key with this number: for a

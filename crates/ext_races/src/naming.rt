@@ -60,36 +60,29 @@ fn name<'p>(
     let Some(act) = act_of(step.step) else {
         return Ok(());
     };
-    let key = store_key(alloc, keys, act.key)?;
-    if declare(directory, key, most)? {
+    let called = keys.key_of(alloc, act.key)?;
+    if declare(directory, called.key(), most)? {
         names.push(act.key)?;
     }
     Ok(())
 }
 
-/// Makes the key of the store that a step names.
-pub(crate) fn store_key(
-    alloc: Global,
-    keys: &StepKeys<'_>,
-    key: &StepKey,
-) -> Result<Key, AllocError>
-    ensures { IfOk result (λ k. k ≡ key_of_step (keys_in keys.now) (step_key_view key.now)) }
-{
-    let called = keys.key_of(alloc, key)?;
-    called.key().clone()
-}
-
-/// Numbers the key, one of at most `most`, and tells whether it had no number before.
-fn declare(directory: &mut Directory, key: Key, most: usize) -> Result<bool, TreeFault>
+/// Numbers the key, one of at most `most`, and tells whether it had no number before. Takes memory
+/// only then.
+fn declare(directory: &mut Directory, key: &Key, most: usize) -> Result<bool, TreeFault>
     requires most { most ≤ 1024 }
     requires few { length directory.old ≤ most }
-    ensures keys { OnOk result (directory.new ≡ with_key directory.old key) }
-    ensures added { IfOk result (λ is_new. directory.new ≡ (if is_new then directory.old ++ key ∷ [] else directory.old)) }
+    ensures keys { OnOk result (directory.new ≡ with_key directory.old key.now) }
+    ensures added { IfOk result (λ is_new. directory.new ≡ (if is_new then directory.old ++ key.now ∷ [] else directory.old)) }
     ensures few { OnOk result (length directory.new ≤ most) }
-    ensures full { result ≡ Err fault.TooMany → most < length (with_key directory.old key) }
+    ensures full { result ≡ Err fault.TooMany → most < length (with_key directory.old key.now) }
 {
+    if directory.number_of(key).is_some() {
+        return Ok(false);
+    }
     let before = directory.len();
-    match directory.declare(key, most) {
+    let copy = key.clone()?;
+    match directory.declare(copy, most) {
         Ok(_) => Ok(directory.len() != before),
         Err(fault) => Err(fault),
     }

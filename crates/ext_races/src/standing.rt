@@ -1,4 +1,4 @@
-//! What was computed above a node when it begins.
+//! What was computed or put above a node when it begins.
 ghost use Rattle.std.specs.Prelude.{◌≡◌, ◌≢◌, ◌<◌, ◌==◌, ◌&&◌, [], ◌∷◌, ◌++◌, ℕ, All, List, Option, IfOk, OnOk, drop, length, map, not, option_map, vec_len};
 ghost use Rattle.std.specs.List.{filter, flat_map, list_any};
 ghost use Rattle.ext_tree.specs.Trees.{children_of};
@@ -7,22 +7,22 @@ ghost use Rattle.ext_plan.specs.PlanCalls.{steps_of_call};
 ghost use Rattle.ext_plan.specs.ReadPlans.{CallbacksAreFew, IsRunnablePlan, ids_of_nodes};
 ghost use Rattle.ext_plan.specs.StepCalls.{keys_in, start_of};
 ghost use Rattle.ext_plan.specs.StoreKeys.{key_of_step};
-ghost use Rattle.ext_races.specs.Acts.{ActText, act_of, act_view};
+ghost use Rattle.ext_races.specs.Acts.{ActText, act_of, act_view, as_compute};
 ghost use Rattle.ext_races.specs.InnerMade.{made_view, made_views};
-ghost use Rattle.ext_races.specs.InnerStanding.{AreComputed, AreFirst, AreLeft, AreWithout, AreWithoutRemoved, IsNumber, IsRemoved, TellsAbove, compute_at, compute_view, computed_in, computes_of, computes_view, context_of, is_number, removed_by, stands, unless};
+ghost use Rattle.ext_races.specs.InnerStanding.{AreComputed, AreFirst, AreLeft, AreStored, AreWithout, AreWithoutRemoved, IsNumber, IsRemoved, TellsAbove, compute_at, compute_view, computed_in, computes_of, computes_view, context_of, is_number, removed_by, stands, unless};
 ghost use Rattle.ext_races.specs.MadeSteps.{path_of, plan_path, steps_before, steps_made};
 ghost use Rattle.ext_races.specs.Touches.{or_above, standing};
 
-use crate::act::act_of;
+use crate::act::{act_of, as_compute, stores};
 use crate::made::{MadeStep, calls_before, path_in};
-use crate::naming::store_key;
 use ext_lifecycle::Call;
 use ext_model::{ContextNo, KeyNo};
 use ext_plan::{KeyedStep, Plan, Step, StepKey, StepKeys, Word};
 use ext_tree::{Directory, Tree};
 use std::alloc::{AllocError, Global};
 
-/// A compute: for which key, in which context, with which word and text.
+/// A value that is computed or put: for which key, in which context, with which word and text of a
+/// compute.
 #[derive(Clone, Copy, Debug)]
 pub(crate) struct Compute<'p> {
     pub(crate) key: KeyNo,
@@ -37,9 +37,11 @@ pub(crate) struct Standing<'p> {
     /// For each node with children the first compute of each key in its callbacks before them, if
     /// neither these remove the key, nor a step of a node below it in its context or above.
     computes: Vec<Vec<Compute<'p>>>,
+    /// The same of puts.
+    puts: Vec<Vec<Compute<'p>>>,
 }
 
-/// What was computed above the node with this path for the key with this number.
+/// What was computed above the node with this path for the key with this number, or else put.
 pub(crate) fn stands<'p>(
     standing: &Standing<'p>,
     path: &[ContextNo],
@@ -47,7 +49,12 @@ pub(crate) fn stands<'p>(
 ) -> Option<Compute<'p>>
     ensures { option_map compute_view result ≡ stands standing.now path.now key }
 {
-    computed_in(standing.computes.as_slice(), key, above(path))
+    let nodes = above(path);
+    let computed = computed_in(standing.computes.as_slice(), key, nodes);
+    if computed.is_some() {
+        return computed;
+    }
+    computed_in(standing.puts.as_slice(), key, nodes)
 }
 
 /// The contexts above that of the node with this path.
@@ -96,9 +103,9 @@ fn compute_at<'p>(computes: &[Compute<'p>], key: KeyNo) -> Option<Compute<'p>>
 
 // ---- what is noted
 
-/// Notes what the callbacks before all children compute, for keys in the directory that neither
-/// these remove, nor a step of a node below in their node's context or above. Takes memory for each
-/// node, and for each key that it computes, 40 bytes.
+/// Notes what the callbacks before all children compute and put, for keys in the directory that
+/// neither these remove, nor a step of a node below in their node's context or above. Takes memory
+/// for each node, and for each key that it computes or puts, 40 bytes.
 pub(crate) fn standing_of<'p>(
     alloc: Global,
     keys: &StepKeys<'_>,
@@ -112,42 +119,64 @@ pub(crate) fn standing_of<'p>(
     requires nodes { All (λ m. m.node < length (ids_of_nodes (plan_view plan.now).nodes)) made.now }
     ensures { IfOk result (TellsAbove (ids_of_nodes (plan_view plan.now).nodes) directory.now (standing (plan_view plan.now))) }
 {
-    let mut computes = computes_made(alloc, keys, directory, plan)?;
-    forget_made(alloc, keys, directory, plan.tree(), made, &mut computes)?;
-    Ok(Standing { computes })
+    let computes = stored_of(alloc, keys, directory, plan, made, false)?;
+    let puts = stored_of(alloc, keys, directory, plan, made, true)?;
+    Ok(Standing { computes, puts })
 }
 
-/// For each node the computes in its callbacks before all children.
+/// The puts among these, if `put`, and else the computes.
+fn stored_of<'p>(
+    alloc: Global,
+    keys: &StepKeys<'_>,
+    directory: &Directory,
+    plan: &'p Plan,
+    made: &[MadeStep<'p>],
+    put: bool,
+) -> Result<Vec<Vec<Compute<'p>>>, AllocError>
+    requires plan { IsRunnablePlan (plan_view plan.now) }
+    requires keys { keys_in keys.now ≡ (plan_view plan.now).keys }
+    requires made { made_views [] made.now ≡ steps_made (plan_view plan.now) }
+    requires nodes { All (λ m. m.node < length (ids_of_nodes (plan_view plan.now).nodes)) made.now }
+    ensures { IfOk result (λ v. AreStored (plan_view plan.now) directory.now put (computes_view v.items)) }
+{
+    let mut lists = computes_made(alloc, keys, directory, plan, put)?;
+    forget_made(alloc, keys, directory, plan.tree(), made, &mut lists)?;
+    Ok(lists)
+}
+
+/// For each node the puts or computes in its callbacks before all children.
 fn computes_made<'p>(
     alloc: Global,
     keys: &StepKeys<'_>,
     directory: &Directory,
     plan: &'p Plan,
+    put: bool,
 ) -> Result<Vec<Vec<Compute<'p>>>, AllocError>
     requires { CallbacksAreFew (plan_view plan.now) }
-    ensures { IfOk result (λ v. AreComputed (plan_view plan.now) (keys_in keys.now) directory.now (length (ids_of_nodes (plan_view plan.now).nodes)) (computes_view v.items)) }
+    ensures { IfOk result (λ v. AreComputed (plan_view plan.now) (keys_in keys.now) directory.now put (length (ids_of_nodes (plan_view plan.now).nodes)) (computes_view v.items)) }
 {
     let tree = plan.tree();
     let mut lists = Vec::new(alloc);
     for node in 0..tree.len() {
-        let computes = computes_before(alloc, keys, directory, plan, node)?;
+        let computes = computes_before(alloc, keys, directory, plan, node, put)?;
         lists.push(computes)?;
     }
     Ok(lists)
 }
 
-/// The computes in the callbacks before the body of a node, for keys that these don't remove; none,
-/// if it has no children.
+/// The puts or computes in the callbacks before the body of a node, for keys that these don't remove;
+/// none, if it has no children.
 fn computes_before<'p>(
     alloc: Global,
     keys: &StepKeys<'_>,
     directory: &Directory,
     plan: &'p Plan,
     node: ContextNo,
+    put: bool,
 ) -> Result<Vec<Compute<'p>>, AllocError>
     requires few { CallbacksAreFew (plan_view plan.now) }
     requires node { node < length (ids_of_nodes (plan_view plan.now).nodes) }
-    ensures { IfOk result (λ v. children_of (ids_of_nodes (plan_view plan.now).nodes) node ≢ [] → AreLeft (keys_in keys.now) directory.now (plan_path (plan_view plan.now) node) (steps_before (plan_view plan.now) node) v.items) }
+    ensures { IfOk result (λ v. children_of (ids_of_nodes (plan_view plan.now).nodes) node ≢ [] → AreLeft (keys_in keys.now) directory.now put (plan_path (plan_view plan.now) node) (steps_before (plan_view plan.now) node) v.items) }
 {
     let tree = plan.tree();
     let mut computes = Vec::new(alloc);
@@ -163,6 +192,7 @@ fn computes_before<'p>(
         plan,
         path,
         calls.as_slice(),
+        put,
         &mut computes,
     )?;
     forget_calls(
@@ -176,7 +206,7 @@ fn computes_before<'p>(
     Ok(computes)
 }
 
-/// Notes what the steps of these calls compute, in the context with this path.
+/// Notes what the steps of these calls put or compute, in the context with this path.
 fn note_calls<'p>(
     alloc: Global,
     keys: &StepKeys<'_>,
@@ -184,30 +214,32 @@ fn note_calls<'p>(
     plan: &'p Plan,
     path: &[ContextNo],
     calls: &[Call],
+    put: bool,
     computes: &mut Vec<Compute<'p>>,
 ) -> Result<(), AllocError>
-    ensures { OnOk result (AreFirst (keys_in keys.now) directory.now path.now [] computes.old.items → AreFirst (keys_in keys.now) directory.now path.now (map act_of (flat_map (steps_of_call (plan_view plan.now)) calls.now)) computes.new.items) }
+    ensures { OnOk result (AreFirst (keys_in keys.now) directory.now put path.now [] computes.old.items → AreFirst (keys_in keys.now) directory.now put path.now (map act_of (flat_map (steps_of_call (plan_view plan.now)) calls.now)) computes.new.items) }
 {
     for call in calls {
         let steps = plan.steps_of(call);
-        note_steps(alloc, keys, directory, path, steps, computes)?;
+        note_steps(alloc, keys, directory, path, steps, put, computes)?;
     }
     Ok(())
 }
 
-/// Notes what these steps compute, in the context with this path.
+/// Notes what these steps put or compute, in the context with this path.
 fn note_steps<'p>(
     alloc: Global,
     keys: &StepKeys<'_>,
     directory: &Directory,
     path: &[ContextNo],
     steps: &'p [Step],
+    put: bool,
     computes: &mut Vec<Compute<'p>>,
 ) -> Result<(), AllocError>
-    ensures { OnOk result ((before : List (Option ActText)) → AreFirst (keys_in keys.now) directory.now path.now before computes.old.items → AreFirst (keys_in keys.now) directory.now path.now (before ++ map act_of (map step_view steps.now)) computes.new.items) }
+    ensures { OnOk result ((before : List (Option ActText)) → AreFirst (keys_in keys.now) directory.now put path.now before computes.old.items → AreFirst (keys_in keys.now) directory.now put path.now (before ++ map act_of (map step_view steps.now)) computes.new.items) }
 {
     for step in steps {
-        note_step(alloc, keys, directory, path, step, computes)?;
+        note_step(alloc, keys, directory, path, step, put, computes)?;
     }
     Ok(())
 }
@@ -218,14 +250,15 @@ fn note_step<'p>(
     directory: &Directory,
     path: &[ContextNo],
     step: &'p Step,
+    put: bool,
     computes: &mut Vec<Compute<'p>>,
 ) -> Result<(), AllocError>
-    ensures { OnOk result ((before : List (Option ActText)) → AreFirst (keys_in keys.now) directory.now path.now before computes.old.items → AreFirst (keys_in keys.now) directory.now path.now (before ++ act_of (step_view step.now) ∷ []) computes.new.items) }
+    ensures { OnOk result ((before : List (Option ActText)) → AreFirst (keys_in keys.now) directory.now put path.now before computes.old.items → AreFirst (keys_in keys.now) directory.now put path.now (before ++ act_of (step_view step.now) ∷ []) computes.new.items) }
 {
     let Some(act) = act_of(step) else {
         return Ok(());
     };
-    if !act.word.gives_value() {
+    if !stores(put, act.word) {
         return Ok(());
     }
     let Some(key) = number_in(alloc, keys, directory, act.key)? else {
@@ -235,7 +268,7 @@ fn note_step<'p>(
     Ok(())
 }
 
-/// Notes a compute, unless one of its key is noted.
+/// Notes a value, unless one of its key is noted.
 fn push_first<'p>(compute: Compute<'p>, computes: &mut Vec<Compute<'p>>) -> Result<(), AllocError>
     ensures { OnOk result ((key : ℕ) → compute_at computes.new.items key ≡ or_above (compute_at computes.old.items key) (compute_at (compute.entry ∷ []) key)) }
 {
@@ -246,15 +279,15 @@ fn push_first<'p>(compute: Compute<'p>, computes: &mut Vec<Compute<'p>>) -> Resu
     Ok(())
 }
 
-/// The compute of an act on the key with this number, in the context with this path.
+/// What an act on the key with this number stores, in the context with this path.
 fn compute_of<'p>(key: KeyNo, act: &KeyedStep<'p>, path: &[ContextNo]) -> Compute<'p>
     ensures key { result.key ≡ key }
-    ensures compute { compute_view result ≡ record { context = start_of (drop (act_view act.now).up path.now); word = (act_view act.now).word; text = (act_view act.now).text } }
+    ensures compute { compute_view result ≡ record { context = start_of (drop (act_view act.now).up path.now); word = as_compute (act_view act.now).word; text = (act_view act.now).text } }
 {
     Compute {
         key,
         context: context_up(path, act.up),
-        word: act.word,
+        word: as_compute(act.word),
         text: act.text,
     }
 }
@@ -275,8 +308,8 @@ fn number_in(
 ) -> Result<Option<KeyNo>, AllocError>
     ensures { IfOk result (IsNumber directory.now (key_of_step (keys_in keys.now) (step_key_view key.now))) }
 {
-    let called = store_key(alloc, keys, key)?;
-    Ok(directory.number_of(&called))
+    let called = keys.key_of(alloc, key)?;
+    Ok(directory.number_of(called.key()))
 }
 
 // ---- the keys that are removed

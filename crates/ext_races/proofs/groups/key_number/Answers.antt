@@ -12,7 +12,7 @@ returns c =
     let directory = c.args.directory.now in
     let key = key_of_step (keys_in c.args.keys.now) (step_key_view c.args.key.now) in
     let index = number_of_key directory key in
-    let found = c.number_of.ensures.found index (subst (λ k. HasNumber directory k index) (sym c.in_ok-called.ensures) (has_key_number directory key c.requires)) in
+    let found = c.number_of.ensures.found index (subst (λ k. HasNumber directory k index) (sym (c.key.ensures ∙ c.in_ok-called.ensures.key)) (has_key_number directory key c.requires)) in
     let number : c.unwrap_or.result ≡ index = c.unwrap_or.ensures ∙ ap (λ r. unwrap_or r 0) found in
     let within = key_number_within directory key c.requires in
     record { number = number; few = omega (arith, number, within) }

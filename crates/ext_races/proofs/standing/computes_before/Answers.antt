@@ -29,9 +29,9 @@ returns c = λ some.
     let again = c.as_slice-2.ensures.value ∙ c.in_ok-calls.ensures in
     let noted = c.note_calls.new.computes.items in
     let left = c.forget_calls.new.computes.items in
-    let all = c.in_ok-note_calls.ensures (first_none declared directory c.path_in-path.result.now c.new-computes.result.items c.new-computes.ensures.items) in
-    let first : AreFirst declared directory (plan_path plan node) (map act_of (flat_map (steps_of_call plan) (calls_before plan node))) noted =
-    subst (λ p. AreFirst declared directory p (map act_of (flat_map (steps_of_call plan) (calls_before plan node))) noted) path
-    (subst (λ cs. AreFirst declared directory c.path_in-path.result.now (map act_of (flat_map (steps_of_call plan) cs)) noted) calls all) in
+    let all = c.in_ok-note_calls.ensures (first_none declared directory c.args.put c.path_in-path.result.now c.new-computes.result.items c.new-computes.ensures.items) in
+    let first : AreFirst declared directory c.args.put (plan_path plan node) (map act_of (flat_map (steps_of_call plan) (calls_before plan node))) noted =
+    subst (λ p. AreFirst declared directory c.args.put p (map act_of (flat_map (steps_of_call plan) (calls_before plan node))) noted) path
+    (subst (λ cs. AreFirst declared directory c.args.put c.path_in-path.result.now (map act_of (flat_map (steps_of_call plan) cs)) noted) calls all) in
     let without = subst (λ cs. AreWithout directory (removed_by declared (flat_map (steps_of_call plan) cs)) noted left) again c.in_ok-forget_calls.ensures in
-    left_is declared directory (plan_path plan node) (flat_map (steps_of_call plan) (calls_before plan node)) noted left first without
+    left_is declared directory c.args.put (plan_path plan node) (flat_map (steps_of_call plan) (calls_before plan node)) noted left first without

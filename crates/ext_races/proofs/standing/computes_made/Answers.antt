@@ -9,7 +9,7 @@ use Rattle.ext_races.proofs.standing.computes_made.Goals as goal
 pub loop-node-init : goal.loop-node-init
 loop-node-init c =
     let declared = keys_in c.args.keys.now in
-    subst (λ lists. AreComputed (plan_view c.args.plan.now) declared c.args.directory.now 0 (computes_view lists)) (sym c.new-lists.ensures.items) (computed_none (plan_view c.args.plan.now) declared c.args.directory.now)
+    subst (λ lists. AreComputed (plan_view c.args.plan.now) declared c.args.directory.now c.args.put 0 (computes_view lists)) (sym c.new-lists.ensures.items) (computed_none (plan_view c.args.plan.now) declared c.args.directory.now c.args.put)
 
 pub computes_before-requires-clause-node : goal.computes_before-requires-clause-node
 computes_before-requires-clause-node c =
@@ -22,7 +22,7 @@ computes_before-requires-clause-node c =
 pub loop-node-preserved : goal.loop-node-preserved
 loop-node-preserved c =
     let declared = keys_in c.args.keys.now in
-    computed_more (plan_view c.args.plan.now) declared c.args.directory.now c.loop-node.node c.loop-node.lists.items c.push.new.self.items c.in_ok-computes.computes
+    computed_more (plan_view c.args.plan.now) declared c.args.directory.now c.args.put c.loop-node.node c.loop-node.lists.items c.push.new.self.items c.in_ok-computes.computes
     c.in_ok-computes.ensures c.in_ok-push.ensures.items c.loop-node.invariant
 
 pub returns : goal.returns
@@ -32,4 +32,4 @@ returns c =
     let last = c.loop-node-test.false in
     let same = ap length c.tree-tree.ensures in
     let stop : c.loop-node.node ≡ length (ids_of_nodes (plan_view c.args.plan.now).nodes) = omega (arith, count, end, last, same) in
-    subst (λ n. AreComputed (plan_view c.args.plan.now) (keys_in c.args.keys.now) c.args.directory.now n (computes_view c.loop-node.lists.items)) stop c.loop-node.invariant
+    subst (λ n. AreComputed (plan_view c.args.plan.now) (keys_in c.args.keys.now) c.args.directory.now c.args.put n (computes_view c.loop-node.lists.items)) stop c.loop-node.invariant

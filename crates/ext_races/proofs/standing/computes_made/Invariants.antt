@@ -4,4 +4,4 @@ use Rattle.ext_races.specs.InnerStanding.{AreComputed, computes_view}
 use Rattle.ext_races.proofs.standing.computes_made.Given as goal
 
 abbrev pub invariant-loop-node : goal.invariant-loop-node
-invariant-loop-node l = AreComputed (plan_view l.plan) (keys_in l.keys) l.directory l.node (computes_view l.lists.items)
+invariant-loop-node l = AreComputed (plan_view l.plan) (keys_in l.keys) l.directory l.put l.node (computes_view l.lists.items)

@@ -19,7 +19,7 @@ loop-call-preserved c = record {
       let calls = c.args.calls.now in
       let at = c.loop-call.call-index in
       let more = c.in_ok-note_steps.ensures (map act_of (flat_map (steps_of_call plan) (take at calls))) (c.loop-call.invariant.first are) in
-      subst (λ acts. AreFirst (keys_in c.args.keys.now) c.args.directory.now c.args.path.now acts c.note_steps.new.computes.items)
+      subst (λ acts. AreFirst (keys_in c.args.keys.now) c.args.directory.now c.args.put c.args.path.now acts c.note_steps.new.computes.items)
       (calls_more plan calls at _ (map step_view c.steps_of-steps.result.now) (omega arith) c.steps_of-steps.ensures) more;
 }
 
@@ -27,4 +27,4 @@ pub returns : goal.returns
 returns c = λ are.
     let past = c.loop-call-test.false in
     let whole : take c.loop-call.call-index c.args.calls.now ≡ c.args.calls.now = take_all c.loop-call.call-index c.args.calls.now past in
-    subst (λ calls. AreFirst (keys_in c.args.keys.now) c.args.directory.now c.args.path.now (map act_of (flat_map (steps_of_call (plan_view c.args.plan.now)) calls)) c.loop-call.computes.items) whole (c.loop-call.invariant.first are)
+    subst (λ calls. AreFirst (keys_in c.args.keys.now) c.args.directory.now c.args.put c.args.path.now (map act_of (flat_map (steps_of_call (plan_view c.args.plan.now)) calls)) c.loop-call.computes.items) whole (c.loop-call.invariant.first are)

@@ -9,6 +9,6 @@ use Rattle.ext_races.proofs.standing.note_calls.Given as goal
 
 abbrev pub invariant-loop-call : goal.invariant-loop-call
 invariant-loop-call l = record {
-  first : AreFirst (keys_in l.keys) l.directory l.path [] l.fn.computes.items
-      → AreFirst (keys_in l.keys) l.directory l.path (map act_of (flat_map (steps_of_call (plan_view l.plan)) (take l.call-index l.calls))) l.computes.items;
+  first : AreFirst (keys_in l.keys) l.directory l.put l.path [] l.fn.computes.items
+      → AreFirst (keys_in l.keys) l.directory l.put l.path (map act_of (flat_map (steps_of_call (plan_view l.plan)) (take l.call-index l.calls))) l.computes.items;
 }

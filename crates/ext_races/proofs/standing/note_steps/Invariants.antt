@@ -7,6 +7,6 @@ use Rattle.ext_races.proofs.standing.note_steps.Given as goal
 
 abbrev pub invariant-loop-step : goal.invariant-loop-step
 invariant-loop-step l = record {
-  first : (before : List (Option ActText)) → AreFirst (keys_in l.keys) l.directory l.path before l.fn.computes.items
-      → AreFirst (keys_in l.keys) l.directory l.path (before ++ map act_of (map step_view (take l.step-index l.steps))) l.computes.items;
+  first : (before : List (Option ActText)) → AreFirst (keys_in l.keys) l.directory l.put l.path before l.fn.computes.items
+      → AreFirst (keys_in l.keys) l.directory l.put l.path (before ++ map act_of (map step_view (take l.step-index l.steps))) l.computes.items;
 }
