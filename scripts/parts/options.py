@@ -28,6 +28,7 @@ LINES = 'wanted <sum> 7, got:\nsum 6 & "more"\n\nthe end'
 LINES_TOLD = '    wanted <sum> 7, got:\n    sum 6 & "more"\n    \n    the end\n'
 COLORS = [([], {"NO_COLOR": ""}), ([], {}), ([], {"NO_COLOR": "", "TERM": "dumb"}), (["--color", "never"], {"NO_COLOR": ""})]
 WAITS = [("Locked", "waited for locks"), ("Meeting", "waited for what is shared"), ("Meeting", "made what is shared in")]
+SKIPPED = [("Broken", "never", "what it stands in did not pass before"), ("Unmade", "two", "so many had failed that no more were begun")]
 ATTEMPTS = "attempt 1: not yet\nattempt 2: not yet"
 BOTH = "first\nafter each: second\nof two lines"
 
@@ -163,7 +164,7 @@ def stopping(program):
     yield "--fail-fast=2 after the second", " failed 2 skipped " in two.out
     yield "why tests were skipped is told", told.out.endswith("\n4 skipped: so many had failed that no more were begun\n")
     reasons = {it["id"]: it["fault"] for it in map(json.loads, stopped.out.splitlines()) if it.get("status") == "skipped"}
-    yield "each skipped test says why", reasons == {"[engine:trial]/[class:Broken]/[test:never]": "what it stands in did not pass before", "[engine:trial]/[class:Unmade]/[test:two]": "so many had failed that no more were begun"}
+    yield "each skipped test says why", reasons == {f"[engine:trial]/[class:{name}]/[test:{test}]": why for name, test, why in SKIPPED}
     yield "each reason with its count", "2 skipped; 1 container did not pass itself\n1 skipped: so many had failed that no more were begun\n1 skipped: what it stands in did not pass before\n" in mixed.out
     yield "what no selected test shares is not made", "computed 1 found" in some.out and "closed 1 close" in some.out and "Flaky" not in some.out
 
@@ -192,6 +193,8 @@ def telling(program, folder):
     cases = {it.get("name"): it for it in xml_of(xml).iter("testcase")}
     again = [json.loads(it) for it in Ran(program, ["third", "--retries", "2", "--report", "json", "--junit", xml]).out.splitlines()]
     attempts = next(xml_of(xml).iter("testcase"))
+    Ran(program, ["Broken", "Unmade", "--lanes", "1", "--fail-fast", "--junit", xml])
+    skips = {(it.get("classname"), it.get("name")): (skip.get("message"), skip.text) for it in xml_of(xml).iter("testcase") for skip in it.iter("skipped")}
     slow = Ran(program, ["Slow", "--slow", "1", "--lanes", "1", "--durations", "1"])
     with concurrent.futures.ThreadPoolExecutor(6) as pool:
         just = list(pool.map(lambda _: Ran(program, ["sleeps", "--slow", "2"]).err, range(6)))
@@ -208,7 +211,8 @@ def telling(program, folder):
     yield "the text has times, and all lines of a message", f"{FAILING}/[test:lines] failed closed 0 took T: wanted <sum> 7, got:\n    sum 6 & \"more\"\n    \n    the end\n" in text.out
     yield "JSON has messages whole, and all faults", [it["fault"] for it in nodes if it.get("test")] == [LINES, "no network drive", BOTH, None]
     yield "JSON has attempts, and what they said", [(it.get("attempt"), it["fault"]) for it in again if it.get("test")] == [(3, ATTEMPTS)]
-    yield "XML has how many attempts there were before", len(attempts.findall("flakyFailure")) == 2
+    yield "XML has the attempts before, each with what it said", [(it.get("type"), it.get("message"), it.findtext("stackTrace")) for it in attempts] == [("failed", "not yet", "not yet")] * 2
+    yield "XML says why tests were skipped", skips == {(name, test): (why, why) for name, test, why in SKIPPED}
     yield "JSON has times", all("millis" in it for it in nodes if it.get("test"))
     yield "XML has messages whole, and all faults", "".join(cases["lines"].find("failure").itertext()) == LINES and "".join(cases["both"].find("failure").itertext()) == BOTH
     yield "XML has times and class names", all(float(it.get("time")) >= 0 and it.get("classname") == "Failing" for it in cases.values()) and len(cases) == 4

@@ -23,7 +23,7 @@ addEventListener('error', it => console.error(it.message));
 setTimeout(() => {
   const shown = () => document.getElementById('shown').textContent, rows = () => document.querySelectorAll('#tree li[data-n]').length, told = [];
   const text = document.getElementById('text');
-  text.value = 'BOTH';
+  text.value = 'TEXT';
   text.dispatchEvent(new Event('input'));
   setTimeout(() => {
     told.push(shown(), rows());
@@ -37,14 +37,18 @@ setTimeout(() => {
     told.push(root.open);
     root.querySelector('summary').click();
     told.push(root.open);
+    for (const key of ['ArrowRight', 'ArrowDown', 'Escape']) {
+      document.getElementById('chart').dispatchEvent(new KeyboardEvent('keydown', { key }));
+      const card = document.getElementById('card');
+      told.push(card.hidden ? 'none' : /lane \\d+/.exec(card.textContent)[0]);
+    }
     choose({ kind: 'bar', i: 0, lane: D.attempts[0][1] });
-    told.push(document.getElementById('card').textContent.includes('[test:lines]'));
+    told.push(document.getElementById('card').textContent.includes('CARD'));
     document.body.append(Object.assign(document.createElement('pre'), { id: 'clicked', textContent: told.join('; ') }));
   }, 500);
 }, 1000);
 </script>
 """
-CLICKED = "1 of 4 tests; 3; 1 of 4 tests; 3; 4 tests; true; false; true; true"
 HOSTILE = '</script><!-- & "\u202e \U0001f600 \x7f'
 
 
@@ -179,39 +183,84 @@ def of_course(program):
     yield "a lock is held until its test has closed", [it[6] for it in waits] == [holds[1]] and all(holds[9] <= it[2] and holds[10] <= it[3] for it in waits)
 
 
+def of_locks(extrun):
+    """What is told of waits for locks in plans of four tests beside one another that take a while."""
+    steps = json.dumps(["put a x", *["want a x"] * 50_000])
+    test = f'mode = "concurrent"\ntest = {steps}\n'
+
+    def waits(of_engine, of_first):
+        """The waits, each with when the bars of who waits and of who held the lock begin, and the page."""
+        nodes = "".join(f'[[node]]\nid = "[engine:x]/[test:{it}]"\n{test}{"" if it else of_first}' for it in range(4))
+        page = Page(extrun, ["run", "--lanes", "5", "--large"], f'[[node]]\nid = "[engine:x]"\n{of_engine}{nodes}')
+        begun = {it[0]: it[2] for it in page.data["attempts"]}
+        return [(it, begun[it[1]], begun[it[6]]) for it in page.data["waits"]], page
+
+    told, page = waits('locks = ["READ_WRITE a"]\n', "")
+    order = [it[0] for it in sorted(page.data["attempts"], key=lambda it: it[2])]
+    began_at_once = len({it[1] for it in page.data["attempts"]}) == 4
+    yield "of tests that begin at once and write each but the first waits", not began_at_once or len(told) == 3
+    yield "a wait for a lock of the engine is told with the test that held it last", told and all(it[4:6] == [0, 0] and it[6] == order[order.index(it[1]) - 1] for it, _, _ in told) and page.data["locks"] == ["a"]
+    yield "a bar begins where the wait ends", page.is_in_order() and all(held <= begun == it[3] and it[3] - it[2] >= 100 for it, begun, held in told)
+    told, page = waits('locks = ["READ a"]\n', 'locks = ["READ_WRITE a"]\n')
+    yield "tests that read wait for the one that writes, and for no other", told and all(1 in (it[1], it[6]) and it[1] != it[6] for it, _, _ in told)
+    late = f'mode = "concurrent"\nbefore_all = [{json.dumps(["put b x", *["want b x"] * 5_000])}]\n[[node]]\nid = "[engine:x]/[class:late]/[test:alone]"\n{test}isolated = true\n'
+    told, page = waits(f'[[node]]\nid = "[engine:x]/[class:late]"\n{late}', "")
+    yield "a test that is alone waits for those that began before, for no lock with a name", told and all(2 in (it[1], it[6]) and it[4:6] == [0, None] for it, _, _ in told)
+    told, page = waits('locks = ["READ a"]\n', "")
+    yield "none waits where all read", not told and page.data["locks"] == ["a"]
+
+
 def of_plans(extrun):
     ids = [f"[test:{number}]" for number in range(1000)]
     plan = "".join(f'[[node]]\nid = "[engine:x]{it}"\n' + ("test = []\nmode = \"concurrent\"\n" if it else "") for it in ["", *(f"/{it}" for it in ids)])
     page = Page(extrun, ["run", "--lanes", "4", "--large"], plan)
     yield "of a plan of 1,000 tests, too", page.status == 0 and page.is_whole() and page.is_in_order() and page.ids()[1:] == [f"[engine:x]/{it}" for it in ids]
     yield "in less than 200 kB", len(page.text) < 200_000
-    yield "with nothing said of locks where there are none", page.data["run"]["note"] is None and page.data["locks"] == page.data["waits"] == []
-    held = "".join(f'[[node]]\nid = "[engine:x]/[test:{it}]"\nmode = "concurrent"\ntest = []\nlocks = ["READ_WRITE a"]\n' for it in range(4))
-    page = Page(extrun, ["run", "--lanes", "4"], f'[[node]]\nid = "[engine:x]"\n{held}')
-    yield "where there are it says what bars have of them", page.status == 0 and "waited for its locks" in page.data["run"]["note"] and page.is_in_order()
+    yield "which says that it has no values, and has no locks where there are none", "not shown" in page.data["run"]["note"] and page.data["locks"] == page.data["waits"] == []
     step = json.dumps("fail " + HOSTILE.replace(" ", "_"), ensure_ascii=False).replace("\x7f", "\\u007F")
     page = Page(extrun, ["run", "--store", "plain"], f'[[node]]\nid = "[engine:x]"\ntest = [{step}]\n')
     yield "texts that look like HTML stay texts", page.is_whole() and [it[1:] for it in page.data["faults"]] == [[1, "test, step 0", HOSTILE.replace(" ", "_")]]
 
 
-def in_browser(program):
-    """What chromium shows of the page, which is said to be skipped where there is none."""
+def clicked(page, text, card):
+    """What chromium shows of a page, what is told of clicks there, which look for a text and for one in the first card, and what is wrong; none where there is no chromium."""
     browser = next(filter(None, map(shutil.which, ["chromium", "chromium-headless-shell", "google-chrome"])), None)
     if not browser:
         print("in a browser: skipped, since there is no chromium")
-        return
+        return None
     with tempfile.TemporaryDirectory() as folder:
-        file = pathlib.Path(folder) / "page.html"
-        subprocess.run([program, "Failing", "--lanes", "1", "--html", file], capture_output=True, env={}, timeout=120)
-        copy = pathlib.Path(folder) / "clicks.html"
-        copy.write_text(file.read_text(encoding="utf-8").replace("</body>", f"{CLICKS}</body>"), encoding="utf-8")
+        file = pathlib.Path(folder) / "clicks.html"
+        script = CLICKS.replace("TEXT", text).replace("CARD", card)
+        file.write_text(page.replace("</body>", f"{script}</body>"), encoding="utf-8")
         words = ["--headless", "--no-sandbox", "--disable-gpu", f"--user-data-dir={folder}/user", "--virtual-time-budget=5000", "--enable-logging=stderr", "--dump-dom"]
-        ran, clicked = (subprocess.run([browser, *words, it.as_uri()], capture_output=True, text=True, timeout=120) for it in (file, copy))
+        ran = subprocess.run([browser, *words, file.as_uri()], capture_output=True, text=True, timeout=120)
     shown = re.sub(r"<[^>]*>", " ", ran.stdout.partition("<body")[2].partition("<script")[0])
-    words = " ".join(shown.split())
-    yield "in a browser it shows what failed", all(it in words for it in ["2 failed", "1 aborted", "1 passed", "wanted &lt;sum&gt; 7, got:"])
-    yield "its tests are filtered, folded and pointed at", f'<pre id="clicked">{CLICKED}</pre>' in clicked.stdout
-    yield "without an error", "CONSOLE" not in ran.stderr + clicked.stderr
+    found = re.search('<pre id="clicked">(.*?)</pre>', ran.stdout)
+    return " ".join(shown.split()), re.sub(r"(?<=\d)\s(?=\d)", "", found[1]) if found else "", "CONSOLE" in ran.stderr
+
+
+def of_many(extrun):
+    """What chromium shows of a plan of 65,000 tests, as if only lanes 1 and 3 had run some."""
+    nodes = ['[[node]]\nid = "[engine:x]"\n']
+    for place in range(130):
+        nodes.append(f'[[node]]\nid = "[engine:x]/[class:{place}]"\n')
+        nodes += [f'[[node]]\nid = "[engine:x]/[class:{place}]/[test:{it}]"\ntest = [{json.dumps("abort no") if it == 7 else ""}]\n' for it in range(500)]
+    page = Page(extrun, ["run", "--lanes", "4", "--large"], "".join(nodes))
+    for row in page.data["attempts"]:
+        row[1] = 1 + row[0] % 2 * 2
+    seen = clicked(page.text.replace(page.json, json.dumps(page.data)), "[TEST:77]", "[class:0]")
+    if seen:
+        yield "65,000 tests are filtered, folded and pointed at in a browser", seen[1] == "130 of 65000 tests; 101; 130 of 65000 tests; 101; 65000 tests; true; false; true; lane 1; lane 3; none; true"
+        yield "without an error, in less than 4 MB", not seen[2] and len(page.text) < 4_000_000
+
+
+def in_browser(program):
+    """What chromium shows of the page of an engine."""
+    seen = clicked(Page(program, ["Failing", "--lanes", "1"]).text, "BOTH", "[test:lines]")
+    if seen:
+        yield "in a browser it shows what failed", all(it in seen[0] for it in ["2 failed", "1 aborted", "1 passed", "wanted &lt;sum&gt; 7, got:"])
+        yield "its tests are filtered, folded and pointed at", seen[1] == "1 of 4 tests; 3; 1 of 4 tests; 3; 4 tests; true; false; true; lane 0; lane 0; none; true"
+        yield "without an error", not seen[2]
 
 
 def told(part):
@@ -225,12 +274,12 @@ def told(part):
 def main(program, _words):
     is_trial, parts = pathlib.Path(program).name == "trial_engine", []
     if not is_trial:
-        parts.append(of_plans(program))
+        parts += [of_plans(program), of_locks(program), of_many(program)]
     if is_trial or pathlib.Path(program) == TOP / "crates/extrun/out/extrun":
         trial = program if is_trial else PROVED
         parts += [of_all(trial), of_waits(trial), of_attempts(trial), of_course(trial), in_browser(trial)]
     passed = failed = 0
     for case, is_right in itertools.chain.from_iterable(map(told, parts)):
-        passed, failed = passed + is_right, failed + (not is_right)
+        passed, failed = passed + bool(is_right), failed + (not is_right)
         print(f"page, {case}: " + ("as it has to be" if is_right else "NOT as it has to be"), flush=True)
     return passed, failed

@@ -38,6 +38,7 @@ PLAN = (
     + '[[node]]\nid = "[engine:x]/[test:c]"\ntest = ["abort later"]\n'
     + '[[node]]\nid = "[engine:x]/[class:D]"\nbefore_all = [["fail \\u001b[2J\\tand\\nthen\\u009b\\u202e"]]\n'
     + '[[node]]\nid = "[engine:x]/[class:D]/[test:\\u0007d]"\ntest = []\n'
+    + '[[node]]\nid = "[engine:x]/[class:E]"\nbefore_all = [["abort now"]]\n'
 )
 
 LINES = [
@@ -47,6 +48,7 @@ LINES = [
     ("[engine:x]/[test:c]", "aborted", ": later"),
     ("[engine:x]/[class:D]", "failed", ": \\u{1b}[2J\\tand\\nthen\\u{9b}\\u{202e}"),
     ("[engine:x]/[class:D]/[test:\\u{7}d]", "skipped", ""),
+    ("[engine:x]/[class:E]", "aborted", ": now"),
 ]
 
 COLORS = {"successful": "32", "aborted": "33", "failed": "31", "skipped": "2"}  # in the order of the totals
@@ -99,7 +101,7 @@ def for_people(colored):
         return "".join(f"{id} {shown(status)}{rest}\n" for id, status, rest in rows)
 
     faults = [row for row in LINES if row[1] in ("failed", "aborted")]
-    totals = "tests 4" + "".join(f" {shown(status)} 1" for status in COLORS) + f"\ncontainers {shown('failed')} 1\n"
+    totals = "tests 4" + "".join(f" {shown(status)} 1" for status in COLORS) + f"\ncontainers {shown('aborted')} 1 {shown('failed')} 1\n"
     return lines(row for row in LINES if row not in faults) + "\n" + lines(faults) + "\n" + totals
 
 
@@ -251,7 +253,7 @@ def durations(program):
     found = ran(program, ["run", "--durations"], REFUSED, set())
     yield "run --durations of a refused plan", found == (2, "", LINE + WHY), repr(found)
     # Beside JSON it is JSON or nothing.
-    for plan, faults in (PLAN, 3), (FULL, 1):
+    for plan, faults in (PLAN, 4), (FULL, 1):
         words = ["run", "--store", "plain", "--report", "json"]
         status, report, errors = ran(program, [*words, "--durations", "--failures"], plan, set())
         right = status == 1 and errors.count('{"id":') == len(errors.splitlines()) == faults

@@ -1,20 +1,25 @@
 //! A listener to a run while it lasts.
 
-use crate::{FaultOrigin, NodeResult};
+use crate::{Call, FaultOrigin, NodeResult};
 use ext_model::{ContextNo, Fault};
 
 /// A listener to the progress of a run of nodes.
 ///
 /// It is called from the threads that run the nodes, from several of them at once if nodes run
 /// beside one another, and holds up the calling thread until it returns. What it does has no effect
-/// on the results. The calls for one node come in this order: it starts, each of its faults, it has
-/// ended. JUnit Platform, Javadoc `EngineExecutionListener`; that nothing else is reported is an
-/// own rule.
+/// on the results. For one node it is told in this order: it starts, each of its calls and the fault
+/// of that, the faults of its close, it has ended. JUnit Platform, Javadoc
+/// `EngineExecutionListener`; that it is told of calls, and of nothing else, is an own rule.
 pub trait RunListener {
     /// The node starts: none of its calls was made yet. A test that names locks waits for them
     /// after that. `lane` is the number, from 0, of the lane that runs it: 0 if the run has one
     /// thread. Called once for each node that is not skipped. Javadoc `executionStarted`.
     fn started(&self, _node: ContextNo, _lane: usize) {}
+
+    /// A call of the node begins: a test has its locks. It is told by the thread that makes the call,
+    /// on the lane on which the node started, once for each call that is made, before what it does.
+    /// An own rule.
+    fn called(&self, _node: ContextNo, _call: &Call) {}
 
     /// A call of the node failed or was aborted with this fault, or a value of its context could
     /// not be closed: `origin` tells which. Called once for each, in the order in which they came:

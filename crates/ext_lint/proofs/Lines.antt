@@ -1,14 +1,17 @@
 -- The lines of some notes.
-use Rattle.std.proofs.Common.{◌≡◌, ◌≤◌, ◌<◌, ◌∙◌, ℕ, List, [], ◌∷◌, ◌++◌, Option, ap, append-nil, arith, false, length, map, nat_lt, refl, sym, take, true}
-use Rattle.std.specs.Prelude.{codes, if◌then◌else◌}
+use Rattle.std.proofs.Common.{◌≡◌, ◌≤◌, ◌<◌, ◌∙◌, ℕ, List, [], ◌∷◌, ◌++◌, Option, ap, append-nil, arith, false, inl, inr, length, map, nat_lt, refl, sym, take, true}
+use Rattle.std.specs.Prelude.{codes, if◌then◌else◌, min}
 use Rattle.std.specs.List.{flat_map}
+use Rattle.std.proofs.lemmas.Bool.{cases_Bool}
 use Rattle.std.proofs.lemmas.Grind.{common_steps}
 use Rattle.std.proofs.lemmas.List.{length-map, take-map, take_all}
 use Rattle.ext_plan_reading.specs.Nearest.{nearest}
 use Rattle.ext_races.specs.RaceLines.{line_limit}
 use Rattle.ext_lint.specs.InnerLists.{note_view}
 use Rattle.ext_lint.specs.NoteLines.{hint, missing_words}
-use Rattle.ext_lint.specs.Notes.{NoteText}
+use Rattle.ext_plan.specs.Plans.{PlanText}
+use Rattle.ext_lint.specs.NoteJson.{note_object, notes_json, notes_object}
+use Rattle.ext_lint.specs.Notes.{NoteText, crowded, notes}
 use Rattle.ext_lint.specs.Said.{SaidText}
 use Rattle.ext_lint.specs.declared.note.Note.{Note}
 
@@ -37,6 +40,23 @@ first_alone line notes few =
     ap (flat_map line) (sym (take_all line_limit (map note_view notes) all)) ∙ sym (append-nil (flat_map line (take line_limit (map note_view notes))))
     ∙ ap (λ end. flat_map line (take line_limit (map note_view notes)) ++ end) (sym (none_shown (length (map note_view notes)) all))
 
+taken : {X : Type 0} (ys : List X) (count : ℕ) → count ≡ min (length ys) line_limit → take count ys ≡ take line_limit ys
+taken ys count is = elim (cases_Bool (nat_lt line_limit (length ys))) [
+  | inl many ↦
+      let more : line_limit < length ys = grind (arith, common_steps, many) in
+      let same : count ≡ line_limit = omega (arith, is, more) in
+      ap (λ n. take n ys) same
+  | inr few ↦
+      let less : length ys ≤ line_limit = grind (arith, common_steps, few) in
+      let whole : length ys ≤ count = omega (arith, is, less) in
+      take_all count ys whole ∙ sym (take_all line_limit ys less)
+]
+
+pub first_taken : (notes : List Note) (count : ℕ) → count ≡ min (length notes) line_limit → map note_view (take count notes) ≡ take line_limit (map note_view notes)
+first_taken notes count is =
+    let same = length-map notes note_view in
+    sym (take-map note_view count notes) ∙ taken (map note_view notes) count (omega (arith, is, same))
+
 -- ---- why a text is missing
 
 pub why_no_key : (s : SaidText) (texts names : List (List ℕ)) (near : Option (List ℕ)) → length texts ≡ 0 → near ≡ nearest names s.name
@@ -48,3 +68,11 @@ pub why_no_text : (s : SaidText) (texts names : List (List ℕ)) (near : Option 
     → codes "no step stores " ++ s.text ++ codes " under " ++ s.name ++ hint near ≡ missing_words s texts names
 why_no_text s [] names near some is = absurd (some refl)
 why_no_text s (text ∷ texts) names near some is = ap (λ n. codes "no step stores " ++ s.text ++ codes " under " ++ s.name ++ hint n) is
+
+-- ---- the only note
+
+-- the object of a plan whose steps name too many keys, whatever they store
+pub crowded_json : (plan : PlanText) (stored : List SaidText) → notes plan ≡ crowded ∷ [] → (bytes : List ℕ) → bytes ≡ notes_json plan [] (crowded ∷ [])
+    → bytes ≡ notes_json plan stored (notes plan)
+unfolding notes_object note_object
+crowded_json plan stored alone bytes is = is ∙ ap (notes_json plan stored) (sym alone)

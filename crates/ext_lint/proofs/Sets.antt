@@ -1,6 +1,6 @@
 -- Sets with one element more, and what is said so far.
-use Rattle.std.proofs.Common.{◌≡◌, ◌+◌, ◌<◌, ℕ, zero, suc, Bool, true, false, cond, List, [], ◌∷◌, ◌∙◌, Bor, ap, arith, drop, get_or, length, map, refl, sym}
-use Rattle.std.specs.Prelude.{◌==◌, ◌&&◌, ◌||◌}
+use Rattle.std.proofs.Common.{◌≡◌, ◌+◌, ◌<◌, ℕ, zero, suc, Bool, true, false, cond, List, [], ◌∷◌, ◌∙◌, Bor, Option, Some, None, is_some, ap, arith, drop, get_or, length, map, refl, sym}
+use Rattle.std.specs.Prelude.{◌==◌, ◌&&◌, ◌||◌, if◌then◌else◌}
 use Rattle.std.specs.BTreeSet.{BTreeSet, UpdatesBy}
 use Rattle.std.specs.Cmp.{tied_then}
 use Rattle.std.specs.Cmp.Lexicographic.{slice_cmp}
@@ -11,11 +11,12 @@ use Rattle.std.proofs.lemmas.Grind.{common_steps}
 use Rattle.std.proofs.lemmas.List.{map-id}
 use Rattle.std.proofs.lemmas.List.Folds.{list_any-append}
 use Rattle.std.proofs.lemmas.Map.Text.{is_eq-slice_cmp}
-use Rattle.ext_plan.specs.Plans.{node_view, nodes_view}
+use Rattle.ext_plan.specs.Plans.{NodeText, node_view, nodes_view}
 use Rattle.ext_plan.specs.declared.plan.PlanNode.{PlanNode}
 use Rattle.ext_plan.proofs.Lists.{map-drop}
 use Rattle.ext_tree.specs.Trees.{Id}
-use Rattle.ext_lint.specs.InnerLists.{has, has_node, said_view}
+use Rattle.ext_lint.specs.InnerLists.{has, has_node, has_pair, said_view}
+use Rattle.ext_lint.specs.Heights.{first_numbered}
 use Rattle.ext_lint.specs.Live.{is_among, path_of_test}
 use Rattle.ext_lint.specs.NodeSteps.{numbered}
 use Rattle.ext_lint.specs.Said.{is_said}
@@ -96,3 +97,57 @@ tests_more ids all old new nodes i one node less read adds before =
     before ∙ ap (λ ns. has_node old node || is_among (numbered (path_of_test ids) i ns) node) (map-drop node_view nodes i one less read)
     ∙ ap (λ b. has_node old node || b) (list_any-append (λ other. other == node) path (numbered (path_of_test ids) (i + 1) (nodes_view (drop (i + 1) nodes))))
     ∙ or_swap (is_among path node) (has_node old node) rest ∙ ap (λ h. h || rest) (sym adds)
+
+-- ---- nodes with depths
+
+abbrev pub numbers_cmp : ℕ × ℕ → ℕ × ℕ → Ordering
+numbers_cmp x y = ordering_then (nat_cmp x.0 y.0) (nat_cmp x.1 y.1)
+
+-- a node with a depth more
+pub added_pair : (old new : BTreeSet (ℕ × ℕ)) (node depth : ℕ) → UpdatesBy numbers_cmp (numbers_cmp (node, depth)) old new true
+    → (other of : ℕ) → has_pair new other of ≡ ((node == other) && (depth == of) || has_pair old other of)
+added_pair old new node depth updates other of =
+    let both : is_eq (ordering_then (nat_cmp node other) (nat_cmp depth of)) ≡ ((node == other) && (depth == of))
+    = sym (tied_then (nat_cmp node other) (nat_cmp depth of)) ∙ ap (λ b. b && is_eq (nat_cmp depth of)) (same_number node other) ∙ ap (λ b. (node == other) && b) (same_number depth of) in
+    updates.0 (other, of) ∙ ap (λ b. cond b true (has_pair old other of)) both ∙ or_at ((node == other) && (depth == of)) (has_pair old other of)
+
+with_turn : (a r d h : Bool) → ((a || r) && d || h) ≡ (r && d || (a && d || h))
+with_turn true true true h = refl
+with_turn true true false h = refl
+with_turn true false true h = refl
+with_turn true false false h = refl
+with_turn false true d h = refl
+with_turn false false d h = refl
+
+-- the nodes of a list with one depth, from one on
+pub pairs_more : (start old new : BTreeSet (ℕ × ℕ)) (nodes : List ℕ) (depth i : ℕ) → i < length nodes
+    → ((other of : ℕ) → has_pair new other of ≡ ((get_or nodes i 0 == other) && (depth == of) || has_pair old other of))
+    → ((node of : ℕ) → (is_among nodes node && (depth == of) || has_pair start node of) ≡ (is_among (drop i nodes) node && (depth == of) || has_pair old node of))
+    → (node of : ℕ) → (is_among nodes node && (depth == of) || has_pair start node of) ≡ (is_among (drop (i + 1) nodes) node && (depth == of) || has_pair new node of)
+pairs_more start old new nodes depth i less adds before node of =
+    before node of ∙ ap (λ xs. is_among xs node && (depth == of) || has_pair old node of) (drop_at nodes i 0 less)
+    ∙ with_turn (get_or nodes i 0 == node) (is_among (drop (i + 1) nodes) node) (depth == of) (has_pair old node of)
+    ∙ ap (λ h. is_among (drop (i + 1) nodes) node && (depth == of) || h) (sym (adds node of))
+
+-- ---- the first that passes
+
+some_if : (b : Bool) (n : ℕ) (rest : Option ℕ) → is_some (if b then Some n else rest) ≡ (b || is_some rest)
+some_if true n rest = refl
+some_if false n rest = refl
+
+-- one is there, from one node on
+pub first_more : (passes : ℕ → NodeText → Bool) (all old new : Bool) (nodes : List PlanNode) (i : ℕ) (one : PlanNode) → i < length nodes → one ≡ get_or nodes i one
+    → new ≡ (passes i (node_view one) || old)
+    → all ≡ (old || is_some (first_numbered passes i (nodes_view (drop i nodes))))
+    → all ≡ (new || is_some (first_numbered passes (i + 1) (nodes_view (drop (i + 1) nodes))))
+first_more passes all old new nodes i one less read adds before =
+    let rest = first_numbered passes (i + 1) (nodes_view (drop (i + 1) nodes)) in
+    before ∙ ap (λ ns. old || is_some (first_numbered passes i ns)) (map-drop node_view nodes i one less read)
+    ∙ ap (λ b. old || b) (some_if (passes i (node_view one)) i rest)
+    ∙ or_swap (passes i (node_view one)) old (is_some rest) ∙ ap (λ h. h || is_some rest) (sym adds)
+
+-- the first of the nodes from one on, where that one does not pass
+pub first_passed : (passes : ℕ → NodeText → Bool) (first : Option ℕ) (nodes : List PlanNode) (i : ℕ) (one : PlanNode) → i < length nodes → one ≡ get_or nodes i one
+    → first ≡ first_numbered passes i (nodes_view (drop i nodes))
+    → first ≡ (if passes i (node_view one) then Some i else first_numbered passes (i + 1) (nodes_view (drop (i + 1) nodes)))
+first_passed passes first nodes i one less read before = before ∙ ap (first_numbered passes i) (map-drop node_view nodes i one less read)

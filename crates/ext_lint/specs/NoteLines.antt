@@ -5,25 +5,30 @@
 --     [engine:x]/[test:a]: step 1 of its test, want server upp: no step stores upp under server: did you mean up?
 --     [engine:x]/[test:a]: step 2 of its test, none srever: no step stores srever: did you mean server?
 --     [engine:x]: before_each 0: no test is below
+--     [engine:x]: step 0 of its before_each 1: up 1 is [engine:x] for [engine:x]/[test:a], and [engine:x]/[class:A] for [engine:x]/[class:A]/[test:b]
 --     [engine:x]: after_each 0: it has no steps
 --     the plan: it has no test
+--     [engine:x]/[test:c]: its mode is concurrent, and that of no node beside it
 --     key disk: no step names it
 --     the steps name more than 64 keys
 --     lock db: one test alone takes it
 --
 -- Node, call and step are written as in the explanation of a refused step. Texts are bytes and stand as they are.
-use Rattle.std.specs.Prelude.{ℕ, ◌==◌, codes, Bool, not, List, [], ◌∷◌, ◌++◌, length, nat_lt, map, filter, take, Option, Some, None, if◌then◌else◌}
+use Rattle.std.specs.Prelude.{ℕ, ◌==◌, codes, Bool, not, List, [], ◌∷◌, ◌++◌, length, nat_le, nat_lt, map, filter, take, Option, Some, None, slice_get, if◌then◌else◌}
 use Rattle.std.specs.Fmt.{decimal}
 use Rattle.std.specs.List.{flat_map}
 use Rattle.ext_lifecycle.specs.declared.call.Call.{Call}
 use Rattle.ext_lifecycle.specs.declared.call.Kind.{Kind}
 use Rattle.ext_lifecycle.specs.declared.call.Kind.TheVariants as kinds
 use Rattle.ext_plan.specs.Plans.{PlanText}
+use Rattle.ext_plan.specs.ReadPlans.{ids_of_nodes}
+use Rattle.ext_plan.specs.Steps.{height}
 use Rattle.ext_plan.specs.StepWords.{word_text}
 use Rattle.ext_plan_reading.specs.Nearest.{nearest}
-use Rattle.ext_races.specs.RaceLines.{found_text, id_of_node, line_limit}
-use Rattle.ext_races.specs.declared.found.Found.TheVariants as found
-use Rattle.ext_lint.specs.Notes.{NoteText, idle, missing, empty, unnamed, crowded, lone, notes, stored_by, untested}
+use Rattle.ext_races.specs.MadeSteps.{path_of}
+use Rattle.ext_races.specs.RaceLines.{id_of_node, line_limit}
+use Rattle.ext_lint.specs.Heights.{first_test, reach}
+use Rattle.ext_lint.specs.Notes.{NoteText, idle, missing, uneven, empty, untested, solitary, unnamed, crowded, lone, notes, stored_by}
 use Rattle.ext_lint.specs.NodeSteps.{NodeStepText, call_at, node_steps}
 use Rattle.ext_lint.specs.Said.{SaidText, wants}
 
@@ -55,29 +60,61 @@ missing_words s (text ∷ texts) names =
     codes "no step stores " ++ s.text ++ codes " under " ++ s.name ++ hint (nearest (text ∷ texts) s.text)
 
 module _ (plan : PlanText) where
+  abbrev pub path_in_plan : ℕ → List ℕ
+  path_in_plan node = path_of (ids_of_nodes plan.nodes) node
+
+  abbrev pub id_if_there : Option ℕ → List ℕ
+  id_if_there None = []
+  id_if_there (Some node) = id_of_node plan node
+
+  -- The context that stands so much higher than the test, and the test.
+  abbrev pub context_words : ℕ → ℕ → List ℕ
+  context_words up test = id_if_there (slice_get (path_in_plan test) up) ++ codes " for " ++ id_of_node plan test
+
+  -- On which context a step acts for these two tests.
+  abbrev pub both_words : ℕ → ℕ → Option ℕ → List ℕ
+  both_words up near None = []
+  both_words up near (Some other) = context_words up near ++ codes ", and " ++ context_words up other
+
+  -- The same for a test and the first one at or below the node at another depth.
+  abbrev pub others_words : ℕ → ℕ → Option ℕ → List ℕ
+  others_words node up None = []
+  others_words node up (Some near) =
+      both_words up near (first_test plan node (λ depth. not (depth == length (path_in_plan near))))
+
   unfoldable pub node_step_words : NodeStepText → List ℕ
   node_step_words p =
       id_of_node plan p.node ++ codes ": step " ++ decimal p.at ++ codes " of its " ++ call_words p.kind p.index
 
-  unfoldable pub missing_line : List SaidText → NodeStepText → SaidText → List ℕ
-  missing_line stored p s =
+  unfoldable pub missing_note : List SaidText → NodeStepText → SaidText → List ℕ
+  missing_note stored p s =
       node_step_words p ++ codes ", " ++ asked_words s ++ codes ": "
-      ++ missing_words s (texts_of s.key stored) (map (λ other. other.name) stored) ++ codes "\n"
+      ++ missing_words s (texts_of s.key stored) (map (λ other. other.name) stored)
 
-  -- The line of a callback that ends in these words.
-  unfoldable pub callback_line : Call → List ℕ → List ℕ
-  callback_line call end =
-      id_of_node plan call.from ++ codes ": " ++ call_words call.kind call.index ++ codes ": " ++ end ++ codes "\n"
+  unfoldable pub uneven_note : NodeStepText → List ℕ
+  uneven_note p =
+      node_step_words p ++ codes ": up " ++ decimal (height p.step) ++ codes " is "
+      ++ others_words p.node (height p.step) (first_test plan p.node (λ depth. nat_le depth (reach plan p)))
 
-  -- The line of a note, where these are stored.
+  -- What is noted of a callback, with these words at its end.
+  unfoldable pub callback_note : Call → List ℕ → List ℕ
+  callback_note call end = id_of_node plan call.from ++ codes ": " ++ call_words call.kind call.index ++ codes ": " ++ end
+
+  -- What is noted, where these are stored.
+  abbrev pub note_words : List SaidText → NoteText → List ℕ
+  note_words stored (idle p) = callback_note (call_at p) (codes "no test is below")
+  note_words stored (missing p s) = missing_note stored p s
+  note_words stored (uneven p) = uneven_note p
+  note_words stored (empty call) = callback_note call (codes "it has no steps")
+  note_words stored untested = codes "the plan: it has no test"
+  note_words stored (solitary node) = id_of_node plan node ++ codes ": its mode is concurrent, and that of no node beside it"
+  note_words stored (unnamed label) = codes "key " ++ label ++ codes ": no step names it"
+  note_words stored crowded = codes "the steps name more than " ++ decimal plan.key_places ++ codes " keys"
+  note_words stored (lone name) = codes "lock " ++ name ++ codes ": one test alone takes it"
+
+  -- The line of a note.
   abbrev pub note_line : List SaidText → NoteText → List ℕ
-  note_line stored (idle p) = callback_line (call_at p) (codes "no test is below")
-  note_line stored (missing p s) = missing_line stored p s
-  note_line stored (empty call) = callback_line call (codes "it has no steps")
-  note_line stored untested = codes "the plan: it has no test\n"
-  note_line stored (unnamed label) = codes "key " ++ label ++ codes ": no step names it\n"
-  note_line stored crowded = found_text plan found.TooManyKeys
-  note_line stored (lone name) = codes "lock " ++ name ++ codes ": one test alone takes it\n"
+  note_line stored note = note_words stored note ++ codes "\n"
 
   -- The lines of the first notes, and whether there are more.
   abbrev pub note_lines : List SaidText → List NoteText → List ℕ

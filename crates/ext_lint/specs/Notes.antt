@@ -6,10 +6,14 @@ use Rattle.ext_lifecycle.specs.declared.call.Call.{Call}
 use Rattle.ext_lifecycle.specs.declared.call.Kind.{Kind}
 use Rattle.ext_lifecycle.specs.declared.call.Kind.TheVariants as kinds
 use Rattle.ext_tree.specs.Keys.{KeyValue}
+use Rattle.ext_tree.specs.Trees.{children_of}
 use Rattle.ext_plan.specs.Plans.{KeyText, NodeText, PlanText, StepText}
 use Rattle.ext_plan.specs.LockNames.{lock_name, lock_names}
+use Rattle.ext_plan.specs.PlanCalls.{concurrent_of}
+use Rattle.ext_plan.specs.ReadPlans.{ids_of_nodes}
 use Rattle.ext_plan.specs.StoreKeys.{is_there, named_key}
 use Rattle.ext_plan_reading.specs.Nearest.{nearest}
+use Rattle.ext_lint.specs.Heights.{is_uneven}
 use Rattle.ext_lint.specs.Live.{has_test}
 use Rattle.ext_lint.specs.NodeSteps.{NodeStepText, numbered, node_steps}
 use Rattle.ext_lint.specs.Said.{SaidText, asks, is_key_said, is_said, keys_said, said_by, said_of, stores, wants}
@@ -20,10 +24,15 @@ pub data NoteText : Type 0 where
   -- This step wants a text that no step of the plan stores under its key; or it is a `none` or `remove` of a key under
   -- which no step stores, and steps store under one with a near name.
   missing : NodeStepText → SaidText → NoteText
+  -- This step acts on its callback's node or a node above it for some tests at or below the node, and other tests there
+  -- stand at another depth.
+  uneven : NodeStepText → NoteText
   -- This callback or test has no steps.
   empty : Call → NoteText
   -- The plan has no test.
   untested : NoteText
+  -- This node is concurrent, and neither another child of its parent nor one of its own is.
+  solitary : ℕ → NoteText
   -- No step names the key with this label.
   unnamed : List ℕ → NoteText
   -- The steps name more keys than there are places.
@@ -72,6 +81,12 @@ module _ (plan : PlanText) where
   abbrev pub step_notes : List NoteText
   step_notes = numbered notes_at 0 (node_steps plan)
 
+  abbrev pub uneven_if : NodeStepText → List NoteText
+  uneven_if p = if is_uneven plan p then uneven p ∷ [] else []
+
+  abbrev pub uneven_notes : List NoteText
+  uneven_notes = flat_map uneven_if (node_steps plan)
+
 -- ---- of callbacks and tests without steps
 
 abbrev pub empty_if : Call → List StepText → List NoteText
@@ -101,6 +116,27 @@ callback_notes plan = numbered empty_of_node 0 plan.nodes
 
 abbrev pub test_notes : List NodeText → List NoteText
 test_notes nodes = if list_any (λ node. is_some node.test) nodes then [] else untested ∷ []
+
+-- ---- of modes
+
+module _ (plan : PlanText) where
+  -- The node is concurrent, and none of its children is.
+  abbrev pub is_solitary : ℕ → Bool
+  is_solitary node = concurrent_of plan node && not (list_any (concurrent_of plan) (children_of (ids_of_nodes plan.nodes) node))
+
+  abbrev pub solitary_if : ℕ → List NoteText
+  solitary_if node = if is_solitary node then solitary node ∷ [] else []
+
+  -- Of nodes with one parent, where one of them is concurrent.
+  abbrev pub sibling_notes : List ℕ → List NoteText
+  sibling_notes siblings = if count_by (concurrent_of plan) siblings == 1 then flat_map solitary_if siblings else []
+
+  abbrev pub child_notes : ℕ → NodeText → List NoteText
+  child_notes number node = sibling_notes (children_of (ids_of_nodes plan.nodes) number)
+
+  -- Of the root, and of the children of each node.
+  abbrev pub mode_notes : List NoteText
+  mode_notes = sibling_notes (0 ∷ []) ++ numbered child_notes 0 plan.nodes
 
 -- ---- of keys and locks
 
@@ -132,5 +168,5 @@ lock_notes nodes = flat_map (lock_note nodes) (lock_names nodes)
 -- More keys than a plan can have places for are the only note.
 abbrev pub notes : PlanText → List NoteText
 notes plan = if nat_lt 1024 (length (keys_said plan)) then crowded ∷ []
-    else step_notes plan ++ callback_notes plan ++ test_notes plan.nodes ++ key_notes (keys_said plan) plan.keys
-    ++ crowd_notes plan.key_places (keys_said plan) ++ lock_notes plan.nodes
+    else step_notes plan ++ uneven_notes plan ++ callback_notes plan ++ test_notes plan.nodes ++ mode_notes plan
+    ++ key_notes (keys_said plan) plan.keys ++ crowd_notes plan.key_places (keys_said plan) ++ lock_notes plan.nodes

@@ -43,7 +43,7 @@ fn add_test(
 }
 
 /// The path of the node with this number.
-fn path_of(tree: &Tree, number: ContextNo) -> &[ContextNo]
+pub(crate) fn path_of(tree: &Tree, number: ContextNo) -> &[ContextNo]
     requires { number < length tree.now }
     ensures { result.now ≡ path_of tree.now number }
 {

@@ -3,11 +3,12 @@ ghost use Rattle.std.specs.Prelude.{◌≡◌, ◌++◌, [], codes, length, map,
 ghost use Rattle.std.specs.Fmt.{decimal};
 ghost use Rattle.std.specs.List.{flat_map};
 ghost use Rattle.ext_plan.specs.Plans.{plan_view};
-ghost use Rattle.ext_races.specs.RaceLines.{found_text, id_of_node, line_limit};
+ghost use Rattle.ext_races.specs.RaceLines.{id_of_node, line_limit};
 ghost use Rattle.ext_lint.specs.InnerLists.{note_view, said_view};
-ghost use Rattle.ext_lint.specs.NoteLines.{asked_words, call_words, callback_line, hint, missing_line, missing_words, note_line, note_lines, node_step_words, texts_of};
+ghost use Rattle.ext_lint.specs.NoteLines.{asked_words, call_words, callback_note, hint, missing_note, missing_words, note_line, note_lines, note_words, node_step_words, texts_of};
 ghost use Rattle.ext_lint.specs.NodeSteps.{node_step_view};
 
+use crate::height_text::push_uneven;
 use crate::node_step::NodeStep;
 use crate::note::Note;
 use crate::said::{Said, wants};
@@ -15,11 +16,10 @@ use ext_lifecycle::{Call, Kind};
 use ext_model::{ContextNo, KeyNo};
 use ext_plan::Plan;
 use ext_plan_reading::nearest;
-use ext_races::{Found, races_text};
 use std::alloc::{AllocError, Global};
 
 /// How many notes the text lists.
-const LINES: usize = 20;
+pub(crate) const LINES: usize = 20;
 
 /// The lines of these notes, where steps store what is in `stored`.
 pub(crate) fn text_of(
@@ -81,15 +81,39 @@ fn push_note(
 ) -> Result<(), AllocError>
     ensures { OnOk result (string_bytes text.new ≡ string_bytes text.old ++ note_line (plan_view plan.now) (map said_view stored.now) (note_view note.now)) }
 {
+    push_words(alloc, text, plan, stored, note)?;
+    text.push_str("\n")
+}
+
+/// Adds what a note says.
+pub(crate) fn push_words(
+    alloc: Global,
+    text: &mut String,
+    plan: &Plan,
+    stored: &[Said<'_>],
+    note: &Note<'_>,
+) -> Result<(), AllocError>
+    ensures { OnOk result (string_bytes text.new ≡ string_bytes text.old ++ note_words (plan_view plan.now) (map said_view stored.now) (note_view note.now)) }
+{
     match note {
         Note::Idle(node_step) => push_callback(text, plan, node_step.call(), "no test is below"),
         Note::Missing(node_step, said) => push_missing(alloc, text, plan, stored, node_step, said),
+        Note::Uneven(node_step) => push_uneven(text, plan, node_step),
         Note::Empty(call) => push_callback(text, plan, *call, "it has no steps"),
-        Note::Untested => text.push_str("the plan: it has no test\n"),
-        Note::Unnamed(label) => push_named(text, "key ", label, ": no step names it\n"),
-        Note::Crowded => push_crowded(alloc, text, plan),
-        Note::Lone(name) => push_named(text, "lock ", name, ": one test alone takes it\n"),
+        Note::Untested => text.push_str("the plan: it has no test"),
+        Note::Solitary(node) => push_solitary(text, plan, *node),
+        Note::Unnamed(label) => push_named(text, "key ", label, ": no step names it"),
+        Note::Crowded => push_crowded(text, plan.key_places),
+        Note::Lone(name) => push_named(text, "lock ", name, ": one test alone takes it"),
     }
+}
+
+/// Adds that a node is concurrent, and no node beside it.
+fn push_solitary(text: &mut String, plan: &Plan, node: ContextNo) -> Result<(), AllocError>
+    ensures { OnOk result (string_bytes text.new ≡ string_bytes text.old ++ (id_of_node (plan_view plan.now) node ++ codes ": its mode is concurrent, and that of no node beside it")) }
+{
+    push_id(text, plan, node)?;
+    text.push_str(": its mode is concurrent, and that of no node beside it")
 }
 
 /// Adds a name between two texts.
@@ -101,25 +125,25 @@ fn push_named(text: &mut String, before: &str, name: &str, after: &str) -> Resul
     text.push_str(after)
 }
 
-/// Adds the line that tells how many keys there are places for.
-fn push_crowded(alloc: Global, text: &mut String, plan: &Plan) -> Result<(), AllocError>
-    ensures { OnOk result (string_bytes text.new ≡ string_bytes text.old ++ found_text (plan_view plan.now) Found.TooManyKeys) }
+/// Adds that the steps name more keys than there are places for.
+fn push_crowded(text: &mut String, places: usize) -> Result<(), AllocError>
+    ensures { OnOk result (string_bytes text.new ≡ string_bytes text.old ++ (codes "the steps name more than " ++ decimal places ++ codes " keys")) }
 {
-    let line = races_text(alloc, plan, &Found::TooManyKeys)?;
-    text.push_str(line.as_str())
+    write!(text, "the steps name more than {places} keys")
 }
 
-/// Adds the line of a callback that ends in these words.
+/// Adds what is noted of a callback, with these words at the end.
 fn push_callback(text: &mut String, plan: &Plan, call: Call, end: &str) -> Result<(), AllocError>
-    ensures { OnOk result (string_bytes text.new ≡ string_bytes text.old ++ callback_line (plan_view plan.now) call end.now) }
+    ensures { OnOk result (string_bytes text.new ≡ string_bytes text.old ++ callback_note (plan_view plan.now) call end.now) }
 {
     push_id(text, plan, call.from)?;
     text.push_str(": ")?;
     push_call(text, call.kind, call.index)?;
-    push_named(text, ": ", end, "\n")
+    text.push_str(": ")?;
+    text.push_str(end)
 }
 
-/// Adds the line of a step that asks for what no step stores.
+/// Adds that a step asks for what no step stores.
 fn push_missing(
     alloc: Global,
     text: &mut String,
@@ -128,14 +152,13 @@ fn push_missing(
     node_step: &NodeStep<'_>,
     said: &Said<'_>,
 ) -> Result<(), AllocError>
-    ensures { OnOk result (string_bytes text.new ≡ string_bytes text.old ++ missing_line (plan_view plan.now) (map said_view stored.now) (node_step_view node_step.now) (said_view said.now)) }
+    ensures { OnOk result (string_bytes text.new ≡ string_bytes text.old ++ missing_note (plan_view plan.now) (map said_view stored.now) (node_step_view node_step.now) (said_view said.now)) }
 {
     push_node_step(text, plan, node_step)?;
     text.push_str(", ")?;
     push_asked(text, said)?;
     text.push_str(": ")?;
-    push_why(alloc, text, stored, said)?;
-    text.push_str("\n")
+    push_why(alloc, text, stored, said)
 }
 
 /// Adds what a step asks for.
@@ -151,7 +174,7 @@ fn push_asked(text: &mut String, said: &Said<'_>) -> Result<(), AllocError>
 }
 
 /// Adds the words for a step of a callback or of a test.
-fn push_node_step(
+pub(crate) fn push_node_step(
     text: &mut String,
     plan: &Plan,
     node_step: &NodeStep<'_>,
@@ -259,7 +282,7 @@ pub(crate) fn names_of<'p>(alloc: Global, stored: &[Said<'p>]) -> Result<Vec<&'p
 }
 
 /// Adds the id of a node.
-fn push_id(text: &mut String, plan: &Plan, node: ContextNo) -> Result<(), AllocError>
+pub(crate) fn push_id(text: &mut String, plan: &Plan, node: ContextNo) -> Result<(), AllocError>
     ensures { OnOk result (string_bytes text.new ≡ string_bytes text.old ++ id_of_node (plan_view plan.now) node) }
 {
     match plan.nodes.get(node) {

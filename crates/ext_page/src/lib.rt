@@ -4,6 +4,7 @@
 
 mod ascii;
 mod data;
+mod holders;
 mod markup;
 mod nodes;
 mod page;
@@ -13,6 +14,7 @@ mod script;
 mod style;
 
 pub use crate::data::data_of;
+pub use crate::holders::{HeldLock, Holders, LEAST_WAIT, NodeLocks, TakenLock};
 pub use crate::nodes::PlacedNodes;
 pub use crate::page::page_of;
 pub use crate::run::{

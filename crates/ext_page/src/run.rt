@@ -49,8 +49,7 @@ pub struct Node {
 pub struct Attempt {
     pub node: usize,
     pub lane: usize,
-    /// When it began. On an engine's page a test held its locks then; on that of a plan it may have
-    /// waited for them first.
+    /// When it began. A test held its locks then.
     pub begun: u64,
     /// When it ended. On an engine's page the node's context was not closed yet; on that of a plan it
     /// was.

@@ -491,10 +491,10 @@ function lookAt(n) {
   }, { passive: false });
   chart.addEventListener('keydown', e => {
     if (e.ctrlKey || e.metaKey || e.altKey) return;
-    const lane = at?.lane ?? 0, list = lanes[lane].bar, t = at ? timesOf(at).a : view.a;
-    const near = l => { for (const list = lanes[l]?.bar; list?.length;) return choose({ kind: 'bar', lane: l, i: list[Math.min(after(list, t), list.length - 1)].i }); };
+    const lane = at?.lane ?? Math.max(0, lanes.findIndex(it => it.bar.length)), list = lanes[lane].bar, t = at ? timesOf(at).a : view.a;
+    const near = by => { let l = lane + by; while (lanes[l] && !lanes[l].bar.length) l += by; const list = lanes[l]?.bar; if (list) choose({ kind: 'bar', lane: l, i: list[Math.min(after(list, t), list.length - 1)].i }); };
     const step = by => { const k = at?.kind === 'bar' ? list.findIndex(it => it.i === at.i) + by : after(list, t); if (list[k]) choose({ kind: 'bar', lane, i: list[k].i }); };
-    const keys = { ArrowRight: () => step(1), ArrowLeft: () => step(-1), ArrowDown: () => near(lane + 1), ArrowUp: () => near(lane - 1), '+': () => zoom(.5, t), '=': () => zoom(.5, t), '-': () => zoom(2, t), 0: () => look(0, WALL),
+    const keys = { ArrowRight: () => step(1), ArrowLeft: () => step(-1), ArrowDown: () => near(1), ArrowUp: () => near(-1), '+': () => zoom(.5, t), '=': () => zoom(.5, t), '-': () => zoom(2, t), 0: () => look(0, WALL),
       Enter: () => { if (at?.kind === 'bar') unfold(D.attempts[at.i][0]); }, Escape: () => point(null) };
     if (keys[e.key]) { e.preventDefault(); keys[e.key](); }
   });

@@ -30,8 +30,9 @@ use std::thread::Threads;
 /// It opens a store with the plan's contexts and locks with its names, and runs the tree of the
 /// nodes over them (`ext_engine::run_tree`), each lane on at most one thread. A key gets its number
 /// when a lane first names it, the same in all lanes. Steps make the store's waiting calls. The
-/// listener is notified when a node starts, with its lane, of each fault of its calls and closes as
-/// it comes, and when the node has ended. Each plan that `ext_plan_reading` has read is runnable.
+/// listener is notified when a node starts, with its lane, of each of its calls, of each fault of
+/// these and of its closes as it comes, and when the node has ended. Each plan that
+/// `ext_plan_reading` has read is runnable.
 ///
 /// Refused as `Memory` if memory for the suite, the locks or the store is refused, before anything
 /// runs, which no clause states; or if the run ended early for want of memory, as `run_tree` says.

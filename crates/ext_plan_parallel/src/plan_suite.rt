@@ -20,7 +20,7 @@ use std::sync::Wait;
 
 /// A plan as a suite for the engine: the nodes are the plan's, in its order, and their calls make
 /// the plan's steps. Contracts see it as the plan. The listener is notified when a node starts, of
-/// each fault of its calls and closes, and when the node has ended.
+/// each of its calls, of each fault of these and of its closes, and when the node has ended.
 #[derive(Drop)]
 pub struct PlanSuite<'a, L> {
     alloc: Global,
@@ -129,8 +129,8 @@ impl<'a, L: RunListener + Sync> Suite<StoredValue<'a>> for PlanSuite<'a, L> {
         self.listener.ended(ran, self.plan.nodes.len());
     }
 
-    /// Makes the steps of the call in the node's context, up to the first that is not successful,
-    /// and reports the fault of that one to the listener.
+    /// Tells the listener that the call begins, makes its steps in the node's context, up to the
+    /// first that is not successful, and reports the fault of that one to the listener.
     fn call<R: Wait>(
         &self,
         rt: &R,
@@ -140,6 +140,7 @@ impl<'a, L: RunListener + Sync> Suite<StoredValue<'a>> for PlanSuite<'a, L> {
         lane: &mut Lane<StoredValue<'a>>,
         _held: Option<&Held>,
     ) -> Outcome {
+        self.listener.called(node, call);
         let plan: &'a Plan = self.plan;
         let names = StepKeys::of(plan.keys.as_slice(), self.keys.as_slice());
         let steps = StoreSteps::of(self.alloc, names);

@@ -5,7 +5,7 @@ use ext_lifecycle::{Call, Caller, FaultOrigin, Outcome, RunListener, tell_fault}
 use ext_model::ContextNo;
 use std::alloc::Global;
 
-/// Makes the calls of one node after another, and reports each of their faults to the listener.
+/// Makes the calls of one node after another, and reports each with its fault to the listener.
 #[derive(Drop)]
 pub(crate) struct NodeCaller<'a, L> {
     pub(crate) alloc: Global,
@@ -41,6 +41,7 @@ impl<L: RunListener> Caller for NodeCaller<'_, L> {
     ghost call_gives = { λ before call outcome after. DoesCall before call outcome after };
 
     fn call(&mut self, call: &Call) -> Outcome {
+        self.listener.called(self.node, call);
         let steps = self.setting.steps_of(call);
         let keys = self.setting.keys;
         let path = self.setting.tree.path(self.node);

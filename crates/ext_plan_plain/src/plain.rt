@@ -39,8 +39,8 @@ pub struct PlainRun {
 }
 
 /// Runs a plan on this thread and returns one result for each node, in the order of the plan.
-/// The listener is notified when a node starts, on lane 0, of each fault of its calls and closes as
-/// it comes, and when the node has ended.
+/// The listener is notified when a node starts, on lane 0, of each of its calls, of each fault of these
+/// and of its closes as it comes, and when the node has ended.
 ///
 /// If the plan keeps faults, the fault of a factory stays in its place until it is removed or
 /// replaced. The steps that meet it report it, and it is never closed. Otherwise the fault comes

@@ -158,38 +158,38 @@ counts_are p rs =
     let skipped = count_kept p (λ r. is_left_out r.status) rs in
     λ i. record { tests = tests i; failures = failures i; skipped = skipped i }
 
-suite_is : (extras : List Extra) (ids : List Id) (k : ℕ) (rs cases : List NodeOutcome) → cases ≡ cases_of ids k rs → suite_with extras ids k cases ≡ suite_element extras ids rs k
-suite_is extras ids k rs cases is =
+suite_is : (extras : List Extra) (earlier : List (List (List ℕ))) (ids : List Id) (k : ℕ) (rs cases : List NodeOutcome) → cases ≡ cases_of ids k rs → suite_with extras earlier ids k cases ≡ suite_element extras earlier ids rs k
+suite_is extras earlier ids k rs cases is =
     let front = codes "  <testsuite name=\"" ++ suite_name (id_at ids k) ++ codes "\"" ++ suite_time extras k in
     let end = codes "  </testsuite>\n" in
     let counts = ap counts_of_cases is ∙ counts_are (stands_in (children_of ids k) k) rs in
-    let tell = case_element extras ids (suite_name (id_at ids k)) in
+    let tell = case_element extras earlier ids (suite_name (id_at ids k)) in
     let told = ap (flat_map tell) is ∙ flat_kept (stands_in (children_of ids k) k) tell rs in
     ap (λ n. front ++ count_attributes n ++ flat_map tell cases ++ end) counts
     ∙ ap (λ l. front ++ count_attributes (counts_where (stands_in (children_of ids k) k) rs) ++ l ++ end) told
 
-suite_if : (extras : List Extra) (ids : List Id) (k : ℕ) (rs cases : List NodeOutcome) → cases ≡ cases_of ids k rs → suite_if_filled extras ids k cases ≡ suite_if_any extras ids rs k
-suite_if extras ids k rs [] is =
+suite_if : (extras : List Extra) (earlier : List (List (List ℕ))) (ids : List Id) (k : ℕ) (rs cases : List NodeOutcome) → cases ≡ cases_of ids k rs → suite_if_filled extras earlier ids k cases ≡ suite_if_any extras earlier ids rs k
+suite_if extras earlier ids k rs [] is =
     let count = length-filter (stands_in (children_of ids k) k) rs in
-    sym (cond-true (count_by (stands_in (children_of ids k) k) rs == 0) [] (suite_element extras ids rs k) (eq-eqb (count_by (stands_in (children_of ids k) k) rs) 0 (sym count ∙ ap length (sym is))))
-suite_if extras ids k rs (case ∷ more) is =
+    sym (cond-true (count_by (stands_in (children_of ids k) k) rs == 0) [] (suite_element extras earlier ids rs k) (eq-eqb (count_by (stands_in (children_of ids k) k) rs) 0 (sym count ∙ ap length (sym is))))
+suite_if extras earlier ids k rs (case ∷ more) is =
     let count = length-filter (stands_in (children_of ids k) k) rs in
     let long = ap length is in
-    suite_is extras ids k rs (case ∷ more) is
-    ∙ sym (cond-false (count_by (stands_in (children_of ids k) k) rs == 0) [] (suite_element extras ids rs k) (ne_eqb (count_by (stands_in (children_of ids k) k) rs) 0 (λ none. omega (arith, count, long, none))))
+    suite_is extras earlier ids k rs (case ∷ more) is
+    ∙ sym (cond-false (count_by (stands_in (children_of ids k) k) rs == 0) [] (suite_element extras earlier ids rs k) (ne_eqb (count_by (stands_in (children_of ids k) k) rs) 0 (λ none. omega (arith, count, long, none))))
 
-pub suite_told : (extras : List Extra) (ids : List Id) (k : ℕ) (rs : List NodeOutcome) (cases : List (Bor NodeResult)) (text more : List ℕ) → cases_view cases ≡ cases_of ids k rs
-    → more ≡ text ++ suite_if_filled extras ids k (cases_view cases) → more ≡ text ++ suite_if_any extras ids rs k
-suite_told extras ids k rs cases text more is told = told ∙ ap (λ l. text ++ l) (suite_if extras ids k rs (cases_view cases) is)
+pub suite_told : (extras : List Extra) (earlier : List (List (List ℕ))) (ids : List Id) (k : ℕ) (rs : List NodeOutcome) (cases : List (Bor NodeResult)) (text more : List ℕ) → cases_view cases ≡ cases_of ids k rs
+    → more ≡ text ++ suite_if_filled extras earlier ids k (cases_view cases) → more ≡ text ++ suite_if_any extras earlier ids rs k
+suite_told extras earlier ids k rs cases text more is told = told ∙ ap (λ l. text ++ l) (suite_if extras earlier ids k rs (cases_view cases) is)
 
-pub none_filled : (extras : List Extra) (ids : List Id) (k : ℕ) (cases : List (Bor NodeResult)) (text : List ℕ) → length cases ≡ 0 → text ≡ text ++ suite_if_filled extras ids k (cases_view cases)
-none_filled extras ids k [] text none = sym (append-nil text)
-none_filled extras ids k (case ∷ more) text none = absurd (omega (arith, none))
+pub none_filled : (extras : List Extra) (earlier : List (List (List ℕ))) (ids : List Id) (k : ℕ) (cases : List (Bor NodeResult)) (text : List ℕ) → length cases ≡ 0 → text ≡ text ++ suite_if_filled extras earlier ids k (cases_view cases)
+none_filled extras earlier ids k [] text none = sym (append-nil text)
+none_filled extras earlier ids k (case ∷ more) text none = absurd (omega (arith, none))
 
-pub some_filled : (extras : List Extra) (ids : List Id) (k : ℕ) (cases : List (Bor NodeResult)) (text more : List ℕ) → (length cases ≡ 0 → ⊥) → more ≡ text ++ suite_with extras ids k (cases_view cases)
-    → more ≡ text ++ suite_if_filled extras ids k (cases_view cases)
-some_filled extras ids k [] text more some told = absurd (some refl)
-some_filled extras ids k (case ∷ others) text more some told = told
+pub some_filled : (extras : List Extra) (earlier : List (List (List ℕ))) (ids : List Id) (k : ℕ) (cases : List (Bor NodeResult)) (text more : List ℕ) → (length cases ≡ 0 → ⊥) → more ≡ text ++ suite_with extras earlier ids k (cases_view cases)
+    → more ≡ text ++ suite_if_filled extras earlier ids k (cases_view cases)
+some_filled extras earlier ids k [] text more some told = absurd (some refl)
+some_filled extras earlier ids k (case ∷ others) text more some told = told
 
 -- the element of one case more
 pub cases_more : (tell : NodeOutcome → List ℕ) (cases : List (Bor NodeResult)) (i : ℕ) (case : Bor NodeResult) → i < length cases → case ≡ get_or cases i case

@@ -5,7 +5,9 @@
 -- A time is told in seconds with three decimals, and in JSON in milliseconds. An attempt is told of a successful node
 -- alone, and from the second on: one that passed at its first attempt is told like one of which nothing is known. JUnit
 -- has neither.
-use Rattle.std.specs.Prelude.{ℕ, ◌/◌, ◌%◌, ◌^◌, codes, List, [], ◌++◌, Option, Some, None, if◌then◌else◌, nat_lt}
+use Rattle.std.specs.Prelude.{ℕ, ◌/◌, ◌%◌, ◌^◌, codes, List, [], ◌++◌, map, Option, Some, None, String, string_bytes, if◌then◌else◌, nat_lt}
+use Rattle.std.specs.Borrow.{Bor}
+use Rattle.std.specs.Global.{Global}
 use Rattle.std.specs.List.{slice_index_or}
 use Rattle.std.specs.Fmt.{decimal}
 use Rattle.std.specs.Duration.{as_nanos}
@@ -19,6 +21,15 @@ nothing_known = record { millis = None; attempt = 0 }
 
 abbrev pub extra_of : List Extra → ℕ → Extra
 extra_of extras node = slice_index_or extras node nothing_known
+
+-- What the attempts of a context before its last said, one after another: of one past the end of the list nothing is
+-- known.
+abbrev pub earlier_of : List (List (List ℕ)) → ℕ → List (List ℕ)
+earlier_of earlier node = slice_index_or earlier node []
+
+-- The texts of these attempts.
+abbrev pub texts_view : List (Bor (List (String Global))) → List (List (List ℕ))
+texts_view earlier = map (λ texts. map string_bytes texts.now) earlier
 
 -- How long a node took in whole milliseconds, if it is known, and they fit 64 bits.
 abbrev pub whole_millis : Option Duration → Option ℕ

@@ -39,13 +39,13 @@ counts_of_cases cases = record {
 }
 
 -- The element of a suite with these cases.
-abbrev pub suite_with : List Extra → List Id → ℕ → List NodeOutcome → List ℕ
-suite_with extras ids suite cases =
+abbrev pub suite_with : List Extra → List (List (List ℕ)) → List Id → ℕ → List NodeOutcome → List ℕ
+suite_with extras earlier ids suite cases =
     codes "  <testsuite name=\"" ++ suite_name (id_at ids suite) ++ codes "\"" ++ suite_time extras suite
-    ++ count_attributes (counts_of_cases cases) ++ flat_map (case_element extras ids (suite_name (id_at ids suite))) cases
+    ++ count_attributes (counts_of_cases cases) ++ flat_map (case_element extras earlier ids (suite_name (id_at ids suite))) cases
     ++ codes "  </testsuite>\n"
 
 -- The same, if it has a case.
-abbrev pub suite_if_filled : List Extra → List Id → ℕ → List NodeOutcome → List ℕ
-suite_if_filled extras ids suite [] = []
-suite_if_filled extras ids suite (first ∷ more) = suite_with extras ids suite (first ∷ more)
+abbrev pub suite_if_filled : List Extra → List (List (List ℕ)) → List Id → ℕ → List NodeOutcome → List ℕ
+suite_if_filled extras earlier ids suite [] = []
+suite_if_filled extras earlier ids suite (first ∷ more) = suite_with extras earlier ids suite (first ∷ more)

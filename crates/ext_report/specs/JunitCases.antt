@@ -1,5 +1,5 @@
 -- A case of a suite in JUnit's XML (`JunitXml`): its names, its time, and how it ended.
-use Rattle.std.specs.Prelude.{ℕ, zero, suc, ◌+◌, ◌-◌, Bool, true, false, ◌==◌, codes, List, [], ◌∷◌, ◌++◌, length, Option, Some, None, if◌then◌else◌}
+use Rattle.std.specs.Prelude.{ℕ, zero, suc, ◌+◌, ◌-◌, Bool, true, false, ◌==◌, codes, List, [], ◌∷◌, ◌++◌, length, Option, Some, None, if◌then◌else◌, slice_get}
 use Rattle.std.specs.List.{before_first, join_by, slice_index_or}
 use Rattle.std.specs.Fmt.{decimal}
 use Rattle.ext_tree.specs.Trees.{Id, id_at}
@@ -7,7 +7,7 @@ use Rattle.ext_lifecycle.specs.declared.status.Status.{Status}
 use Rattle.ext_lifecycle.specs.declared.status.Status.TheVariants as statuses
 use Rattle.ext_lifecycle.specs.FaultTexts.{NodeOutcome}
 use Rattle.ext_report.specs.declared.extra.Extra.{Extra}
-use Rattle.ext_report.specs.Extras.{extra_of, seconds}
+use Rattle.ext_report.specs.Extras.{earlier_of, extra_of, seconds}
 use Rattle.ext_report.specs.Xml.{xml_text}
 
 -- ---- how it ended
@@ -28,20 +28,30 @@ fault_element name kind (Some fault) more =
     codes "<" ++ name ++ kind ++ codes " message=\"" ++ xml_text (first_line fault) ++ codes "\">" ++ xml_text fault
     ++ further_line more ++ codes "</" ++ name ++ codes ">"
 
-abbrev pub flaky_element : ℕ → List ℕ
-flaky_element attempt = codes "<flakyFailure type=\"failed\" message=\"failed at attempt " ++ decimal attempt ++ codes "\"/>"
+-- An attempt that failed and said this.
+abbrev pub said_element : List ℕ → List ℕ
+said_element text =
+    codes "<flakyFailure type=\"failed\" message=\"" ++ xml_text (first_line text) ++ codes "\"><stackTrace>"
+    ++ xml_text text ++ codes "</stackTrace></flakyFailure>"
+
+-- An attempt that failed, with what it said, if that is known.
+abbrev pub flaky_element : ℕ → Option (List ℕ) → List ℕ
+flaky_element attempt None =
+    codes "<flakyFailure type=\"failed\" message=\"failed at attempt " ++ decimal attempt ++ codes "\"/>"
+flaky_element attempt (Some text) = said_element text
 
 -- The first `n` attempts, all of which failed.
-unfoldable pub flaky_elements : ℕ → List ℕ
-flaky_elements zero = []
-flaky_elements (suc n) = flaky_elements n ++ flaky_element (n + 1)
+unfoldable pub flaky_elements : List (List ℕ) → ℕ → List ℕ
+flaky_elements said zero = []
+flaky_elements said (suc n) = flaky_elements said n ++ flaky_element (n + 1) (slice_get said n)
 
--- How a case ended. A skipped one has no fault, and of a successful one the attempts before it passed are told.
-abbrev pub ending_element : ℕ → Status → Option (List ℕ) → ℕ → List ℕ
-ending_element attempt statuses.Successful fault more = flaky_elements (attempt - 1)
-ending_element attempt statuses.Aborted fault more = fault_element (codes "skipped") [] fault more
-ending_element attempt statuses.Failed fault more = fault_element (codes "failure") (codes " type=\"failed\"") fault more
-ending_element attempt statuses.Skipped fault more = codes "<skipped/>"
+-- How a case ended. The fault of a skipped one is why it was, if that is known, and of a successful one the attempts
+-- before it passed are told, which said this.
+abbrev pub ending_element : List (List ℕ) → ℕ → Status → Option (List ℕ) → ℕ → List ℕ
+ending_element said attempt statuses.Successful fault more = flaky_elements said (attempt - 1)
+ending_element said attempt statuses.Aborted fault more = fault_element (codes "skipped") [] fault more
+ending_element said attempt statuses.Failed fault more = fault_element (codes "failure") (codes " type=\"failed\"") fault more
+ending_element said attempt statuses.Skipped fault more = fault_element (codes "skipped") [] fault more
 
 -- ---- times
 
@@ -71,13 +81,13 @@ abbrev pub case_name : Id → List ℕ
 case_name id = xml_text (slice_index_or id (length id - 1) ([], [])).1
 
 -- What follows a case's name.
-abbrev pub case_end : Extra → NodeOutcome → List ℕ
-case_end extra r =
+abbrev pub case_end : Extra → List (List ℕ) → NodeOutcome → List ℕ
+case_end extra said r =
     codes "\"" ++ case_time r.is_test extra.millis ++ codes ">"
-    ++ ending_element extra.attempt r.status r.fault r.more ++ codes "</testcase>\n"
+    ++ ending_element said extra.attempt r.status r.fault r.more ++ codes "</testcase>\n"
 
 -- A case of the suite with this name.
-abbrev pub case_element : List Extra → List Id → List ℕ → NodeOutcome → List ℕ
-case_element extras ids suite r =
+abbrev pub case_element : List Extra → List (List (List ℕ)) → List Id → List ℕ → NodeOutcome → List ℕ
+case_element extras earlier ids suite r =
     codes "    <testcase classname=\"" ++ suite ++ codes "\" name=\"" ++ case_name (id_at ids r.node)
-    ++ case_end (extra_of extras r.node) r
+    ++ case_end (extra_of extras r.node) (earlier_of earlier r.node) r

@@ -24,9 +24,11 @@
 --
 -- Where a node's time is known (`Extras`), the suite of its context has it, and so has the case of a test; the root's is
 -- that of all. A container that is a case has it at its suite alone. A successful case that took several attempts has a
--- `flakyFailure` for each before the last, as with Surefire:
+-- `flakyFailure` for each before the last, as with Surefire: where it is known what the attempt said, the first line of
+-- that is its message, and all of it stands in its `stackTrace`. What a skipped case has for its fault says why it was.
 --
 --     <testcase classname="A" name="a()" time="0.123"><flakyFailure type="failed" message="failed at attempt 1"/></testcase>
+--     <testcase classname="A" name="b()"><flakyFailure type="failed" message="LINE"><stackTrace>TEXT</stackTrace></flakyFailure></testcase>
 use Rattle.std.specs.Prelude.{ℕ, zero, suc, Bool, true, false, not, ◌==◌, ◌&&◌, ◌||◌, codes, List, [], ◌++◌, length, if◌then◌else◌}
 use Rattle.std.specs.List.{count_by, flat_map, list_any}
 use Rattle.std.specs.Fmt.{decimal}
@@ -70,9 +72,9 @@ counts_where is_counted rs = record {
 
 -- ---- a suite
 
-abbrev pub case_in : List Extra → List Id → ℕ → NodeOutcome → List ℕ
-case_in extras ids suite r =
-    if stands_in (children_of ids suite) suite r then case_element extras ids (suite_name (id_at ids suite)) r else []
+abbrev pub case_in : List Extra → List (List (List ℕ)) → List Id → ℕ → NodeOutcome → List ℕ
+case_in extras earlier ids suite r =
+    if stands_in (children_of ids suite) suite r then case_element extras earlier ids (suite_name (id_at ids suite)) r else []
 
 -- The counts of a suite, or of all, and the end of their line.
 unfoldable pub count_attributes : CaseCounts → List ℕ
@@ -84,30 +86,30 @@ count_attributes n =
 abbrev pub suite_time : List Extra → ℕ → List ℕ
 suite_time extras suite = time_attribute (extra_of extras suite).millis
 
-abbrev pub suite_element : List Extra → List Id → List NodeOutcome → ℕ → List ℕ
-suite_element extras ids rs suite =
+abbrev pub suite_element : List Extra → List (List (List ℕ)) → List Id → List NodeOutcome → ℕ → List ℕ
+suite_element extras earlier ids rs suite =
     codes "  <testsuite name=\"" ++ suite_name (id_at ids suite) ++ codes "\"" ++ suite_time extras suite
     ++ count_attributes (counts_where (stands_in (children_of ids suite) suite) rs)
-    ++ flat_map (case_in extras ids suite) rs ++ codes "  </testsuite>\n"
+    ++ flat_map (case_in extras earlier ids suite) rs ++ codes "  </testsuite>\n"
 
 -- The suite of a context, if it has a case.
-abbrev pub suite_if_any : List Extra → List Id → List NodeOutcome → ℕ → List ℕ
-suite_if_any extras ids rs suite = if count_by (stands_in (children_of ids suite) suite) rs == 0 then []
-    else suite_element extras ids rs suite
+abbrev pub suite_if_any : List Extra → List (List (List ℕ)) → List Id → List NodeOutcome → ℕ → List ℕ
+suite_if_any extras earlier ids rs suite = if count_by (stands_in (children_of ids suite) suite) rs == 0 then []
+    else suite_element extras earlier ids rs suite
 
 -- The suites of the first `n` contexts, in order.
-unfoldable pub suites_below : List Extra → List Id → List NodeOutcome → ℕ → List ℕ
-suites_below extras ids rs zero = []
-suites_below extras ids rs (suc n) = suites_below extras ids rs n ++ suite_if_any extras ids rs n
+unfoldable pub suites_below : List Extra → List (List (List ℕ)) → List Id → List NodeOutcome → ℕ → List ℕ
+suites_below extras earlier ids rs zero = []
+suites_below extras earlier ids rs (suc n) = suites_below extras earlier ids rs n ++ suite_if_any extras earlier ids rs n
 
 -- ---- the report
 
--- The report where this is known of the nodes.
-abbrev pub junit_with : List Extra → List Id → List NodeOutcome → List ℕ
-junit_with extras ids rs =
+-- The report where this is known of the nodes, and of what their attempts before the last said.
+abbrev pub junit_with : List Extra → List (List (List ℕ)) → List Id → List NodeOutcome → List ℕ
+junit_with extras earlier ids rs =
     codes "<?xml version=\"1.0\" encoding=\"UTF-8\"?>\n<testsuites" ++ suite_time extras 0
-    ++ count_attributes (counts_where is_case rs) ++ suites_below extras ids rs (length ids) ++ codes "</testsuites>\n"
+    ++ count_attributes (counts_where is_case rs) ++ suites_below extras earlier ids rs (length ids) ++ codes "</testsuites>\n"
 
 -- The report where nothing is.
 abbrev pub junit_xml : List Id → List NodeOutcome → List ℕ
-junit_xml ids rs = junit_with [] ids rs
+junit_xml ids rs = junit_with [] [] ids rs

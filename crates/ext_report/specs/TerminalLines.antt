@@ -1,13 +1,13 @@
 -- The report of a run for people at a terminal. Each node has one line, in the order of the list; those that aborted or
 -- failed come last, between empty lines. The totals are of the tests: how many there are, and how many ended in each way
--- in which any did. Where containers failed, a second line says how many: the totals of tests leave them out.
+-- in which any did. Where containers aborted or failed, a second line says how many: the totals of tests leave them out.
 --
 --     ID STATUS closed N
 --
 --     ID STATUS closed N: FAULT (+M)
 --
 --     tests N STATUS N STATUS N
---     containers failed N
+--     containers aborted N failed N
 --
 -- Where `closed N` is left out nothing was closed. No text reaches the terminal as an order to it: control characters of
 -- ids and faults, and those that turn the direction of a text (Unicode's UAX #9, "Directional Formatting Characters"),
@@ -58,6 +58,10 @@ line_character c = if c == 10 then codes "\n" else visible_character c
 
 abbrev pub visible_lines : List ℕ → List ℕ
 visible_lines text = flat_map line_character (chars text)
+
+-- Lines as they are printed: at a terminal each character is escaped that may not be shown, but for the line feeds.
+abbrev pub shown_text : Bool → List ℕ → List ℕ
+shown_text at_terminal lines = if at_terminal then visible_lines lines else lines
 
 -- ---- colours
 
@@ -117,16 +121,18 @@ shown_counts colored n =
     ++ count_part colored statuses.Aborted n.aborted ++ count_part colored statuses.Failed n.failed
     ++ count_part colored statuses.Skipped n.skipped ++ codes "\n"
 
--- How many containers failed.
-abbrev pub failed_containers : List NodeOutcome → ℕ
-failed_containers rs = count_by (λ r. not r.is_test && is_status r.status statuses.Failed) rs
+-- How many containers ended with this status.
+abbrev pub containers_with : Status → List NodeOutcome → ℕ
+containers_with status rs = count_by (λ r. not r.is_test && is_status r.status status) rs
 
--- The line that says so, if there are any.
-abbrev pub containers_line : Bool → ℕ → List ℕ
-containers_line colored failed = if failed == 0 then []
-    else codes "containers" ++ count_part colored statuses.Failed failed ++ codes "\n"
+-- The line that says how many aborted and failed, if any did.
+abbrev pub containers_line : Bool → ℕ → ℕ → List ℕ
+containers_line colored aborted failed = if (aborted == 0) && (failed == 0) then []
+    else codes "containers" ++ count_part colored statuses.Aborted aborted
+    ++ count_part colored statuses.Failed failed ++ codes "\n"
 
 abbrev pub terminal_of : Bool → List (List Pair) → List NodeOutcome → List ℕ
 terminal_of colored ids rs =
     each_line (line_unless_fault colored) ids rs ++ apart (each_line (line_if_fault colored) ids rs)
-    ++ shown_counts colored (counts_of rs) ++ containers_line colored (failed_containers rs)
+    ++ shown_counts colored (counts_of rs)
+    ++ containers_line colored (containers_with statuses.Aborted rs) (containers_with statuses.Failed rs)

@@ -73,7 +73,7 @@ fn write_time(text: &mut String, millis: Option<u64>) -> Result<(), AllocError>
         None => Ok(()),
         Some(millis) => {
             text.push_str(" took ")?;
-            write_seconds(text, millis)?;
+            write_seconds(text, u128::from(millis))?;
             text.push_str(" s")
         }
     }
@@ -105,7 +105,7 @@ fn write_flaky(text: &mut String, attempt: u32) -> Result<(), AllocError>
 /// Writes milliseconds as seconds with three decimals, as `0.123`, at the end of a text.
 ///
 /// Takes memory if the text has no room, and fails with `AllocError` only if that is refused.
-pub fn write_seconds(text: &mut String, millis: u64) -> Result<(), AllocError>
+pub fn write_seconds(text: &mut String, millis: u128) -> Result<(), AllocError>
     ensures { OnOk result (string_bytes text.new ≡ string_bytes text.old ++ seconds millis) }
 {
     let whole = millis / 1000;

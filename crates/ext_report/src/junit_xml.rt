@@ -1,9 +1,10 @@
 //! The report of a run in JUnit's XML.
-ghost use Rattle.std.specs.Prelude.{◌≡◌, ◌<◌, ◌++◌, length, option_map, string_bytes, All, IfOk, OnOk, Some};
+ghost use Rattle.std.specs.Prelude.{◌≡◌, ◌<◌, ◌++◌, length, map, option_map, string_bytes, All, IfOk, OnOk, Some, slice_get};
 ghost use Rattle.std.specs.List.{flat_map};
 ghost use Rattle.ext_lifecycle.specs.FaultTexts.{fault_text, result_view, results_view};
+ghost use Rattle.ext_report.specs.Extras.{earlier_of, texts_view};
 ghost use Rattle.ext_report.specs.InnerSuites.{cases_view, suite_if_filled, suite_with};
-ghost use Rattle.ext_report.specs.JunitCases.{case_element, case_end, case_time, ending_element, fault_element, first_line, flaky_element, flaky_elements, further_line, suite_name, time_attribute};
+ghost use Rattle.ext_report.specs.JunitCases.{case_element, case_end, case_time, ending_element, fault_element, first_line, flaky_element, flaky_elements, further_line, said_element, suite_name, time_attribute};
 ghost use Rattle.ext_report.specs.JunitXml.{junit_with, junit_xml, suite_time};
 ghost use Rattle.ext_tree.specs.Trees.{id_at};
 
@@ -24,8 +25,8 @@ use std::alloc::{AllocError, Global};
 /// container that failed or aborted itself is a case of its own suite. A suite, and the class of its
 /// cases, is named by the values of the segments of the context's id below the engine, joined by
 /// dots, and a case by the value of the last segment of its id. The fault of a failed node is the
-/// text of a `failure`, and that of an aborted one the text of a `skipped`; its first line is the
-/// message.
+/// text of a `failure`, and that of an aborted or a skipped one the text of a `skipped`; its first
+/// line is the message.
 ///
 /// Takes memory for the text and for a list of each suite's cases, and fails with `AllocError` only
 /// if that is refused.
@@ -38,25 +39,27 @@ pub fn junit_report(
     ensures { IfOk result
         (λ text. string_bytes text ≡ junit_xml tree.now (results_view results.now)) }
 {
-    junit_report_with(alloc, tree, results, &[])
+    junit_report_with(alloc, tree, results, &[], &[])
 }
 
 /// Returns the report of results in JUnit's XML as `junit_report` does, with what is known of the
-/// nodes beside their results. The extras stand in the order of the contexts; there may be fewer,
-/// or none.
+/// nodes beside their results, and of what their attempts before the last said. Extras and texts of
+/// attempts stand in the order of the contexts; there may be fewer, or none.
 ///
 /// Where a node's time is known, the suite of its context has it, and so has the case of a test.
 /// The time of context 0 is that of all suites. A successful case that took several attempts has a
-/// `flakyFailure` for each before the last.
+/// `flakyFailure` for each before the last: where it is known what the attempt said, with the first
+/// line of that for its message, and all of it in a `stackTrace`.
 pub fn junit_report_with(
     alloc: Global,
     tree: &Tree,
     results: &[NodeResult],
     extras: &[Extra],
+    earlier: &[&[String]],
 ) -> Result<String, AllocError>
     requires in_tree { All (λ r. r.node < length tree.now) results.now }
     ensures { IfOk result
-        (λ text. string_bytes text ≡ junit_with extras.now tree.now (results_view results.now)) }
+        (λ text. string_bytes text ≡ junit_with extras.now (texts_view earlier.now) tree.now (results_view results.now)) }
 {
     let suites = cases_by_suite(alloc, tree, results)?;
     let mut text = String::new(alloc);
@@ -65,7 +68,7 @@ pub fn junit_report_with(
     CaseCounts::among(results).write_to(&mut text)?;
     for suite in 0..tree.len() {
         let cases = suites[suite].as_slice();
-        write_suite(alloc, &mut text, extras, tree, cases, suite)?;
+        write_suite(alloc, &mut text, extras, earlier, tree, cases, suite)?;
     }
     text.push_str("</testsuites>\n")?;
     Ok(text)
@@ -76,6 +79,7 @@ fn write_suite(
     alloc: Global,
     text: &mut String,
     extras: &[Extra],
+    earlier: &[&[String]],
     tree: &Tree,
     cases: &[&NodeResult],
     suite: ContextNo,
@@ -83,12 +87,12 @@ fn write_suite(
     requires suite { suite < length tree.now }
     requires in_tree { All (λ r. r.node < length tree.now) (cases_view cases.now) }
     ensures { OnOk result
-        (string_bytes text.new ≡ string_bytes text.old ++ suite_if_filled extras.now tree.now suite (cases_view cases.now)) }
+        (string_bytes text.new ≡ string_bytes text.old ++ suite_if_filled extras.now (texts_view earlier.now) tree.now suite (cases_view cases.now)) }
 {
     if cases.is_empty() {
         return Ok(());
     }
-    write_filled_suite(alloc, text, extras, tree, cases, suite)?;
+    write_filled_suite(alloc, text, extras, earlier, tree, cases, suite)?;
     Ok(())
 }
 
@@ -97,6 +101,7 @@ fn write_filled_suite(
     alloc: Global,
     text: &mut String,
     extras: &[Extra],
+    earlier: &[&[String]],
     tree: &Tree,
     cases: &[&NodeResult],
     suite: ContextNo,
@@ -104,7 +109,7 @@ fn write_filled_suite(
     requires suite { suite < length tree.now }
     requires in_tree { All (λ r. r.node < length tree.now) (cases_view cases.now) }
     ensures { OnOk result
-        (string_bytes text.new ≡ string_bytes text.old ++ suite_with extras.now tree.now suite (cases_view cases.now)) }
+        (string_bytes text.new ≡ string_bytes text.old ++ suite_with extras.now (texts_view earlier.now) tree.now suite (cases_view cases.now)) }
 {
     let name = suite_name(alloc, tree.id(suite))?;
     text.push_str("  <testsuite name=\"")?;
@@ -112,7 +117,7 @@ fn write_filled_suite(
     text.push_str("\"")?;
     write_suite_time(text, extras, suite)?;
     CaseCounts::of(cases).write_to(text)?;
-    write_cases(text, extras, tree, cases, name.as_str())?;
+    write_cases(text, extras, earlier, tree, cases, name.as_str())?;
     text.push_str("  </testsuite>\n")?;
     Ok(())
 }
@@ -134,7 +139,7 @@ fn write_time(text: &mut String, millis: Option<u64>) -> Result<(), AllocError>
         None => Ok(()),
         Some(millis) => {
             text.push_str(" time=\"")?;
-            write_seconds(text, millis)?;
+            write_seconds(text, u128::from(millis))?;
             text.push_str("\"")
         }
     }
@@ -144,16 +149,17 @@ fn write_time(text: &mut String, millis: Option<u64>) -> Result<(), AllocError>
 fn write_cases(
     text: &mut String,
     extras: &[Extra],
+    earlier: &[&[String]],
     tree: &Tree,
     cases: &[&NodeResult],
     suite: &str,
 ) -> Result<(), AllocError>
     requires in_tree { All (λ r. r.node < length tree.now) (cases_view cases.now) }
     ensures { OnOk result
-        (string_bytes text.new ≡ string_bytes text.old ++ flat_map (case_element extras.now tree.now suite.now) (cases_view cases.now)) }
+        (string_bytes text.new ≡ string_bytes text.old ++ flat_map (case_element extras.now (texts_view earlier.now) tree.now suite.now) (cases_view cases.now)) }
 {
     for case in cases {
-        write_case(text, extras, tree, suite, case)?;
+        write_case(text, extras, earlier, tree, suite, case)?;
     }
     Ok(())
 }
@@ -162,31 +168,49 @@ fn write_cases(
 fn write_case(
     text: &mut String,
     extras: &[Extra],
+    earlier: &[&[String]],
     tree: &Tree,
     suite: &str,
     node: &NodeResult,
 ) -> Result<(), AllocError>
     requires in_tree { node.now.node < length tree.now }
     ensures { OnOk result
-        (string_bytes text.new ≡ string_bytes text.old ++ case_element extras.now tree.now suite.now (result_view node.now)) }
+        (string_bytes text.new ≡ string_bytes text.old ++ case_element extras.now (texts_view earlier.now) tree.now suite.now (result_view node.now)) }
 {
     text.push_str("    <testcase classname=\"")?;
     text.push_str(suite)?;
     text.push_str("\" name=\"")?;
     write_case_name(text, tree.id(node.node))?;
-    write_case_end(text, extra_of(extras, node.node), node)?;
+    let said = earlier_of(earlier, node.node);
+    write_case_end(text, extra_of(extras, node.node), said, node)?;
     Ok(())
 }
 
-/// Writes what follows a case's name at the end of a text.
-fn write_case_end(text: &mut String, extra: Extra, node: &NodeResult) -> Result<(), AllocError>
+/// What the attempts of a node before its last said: nothing past the end of the list.
+fn earlier_of<'a>(earlier: &[&'a [String]], node: ContextNo) -> &'a [String]
+    ensures { map string_bytes result.now ≡ earlier_of (texts_view earlier.now) node }
+{
+    match earlier.get(node) {
+        Some(said) => said,
+        None => &[],
+    }
+}
+
+/// Writes what follows a case's name at the end of a text: its attempts before the last said this.
+fn write_case_end(
+    text: &mut String,
+    extra: Extra,
+    said: &[String],
+    node: &NodeResult,
+) -> Result<(), AllocError>
     ensures { OnOk result
-        (string_bytes text.new ≡ string_bytes text.old ++ case_end extra (result_view node.now)) }
+        (string_bytes text.new ≡ string_bytes text.old
+        ++ case_end extra (map string_bytes said.now) (result_view node.now)) }
 {
     text.push_str("\"")?;
     write_case_time(text, node.is_test, extra.millis)?;
     text.push_str(">")?;
-    write_ending(text, extra.attempt, node)?;
+    write_ending(text, extra.attempt, said, node)?;
     text.push_str("</testcase>\n")?;
     Ok(())
 }
@@ -203,39 +227,73 @@ fn write_case_time(text: &mut String, is_test: bool, millis: Option<u64>) -> Res
 }
 
 /// Writes how a case ended at the end of a text: of a successful one, the attempts before it passed.
-fn write_ending(text: &mut String, attempt: u32, node: &NodeResult) -> Result<(), AllocError>
+fn write_ending(
+    text: &mut String,
+    attempt: u32,
+    said: &[String],
+    node: &NodeResult,
+) -> Result<(), AllocError>
     ensures { OnOk result
         (string_bytes text.new ≡ string_bytes text.old
-        ++ ending_element attempt node.now.status (option_map fault_text node.now.fault) node.now.more) }
+        ++ ending_element (map string_bytes said.now) attempt node.now.status (option_map fault_text node.now.fault) node.now.more) }
 {
     match node.status {
-        Status::Successful => write_flaky(text, attempt.saturating_sub(1)),
-        Status::Aborted => write_fault_if_any(text, "skipped", "", node),
+        Status::Successful => write_flaky(text, said, attempt.saturating_sub(1)),
+        Status::Aborted | Status::Skipped => write_fault_if_any(text, "skipped", "", node),
         Status::Failed => write_fault_if_any(text, "failure", " type=\"failed\"", node),
-        Status::Skipped => text.push_str("<skipped/>"),
     }
 }
 
-/// Writes an element for each of the first attempts, so many, at the end of a text.
-fn write_flaky(text: &mut String, attempts: u32) -> Result<(), AllocError>
+/// Writes an element for each of the first attempts, so many, which said this, at the end of a text.
+fn write_flaky(text: &mut String, said: &[String], attempts: u32) -> Result<(), AllocError>
     ensures { OnOk result
-        (string_bytes text.new ≡ string_bytes text.old ++ flaky_elements attempts) }
+        (string_bytes text.new ≡ string_bytes text.old ++ flaky_elements (map string_bytes said.now) attempts) }
 {
     for before in 0..attempts {
-        write_failed_attempt(text, before + 1)?;
+        write_failed_attempt(text, before + 1, said_at(said, before as usize))?;
     }
     Ok(())
 }
 
-/// Writes the element of an attempt that failed at the end of a text.
-fn write_failed_attempt(text: &mut String, attempt: u32) -> Result<(), AllocError>
-    ensures { OnOk result
-        (string_bytes text.new ≡ string_bytes text.old ++ flaky_element attempt) }
+/// What the attempt at this index said, if that is known.
+fn said_at(said: &[String], index: usize) -> Option<&str>
+    ensures { option_map (λ said. said.now) result ≡ slice_get (map string_bytes said.now) index }
 {
-    write!(
-        text,
-        "<flakyFailure type=\"failed\" message=\"failed at attempt {attempt}\"/>"
-    )
+    match said.get(index) {
+        Some(said) => Some(said.as_str()),
+        None => None,
+    }
+}
+
+/// Writes the element of an attempt that failed at the end of a text, with what it said.
+fn write_failed_attempt(
+    text: &mut String,
+    attempt: u32,
+    said: Option<&str>,
+) -> Result<(), AllocError>
+    ensures { OnOk result
+        (string_bytes text.new ≡ string_bytes text.old
+        ++ flaky_element attempt (option_map (λ said. said.now) said.entry)) }
+{
+    match said {
+        None => write!(
+            text,
+            "<flakyFailure type=\"failed\" message=\"failed at attempt {attempt}\"/>"
+        ),
+        Some(said) => write_said(text, said),
+    }
+}
+
+/// Writes the element of an attempt that failed and said this at the end of a text.
+fn write_said(text: &mut String, said: &str) -> Result<(), AllocError>
+    ensures { OnOk result (string_bytes text.new ≡ string_bytes text.old ++ said_element said.now) }
+{
+    text.push_str("<flakyFailure type=\"failed\" message=\"")?;
+    write_xml(text, first_line(said))?;
+    text.push_str("\"><stackTrace>")?;
+    write_xml(text, said)?;
+    text.push_str("</stackTrace></flakyFailure>")?;
+    Ok(())
 }
 
 /// Writes an element with a node's fault, if it has one, at the end of a text. The attribute of the

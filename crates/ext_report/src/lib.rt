@@ -5,6 +5,7 @@
 #![tactic(auto)]
 
 mod cases;
+mod colors;
 mod extra;
 mod form;
 mod grouping;
@@ -23,6 +24,7 @@ mod tree_lines;
 mod visible;
 mod xml;
 
+pub use colors::{is_dumb, wants_colors};
 pub use ext_lifecycle::{NodeResult, Status};
 pub use extra::{Extra, write_seconds};
 pub use form::{ReportForm, report_in};
@@ -35,4 +37,4 @@ pub use reserve::leave_out_reserve;
 pub use slow::slowest_tests;
 pub use terminal_lines::terminal_report;
 pub use tree_lines::{depth_first, tree_report, tree_report_with, write_head};
-pub use visible::{write_visible, write_visible_lines};
+pub use visible::{shown_text, write_visible, write_visible_lines};

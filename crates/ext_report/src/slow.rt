@@ -109,7 +109,7 @@ fn write_slow_line(text: &mut String, tree: &Tree, timed: &Timed) -> Result<(), 
         (string_bytes text.new ≡ string_bytes text.old ++ slow_line tree.now timed.now) }
 {
     text.push_str("took ")?;
-    write_seconds(text, timed.millis)?;
+    write_seconds(text, u128::from(timed.millis))?;
     text.push_str(" s ")?;
     tree.id(timed.node).write_to(text)?;
     text.push('\n')?;

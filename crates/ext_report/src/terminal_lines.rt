@@ -2,7 +2,7 @@
 ghost use Rattle.std.specs.Prelude.{◌≡◌, ◌<◌, ◌++◌, length, string_bytes, All, IfOk, OnOk};
 ghost use Rattle.ext_lifecycle.specs.FaultTexts.{result_view, results_view};
 ghost use Rattle.ext_report.specs.Report.{fault_part, tells_fault};
-ghost use Rattle.ext_report.specs.TerminalLines.{apart, closed_part, color_of, containers_line, count_part, each_line, escape, failed_containers, line_if_fault, line_unless_fault, shown_counts, shown_line, shown_status, terminal_of, visible};
+ghost use Rattle.ext_report.specs.TerminalLines.{apart, closed_part, color_of, containers_line, containers_with, count_part, each_line, escape, line_if_fault, line_unless_fault, shown_counts, shown_line, shown_status, terminal_of, visible};
 
 use crate::is_status::is_status;
 use crate::line::{status_text, write_fault};
@@ -15,7 +15,7 @@ use std::alloc::{AllocError, Global};
 
 /// Returns the report of results for people at a terminal: one line for each, in the order of the
 /// list, those of the nodes that aborted or failed last, between empty lines, and then the totals of
-/// the tests. If containers failed, another line says how many. Counts that are 0 are left out, but
+/// the tests. If containers aborted or failed, another line says how many. Counts that are 0 are left out, but
 /// for that of all tests. Control characters of ids and faults, and those that turn the direction
 /// of a text, are escaped; with `colored` each status has a colour. Each result is of a context of
 /// the tree. A context may have no result, or several.
@@ -35,29 +35,37 @@ pub fn terminal_report(
     let faults = lines_with_faults(alloc, tree, results, colored)?;
     write_apart(&mut text, faults.as_str())?;
     TestCounts::of(results).write_shown_to(&mut text, colored)?;
-    write_containers(&mut text, failed_containers(results), colored)?;
+    let aborted = containers_with(results, Status::Aborted);
+    let failed = containers_with(results, Status::Failed);
+    write_containers(&mut text, aborted, failed, colored)?;
     Ok(text)
 }
 
-/// Counts the containers that failed.
-fn failed_containers(results: &[NodeResult]) -> usize
-    ensures { result ≡ failed_containers (results_view results.now) }
+/// Counts the containers that ended with this status.
+fn containers_with(results: &[NodeResult], status: Status) -> usize
+    ensures { result ≡ containers_with status (results_view results.now) }
 {
     results
         .iter()
-        .filter(|r| !r.is_test && is_status(r.status, Status::Failed))
+        .filter(|r| !r.is_test && is_status(r.status, status))
         .count()
 }
 
-/// Writes how many containers failed at the end of a text, if any did.
-fn write_containers(text: &mut String, failed: usize, colored: bool) -> Result<(), AllocError>
+/// Writes how many containers aborted and failed at the end of a text, if any did.
+fn write_containers(
+    text: &mut String,
+    aborted: usize,
+    failed: usize,
+    colored: bool,
+) -> Result<(), AllocError>
     ensures { OnOk result
-        (string_bytes text.new ≡ string_bytes text.old ++ containers_line colored failed) }
+        (string_bytes text.new ≡ string_bytes text.old ++ containers_line colored aborted failed) }
 {
-    if failed == 0 {
+    if aborted == 0 && failed == 0 {
         return Ok(());
     }
     text.push_str("containers")?;
+    write_count(text, Status::Aborted, aborted, colored)?;
     write_count(text, Status::Failed, failed, colored)?;
     text.push('\n')
 }

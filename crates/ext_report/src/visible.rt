@@ -1,8 +1,8 @@
 //! Texts as a terminal may show them.
-ghost use Rattle.std.specs.Prelude.{◌≡◌, ◌++◌, string_bytes, OnOk};
-ghost use Rattle.ext_report.specs.TerminalLines.{code_text, is_among, is_direction, line_character, visible, visible_character, visible_lines};
+ghost use Rattle.std.specs.Prelude.{◌≡◌, ◌++◌, string_bytes, IfOk, OnOk};
+ghost use Rattle.ext_report.specs.TerminalLines.{code_text, is_among, is_direction, line_character, shown_text, visible, visible_character, visible_lines};
 
-use std::alloc::AllocError;
+use std::alloc::{AllocError, Global};
 
 /// Writes a text at the end of another, with each control character, and each that turns the
 /// direction of a text, as `\n`, `\r`, `\t` or `\u{1b}`: so it stands on one line, and gives no order
@@ -29,6 +29,21 @@ pub fn write_visible_lines(text: &mut String, lines: &str) -> Result<(), AllocEr
         write_in_line(text, c)?;
     }
     Ok(())
+}
+
+/// Lines as they are printed: at a terminal as `write_visible_lines` writes them.
+///
+/// Takes memory at a terminal, and fails with `AllocError` only if that is refused: the lines are
+/// dropped then.
+pub fn shown_text(alloc: Global, lines: String, at_terminal: bool) -> Result<String, AllocError>
+    ensures { IfOk result (λ shown. string_bytes shown ≡ shown_text at_terminal (string_bytes lines)) }
+{
+    if !at_terminal {
+        return Ok(lines);
+    }
+    let mut shown = String::new(alloc);
+    write_visible_lines(&mut shown, lines.as_str())?;
+    Ok(shown)
 }
 
 /// Writes a character of a line, or the line feed that ends one, at the end of a text.

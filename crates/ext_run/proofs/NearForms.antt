@@ -14,7 +14,7 @@ use Rattle.ext_report.specs.Forms.{report_in}
 use Rattle.ext_report.specs.JunitCases.{suite_name}
 use Rattle.ext_report.specs.JunitXml.{case_in, count_attributes, counts_where, is_case, is_left_out, junit_xml, stands_in, suite_element, suite_if_any, suite_time, suites_below}
 use Rattle.ext_report.specs.Report.{any_failed, counts_line, counts_of, is_status, line_of, lines_of, outcome_part, report_of, sums_line, sums_of}
-use Rattle.ext_report.specs.TerminalLines.{apart, containers_line, each_line, failed_containers, line_if_fault, line_unless_fault, shown_counts, terminal_of}
+use Rattle.ext_report.specs.TerminalLines.{apart, containers_line, containers_with, each_line, line_if_fault, line_unless_fault, shown_counts, terminal_of}
 use Rattle.ext_report.specs.TreeLines.{depth_first, tree_head, tree_line, tree_of}
 use Rattle.ext_run.specs.OneReports.{tells_each}
 
@@ -81,16 +81,16 @@ cases_counted is_counted same rs = λ i. record {
   skipped = count_bare (λ r. is_counted r && is_left_out r.status) (λ r. ap (λ b. b && is_left_out r.status) (same r)) rs i;
 }
 
-suite_bare : (ids : List Id) (rs : List NodeOutcome) (suite : ℕ) → suite_element [] ids (map bare rs) suite ≡ suite_element [] ids rs suite
+suite_bare : (ids : List Id) (rs : List NodeOutcome) (suite : ℕ) → suite_element [] [] ids (map bare rs) suite ≡ suite_element [] [] ids rs suite
 suite_bare ids rs suite = λ i.
     codes "  <testsuite name=\"" ++ suite_name (id_at ids suite) ++ codes "\"" ++ suite_time [] suite
     ++ count_attributes (cases_counted (stands_in (children_of ids suite) suite) (λ r. refl) rs i)
-    ++ all_bare (case_in [] ids suite) (λ r. refl) rs i ++ codes "  </testsuite>\n"
+    ++ all_bare (case_in [] [] ids suite) (λ r. refl) rs i ++ codes "  </testsuite>\n"
 
-suite_if_bare : (ids : List Id) (rs : List NodeOutcome) (suite : ℕ) → suite_if_any [] ids (map bare rs) suite ≡ suite_if_any [] ids rs suite
+suite_if_bare : (ids : List Id) (rs : List NodeOutcome) (suite : ℕ) → suite_if_any [] [] ids (map bare rs) suite ≡ suite_if_any [] [] ids rs suite
 suite_if_bare ids rs suite = λ i. if count_bare (stands_in (children_of ids suite) suite) (λ r. refl) rs i == 0 then [] else suite_bare ids rs suite i
 
-suites_bare : (ids : List Id) (rs : List NodeOutcome) (n : ℕ) → suites_below [] ids (map bare rs) n ≡ suites_below [] ids rs n
+suites_bare : (ids : List Id) (rs : List NodeOutcome) (n : ℕ) → suites_below [] [] ids (map bare rs) n ≡ suites_below [] [] ids rs n
 unfolding suites_below
 suites_bare ids rs zero = refl
 suites_bare ids rs (suc n) = λ i. suites_bare ids rs n i ++ suite_if_bare ids rs n i
@@ -119,7 +119,8 @@ module _ (here there : List NodeOutcome) (same : map bare here ≡ map bare ther
     near_form (forms.Terminal colored) ids off = λ i.
         by_bare (each_line (line_unless_fault colored) ids) (all_bare (λ r. line_unless_fault colored (slice_index_or ids r.node []) r) (λ r. refl)) i
         ++ apart (by_bare (each_line (line_if_fault colored) ids) (all_bare (λ r. line_if_fault colored (slice_index_or ids r.node []) r) (λ r. refl)) i)
-        ++ shown_counts colored (by_bare counts_of counts_bare i) ++ containers_line colored (by_bare failed_containers (count_bare (λ r. not r.is_test && is_status r.status statuses.Failed) (λ r. refl)) i)
+        ++ shown_counts colored (by_bare counts_of counts_bare i) ++ containers_line colored (by_bare (containers_with statuses.Aborted) (count_bare (λ r. not r.is_test && is_status r.status statuses.Aborted) (λ r. refl)) i)
+        (by_bare (containers_with statuses.Failed) (count_bare (λ r. not r.is_test && is_status r.status statuses.Failed) (λ r. refl)) i)
 
 -- ---- results of two runs that differ only in who computed and who found
 

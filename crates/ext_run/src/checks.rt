@@ -138,8 +138,8 @@ fn races_as(
 }
 
 /// A text of JSON as it is printed (`ext_report::write_json`). Each is UTF-8; no contract of
-/// `races_json` says so, and one that was not would be refused.
-fn printed(alloc: Global, json: Vec<u8>) -> Result<Vec<u8>, AllocError>
+/// `races_json` or `lint` says so, and one that was not would be refused.
+pub(crate) fn printed(alloc: Global, json: Vec<u8>) -> Result<Vec<u8>, AllocError>
     ensures { IfOk result (λ bytes. bytes.items ≡ json_text json.items) }
 {
     let Ok(json) = String::from_utf8(json) else {

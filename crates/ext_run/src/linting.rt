@@ -1,5 +1,5 @@
 //! The notes of a plan that is read and not run.
-ghost use Rattle.std.specs.Prelude.{◌≡◌, ◌≢◌, ◌≤◌, ◌+◌, ℕ, List, false, length, string_bytes, IfOk, IfErr, IfSome};
+ghost use Rattle.std.specs.Prelude.{◌≡◌, ◌≢◌, ◌≤◌, ◌+◌, ℕ, List, false, length, IfOk, IfErr, IfSome};
 ghost use Rattle.std.specs.Io.KnownBytes.{Consumes, Appends};
 ghost use Rattle.ext_plan_reading.specs.Plans.{plan_view};
 ghost use Rattle.ext_plan_reading.specs.ReadPlans.{IsRunnablePlan};
@@ -7,12 +7,14 @@ ghost use Rattle.ext_run.specs.Checks.{RefusedUnrun};
 ghost use Rattle.ext_run.specs.Lints.{IsNotesOf, TellsNotes};
 ghost use Rattle.ext_run.specs.Reports.{input_limit, plan_of_bytes, plan_of_input};
 
+use crate::checks::printed;
 use crate::fault::RunFault;
 use crate::input::read_input;
+use crate::list_form::ListForm;
 use crate::options::Summary;
 use crate::reading::plan_of;
 use crate::runs::write_whole;
-use ext_lint::lint;
+use ext_lint::{PlanNotes, lint};
 use ext_model::Size;
 use ext_plan_reading::Plan;
 use std::alloc::{AllocError, Global};
@@ -20,8 +22,8 @@ use std::io::{Read, Write};
 
 /// Reads a plan of at most this size and writes what of it is most likely a mistake, without running
 /// it (`ext_lint::lint`). Each of the first 20 notes has a line, and `and more` follows if there are
-/// others. `nothing to note` stands alone if there are none. In the summary, `failed` tells whether
-/// there is one.
+/// others. `nothing to note` stands alone if there are none. As JSON one object tells the same. In the
+/// summary, `failed` tells whether there is one.
 ///
 /// It reads like `run`, and is refused like `check`.
 ///
@@ -33,9 +35,10 @@ pub fn check_lint<I: Read, W: Write>(
     reader: &mut I,
     writer: &mut W,
     size: Size,
+    form: ListForm,
 ) -> Result<Summary, RunFault>
     ensures written { IfOk result (λ summary. IfSome (I.remaining reader.old) (λ input. (text : List ℕ)
-        × IsNotesOf (plan_of_input size input) text summary.failed
+        × IsNotesOf form (plan_of_input size input) text summary.failed
         × Appends (W.contents writer.old) (W.contents writer.new) text)) }
     ensures unrun { IfOk result (λ summary. summary.lacked ≡ false) }
     ensures refused { IfErr result (λ fault. IfSome (I.remaining reader.old)
@@ -45,8 +48,8 @@ pub fn check_lint<I: Read, W: Write>(
         × Consumes (I.remaining reader.old) (I.remaining reader.new) bytes }
 {
     let input = read_input(alloc, reader, size)?;
-    let (text, failed) = notes_of(alloc, input.as_slice(), size)?;
-    write_whole(writer, text.as_bytes())?;
+    let (text, failed) = notes_of(alloc, input.as_slice(), size, form)?;
+    write_whole(writer, text.as_slice())?;
     Ok(Summary {
         failed,
         lacked: false,
@@ -54,8 +57,13 @@ pub fn check_lint<I: Read, W: Write>(
 }
 
 /// The text of the notes of the plan in these bytes, and whether there is one.
-fn notes_of(alloc: Global, input: &[u8], size: Size) -> Result<(String, bool), RunFault>
-    ensures notes { IfOk result (λ notes. IsNotesOf (plan_of_bytes size input.now) (string_bytes notes.0) notes.1) }
+fn notes_of(
+    alloc: Global,
+    input: &[u8],
+    size: Size,
+    form: ListForm,
+) -> Result<(Vec<u8>, bool), RunFault>
+    ensures notes { IfOk result (λ notes. IsNotesOf form (plan_of_bytes size input.now) notes.0.items notes.1) }
     ensures refused { IfErr result (λ fault. RefusedUnrun fault (plan_of_bytes size input.now)) }
     ensures unwritten { IfErr result (λ fault. fault ≢ RunFault.Write) }
 {
@@ -63,14 +71,17 @@ fn notes_of(alloc: Global, input: &[u8], size: Size) -> Result<(String, bool), R
         Ok(plan) => plan,
         Err(fault) => return Err(RunFault::Plan(fault)),
     };
-    Ok(notes_in(alloc, &plan)?)
+    Ok(notes_in(alloc, &plan, form)?)
 }
 
 /// The text of a plan's notes, and whether there is one.
-fn notes_in(alloc: Global, plan: &Plan) -> Result<(String, bool), AllocError>
+fn notes_in(alloc: Global, plan: &Plan, form: ListForm) -> Result<(Vec<u8>, bool), AllocError>
     requires { IsRunnablePlan (plan_view plan.now) }
-    ensures { IfOk result (λ notes. TellsNotes (plan_view plan.now) (string_bytes notes.0) notes.1) }
+    ensures { IfOk result (λ notes. TellsNotes form (plan_view plan.now) notes.0.items notes.1) }
 {
-    let notes = lint(alloc, plan)?;
-    Ok((notes.text, notes.found))
+    let PlanNotes { text, json, found } = lint(alloc, plan)?;
+    match form {
+        ListForm::Lines => Ok((text.into_bytes(), found)),
+        ListForm::Json => Ok((printed(alloc, json)?, found)),
+    }
 }

@@ -108,7 +108,7 @@ pub fn run<R: Threads + Wait + Sync, I: Read, W: Write>(
 }
 
 /// Runs a plan that was read, writes its report like `run`, and hands back the results that it is
-/// of. It notifies the listener when a node starts, of each of its faults, and when it has ended.
+/// of. It notifies the listener when a node starts, of its calls and faults, and when it has ended.
 ///
 /// The listener is called on the threads that run the nodes, and has no effect on what is written.
 ///

@@ -2,5 +2,6 @@
 pub mod Indices
 pub mod Indenting
 pub mod EarlierLines
+pub mod IdTexts
 pub mod Nodes
 pub mod Reported

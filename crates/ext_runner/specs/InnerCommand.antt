@@ -1,9 +1,13 @@
 -- What the words of options stand for. An own rule.
-use Rattle.std.specs.Prelude.{◌≡◌, ℕ, Bool, true, false, codes, List, [], map, Option, Some, None, if◌then◌else◌, String, string_bytes}
+use Rattle.std.specs.Prelude.{◌≡◌, ◌≢◌, ◌⊎◌, ℕ, ◌≤◌, ◌<◌, ◌^◌, Bool, true, false, codes, List, [], map, option_map, Option, Some, None, if◌then◌else◌, String, string_bytes}
 use Rattle.std.specs.Str.{bytes_eq}
+use Rattle.std.specs.Str.Parse.{IsNumeral, digits_value, without_leading_plus}
 use Rattle.clap.specs.Matches.{first_value, matched_of, one_text, raw_values}
 use Rattle.clap.specs.declared.parser.matches.Found.{Found}
 use Rattle.clap.specs.declared.parser.matches.MatchedArg.{MatchedArg}
+use Rattle.ext_runner.specs.declared.command.Asked.{Asked}
+use Rattle.ext_runner.specs.declared.command.Asked.TheVariants as asks
+use Rattle.ext_runner.specs.declared.command.Running.{Running}
 use Rattle.ext_runner.specs.declared.command.Selecting.{Selecting}
 use Rattle.ext_runner.specs.declared.command.ColorChoice.{ColorChoice}
 use Rattle.ext_runner.specs.declared.command.ColorChoice.TheVariants as choices
@@ -37,11 +41,21 @@ IsOrderOf (Some word) orders.Listed = ⊥
 IsOrderOf (Some word) orders.AnySeed = word ≡ codes "any"
 IsOrderOf (Some word) (orders.Seed seed) = IsDecimal word seed
 
+-- The word asks for no order.
+abbrev pub IsNoOrder : Option (List ℕ) → Type 0
+IsNoOrder None = ⊥
+IsNoOrder (Some word) = (word ≢ codes "any") × ((seed : ℕ) → IsDecimal word seed → seed < 2 ^ 64 → ⊥)
+
 -- The part that this word asks for, or none where there is no word.
 abbrev pub IsShardOf : Option (List ℕ) → Option Shard → Type 0
 IsShardOf None shard = shard ≡ None
 IsShardOf (Some word) None = ⊥
 IsShardOf (Some word) (Some shard) = ReadsShard word shard.part shard.count
+
+-- The word asks for no part.
+abbrev pub IsNoShard : Option (List ℕ) → Type 0
+IsNoShard None = ⊥
+IsNoShard (Some word) = (part count : ℕ) → ReadsShard word part count → 1 ≤ part → part ≤ count → count < 2 ^ 64 → ⊥
 
 -- ---- which tests are selected
 
@@ -58,6 +72,48 @@ pub record IsFlag (text : Option (List ℕ)) (flag : Bool) : Type 0 where
   pub none : text ≡ None → flag ≡ false
   pub set : text ≡ Some (codes "true") → flag ≡ true
   pub unset : text ≡ Some (codes "false") → flag ≡ false
+
+-- Which tests are selected by what clap found.
+pub record SelectsAsAsked (found : Found) (selecting : Selecting) : Type 0 where
+  pub texts : map string_bytes selecting.texts.items ≡ values_of found (codes "TEXT")
+  pub skips : map string_bytes selecting.skips.items ≡ values_of found (codes "skip")
+  pub exact : IsFlag (one_text found (codes "exact")) selecting.exact
+  pub shard : IsShardOf (first_value found (codes "shard")) selecting.shard
+  pub failed : option_map string_bytes selecting.failed ≡ first_value found (codes "failed")
+  pub list : IsFlag (one_text found (codes "list")) selecting.list
+
+-- ---- how they are run
+
+-- The number that this text spells, or else another one.
+pub record IsCount (text : Option (List ℕ)) (unsaid : ℕ) (count : ℕ) : Type 0 where
+  pub none : text ≡ None → count ≡ unsaid
+  pub value : (t : List ℕ) → text ≡ Some t → IsNumeral 10 (without_leading_plus t)
+      → digits_value 10 (without_leading_plus t) < 2 ^ 32 → count ≡ digits_value 10 (without_leading_plus t)
+
+-- How tests are run by what clap found.
+pub record RunsAsAsked (found : Found) (running : Running) : Type 0 where
+  pub stop_after : IsCount (one_text found (codes "fail-fast")) 0 running.stop_after
+  pub retries : IsCount (one_text found (codes "retries")) 0 running.retries
+  pub repeat : IsCount (one_text found (codes "repeat")) 1 running.repeat
+  pub order : IsOrderOf (first_value found (codes "shuffle")) running.order
+
+-- ---- what is asked for
+
+-- The folder that is named by an option which only a program has whose processes share texts.
+abbrev pub folder_of : Bool → Found → List ℕ → Option (List ℕ)
+folder_of true found name = first_value found name
+folder_of false found name = None
+
+-- What is asked for by what clap found, by a program whose processes share texts, or do not: a close comes first, and a
+-- word that stands for no part or no order is refused.
+abbrev pub AsksFor : Bool → Found → Asked → Type 0
+AsksFor shares found (asks.Run options) =
+    (folder_of shares found (codes "close") ≡ None) × SelectsAsAsked found options.selecting
+    × RunsAsAsked found options.running × (option_map string_bytes options.shared ≡ folder_of shares found (codes "shared"))
+AsksFor shares found (asks.Close folder) = folder_of shares found (codes "close") ≡ Some (string_bytes folder)
+AsksFor shares found asks.Helped = ⊥
+AsksFor shares found asks.Refused =
+    IsNoShard (first_value found (codes "shard")) ⊎ IsNoOrder (first_value found (codes "shuffle"))
 
 -- The second text is a copy of the first.
 abbrev pub IsCopy : {A B : Type 0} → String A → String B → Type 0

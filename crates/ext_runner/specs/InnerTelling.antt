@@ -1,5 +1,5 @@
 -- What is reported of a run, and how the program ends. `ext_report` has the forms of a report.
-use Rattle.std.specs.Prelude.{ℕ, ◌==◌, ◌&&◌, nat_lt, Bool, true, false, codes, encode_utf8, List, ◌++◌, Option, Some, None, if◌then◌else◌, slice_get}
+use Rattle.std.specs.Prelude.{ℕ, ◌==◌, ◌&&◌, nat_lt, Bool, true, false, codes, encode_utf8, List, ◌++◌, map, Option, Some, None, if◌then◌else◌, slice_get, string_bytes}
 use Rattle.std.specs.List.{flat_map}
 use Rattle.std.specs.Str.{chars}
 use Rattle.ext_lifecycle.specs.FaultTexts.{NodeOutcome}
@@ -7,7 +7,6 @@ use Rattle.ext_lifecycle.specs.Results.{map_fault}
 use Rattle.ext_lifecycle.specs.declared.node_result.NodeResult.{NodeResult}
 use Rattle.ext_report.specs.Extras.{extra_by}
 use Rattle.ext_report.specs.Report.{any_failed}
-use Rattle.ext_report.specs.TerminalLines.{visible_lines}
 use Rattle.ext_report.specs.declared.extra.Extra.{Extra}
 use Rattle.ext_table.specs.declared.listener.LeftOut.{LeftOut}
 use Rattle.ext_table.specs.declared.listener.LeftOut.TheVariants as left_out
@@ -39,6 +38,10 @@ without_faults r = record r { fault = None; more = 0 }
 abbrev pub extra_of : NodeLog → Extra
 extra_of log = extra_by log.took log.attempt
 
+-- What the attempts of each node before its last said.
+abbrev pub earlier_texts : List NodeLog → List (List (List ℕ))
+earlier_texts logs = map (λ log. map string_bytes log.earlier.items) logs
+
 -- ---- texts
 
 -- A character of a text of several lines. In ASCII 10 is the line feed.
@@ -48,10 +51,6 @@ indented_character c = encode_utf8 c ++ (if c == 10 then codes "    " else codes
 -- The text, whose lines behind the first are indented.
 abbrev pub indented : List ℕ → List ℕ
 indented text = flat_map indented_character (chars text)
-
--- Lines as they are printed, at a terminal or elsewhere.
-abbrev pub shown_text : Bool → List ℕ → List ℕ
-shown_text at_terminal lines = if at_terminal then visible_lines lines else lines
 
 abbrev pub with_indented_fault : NodeOutcome → NodeOutcome
 with_indented_fault r = map_fault indented r

@@ -1,12 +1,12 @@
 //! What the words of an engine's command line ask for.
-ghost use Rattle.std.specs.Prelude.{◌≡◌, IfOk, IfSome, codes, map, option_map, string_bytes};
-ghost use Rattle.ext_runner.specs.InnerCommand.{IsFlag, IsOrderOf, IsShardOf, color_of, form_of, values_of};
+ghost use Rattle.std.specs.Prelude.{◌≡◌, IfOk, IfSome, None, codes, map, option_map, string_bytes};
+ghost use Rattle.ext_runner.specs.InnerCommand.{AsksFor, IsCount, IsFlag, IsNoOrder, IsNoShard, IsOrderOf, IsShardOf, RunsAsAsked, SelectsAsAsked, color_of, folder_of, form_of, values_of};
 ghost use Rattle.clap.specs.Matches.{first_value, found_of, one_text};
 
 use crate::args::command_line;
-use crate::saying::shown_text;
 use clap::ArgMatches;
 use clap::error::ErrorKind;
+use ext_report::shown_text;
 use ext_selection::Shard;
 use std::alloc::{AllocError, Global};
 use std::env;
@@ -133,14 +133,18 @@ pub(crate) fn read_words(rt: &HostRuntime, name: &str, shares: bool) -> Result<A
 }
 
 /// Prints a mistake that clap does not find.
-fn mistake(rt: &HostRuntime, what: &str) -> Asked {
+fn mistake(rt: &HostRuntime, what: &str) -> Asked
+    ensures { result ≡ Asked.Refused }
+{
     let _ = eprintln!(rt; "error: {what}");
     Asked::Refused
 }
 
 /// What these words ask for.
-fn asked_by(rt: &HostRuntime, words: &ArgMatches<'_>, shares: bool) -> Result<Asked, AllocError> {
-    if shares && let Some(folder) = file_in(rt.alloc(), words, "close")? {
+fn asked_by(rt: &HostRuntime, words: &ArgMatches<'_>, shares: bool) -> Result<Asked, AllocError>
+    ensures { IfOk result (AsksFor shares (found_of words.now)) }
+{
+    if let Some(folder) = folder_in(rt.alloc(), words, "close", shares)? {
         return Ok(Asked::Close(folder));
     }
     let Some(shard) = shard_in(words) else {
@@ -156,22 +160,37 @@ fn asked_by(rt: &HostRuntime, words: &ArgMatches<'_>, shares: bool) -> Result<As
         selecting: selecting_in(rt.alloc(), words, shard)?,
         running: running_in(words, order),
         telling: telling_in(rt.alloc(), words)?,
-        shared: if shares {
-            file_in(rt.alloc(), words, "shared")?
-        } else {
-            None
-        },
+        shared: folder_in(rt.alloc(), words, "shared", shares)?,
     }))
 }
 
+/// The folder that is the value of this option, which a program has whose processes share texts.
+fn folder_in(
+    alloc: Global,
+    words: &ArgMatches<'_>,
+    name: &str,
+    shares: bool,
+) -> Result<Option<String>, AllocError>
+    ensures { IfOk result (λ folder. option_map string_bytes folder ≡ folder_of shares (found_of words.now) name.now) }
+{
+    if !shares {
+        return Ok(None);
+    }
+    file_in(alloc, words, name)
+}
+
 /// The part of the tests, if there is one; `None` if its word is wrong.
-fn shard_in(words: &ArgMatches<'_>) -> Option<Option<Shard>> {
+fn shard_in(words: &ArgMatches<'_>) -> Option<Option<Shard>>
+    ensures read { IfSome result (IsShardOf (first_value (found_of words.now) (codes "shard"))) }
+    ensures wrong { result ≡ None → IsNoShard (first_value (found_of words.now) (codes "shard")) }
+{
     shard_of(words.get_str("shard"))
 }
 
 /// The part of this word, and none of none; `None` if it is wrong.
 fn shard_of(word: Option<&str>) -> Option<Option<Shard>>
-    ensures { IfSome result (IsShardOf (option_map (λ word. word.now) word.entry)) }
+    ensures read { IfSome result (IsShardOf (option_map (λ word. word.now) word.entry)) }
+    ensures wrong { result ≡ None → IsNoShard (option_map (λ word. word.now) word.entry) }
 {
     match word {
         None => Some(None),
@@ -180,13 +199,17 @@ fn shard_of(word: Option<&str>) -> Option<Option<Shard>>
 }
 
 /// The order; `None` if its word is wrong.
-fn order_in(words: &ArgMatches<'_>) -> Option<Order> {
+fn order_in(words: &ArgMatches<'_>) -> Option<Order>
+    ensures read { IfSome result (IsOrderOf (first_value (found_of words.now) (codes "shuffle"))) }
+    ensures wrong { result ≡ None → IsNoOrder (first_value (found_of words.now) (codes "shuffle")) }
+{
     order_of(words.get_str("shuffle"))
 }
 
 /// The order of this word, and of none; `None` if it is wrong.
 fn order_of(word: Option<&str>) -> Option<Order>
-    ensures { IfSome result (IsOrderOf (option_map (λ word. word.now) word.entry)) }
+    ensures read { IfSome result (IsOrderOf (option_map (λ word. word.now) word.entry)) }
+    ensures wrong { result ≡ None → IsNoOrder (option_map (λ word. word.now) word.entry) }
 {
     match word {
         None => Some(Order::Listed),
@@ -204,12 +227,8 @@ fn selecting_in(
     words: &ArgMatches<'_>,
     shard: Option<Shard>,
 ) -> Result<Selecting, AllocError>
-    ensures texts { IfOk result (λ s. map string_bytes s.texts.items ≡ values_of (found_of words.now) (codes "TEXT")) }
-    ensures skips { IfOk result (λ s. map string_bytes s.skips.items ≡ values_of (found_of words.now) (codes "skip")) }
-    ensures exact { IfOk result (λ s. IsFlag (one_text (found_of words.now) (codes "exact")) s.exact) }
-    ensures shard { IfOk result (λ s. s.shard ≡ shard) }
-    ensures failed { IfOk result (λ s. option_map string_bytes s.failed ≡ first_value (found_of words.now) (codes "failed")) }
-    ensures list { IfOk result (λ s. IsFlag (one_text (found_of words.now) (codes "list")) s.list) }
+    requires { IsShardOf (first_value (found_of words.now) (codes "shard")) shard }
+    ensures { IfOk result (SelectsAsAsked (found_of words.now)) }
 {
     Ok(Selecting {
         texts: values_in(alloc, words, "TEXT")?,
@@ -238,12 +257,15 @@ fn values_in(alloc: Global, words: &ArgMatches<'_>, name: &str) -> Result<Vec<St
     }
 }
 
-fn running_in(words: &ArgMatches<'_>, order: Order) -> Running {
+fn running_in(words: &ArgMatches<'_>, order: Order) -> Running
+    requires { IsOrderOf (first_value (found_of words.now) (codes "shuffle")) order }
+    ensures { RunsAsAsked (found_of words.now) result }
+{
     Running {
         lanes: words.get_one::<u8>("lanes"),
-        stop_after: words.get_one::<u32>("fail-fast").unwrap_or(0),
-        retries: words.get_one::<u32>("retries").unwrap_or(0),
-        repeat: words.get_one::<u32>("repeat").unwrap_or(1),
+        stop_after: count_in(words, "fail-fast", 0),
+        retries: count_in(words, "retries", 0),
+        repeat: count_in(words, "repeat", 1),
         order,
         slow: words.get_one::<u32>("slow"),
     }
@@ -256,8 +278,15 @@ fn telling_in(alloc: Global, words: &ArgMatches<'_>) -> Result<Telling, AllocErr
         junit: file_in(alloc, words, "junit")?,
         json: file_in(alloc, words, "json")?,
         html: file_in(alloc, words, "html")?,
-        durations: words.get_one::<u32>("durations").unwrap_or(0),
+        durations: count_in(words, "durations", 0),
     })
+}
+
+/// The number that is the value of this option, or else this one.
+fn count_in(words: &ArgMatches<'_>, name: &str, unsaid: u32) -> u32
+    ensures { IsCount (one_text (found_of words.now) name.now) unsaid result }
+{
+    words.get_one::<u32>(name).unwrap_or(unsaid)
 }
 
 /// The name of the file that is the value of this option.

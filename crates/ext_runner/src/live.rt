@@ -14,7 +14,7 @@ pub(crate) fn ended_line(
 ) -> Result<String, AllocError> {
     let mut line = String::new(alloc);
     write_word(&mut line, word_of(log), color_of(log), colored)?;
-    write_took(&mut line, log.took)?;
+    write_took(alloc, &mut line, log.took)?;
     line.push_str("  ")?;
     write_visible(&mut line, id)?;
     if log.is_flaky() {
@@ -62,21 +62,20 @@ pub(crate) fn write_word(
     text.push_str("\x1b[0m")
 }
 
-/// Writes a time in seconds, in a column of ten, at the end of a text.
-fn write_took(text: &mut String, took: Option<Duration>) -> Result<(), AllocError> {
+/// Writes a time in seconds, in a column of eleven, at the end of a text.
+fn write_took(alloc: Global, text: &mut String, took: Option<Duration>) -> Result<(), AllocError> {
+    let mut column = String::new(alloc);
     match took {
-        Some(took) => {
-            let (seconds, millis) = (took.as_secs(), took.subsec_millis());
-            write!(text, "{seconds:>5}.{millis:0>3} s")
-        }
-        None => text.push_str("          -"),
+        Some(took) => write_time(&mut column, took)?,
+        None => column.push('-')?,
     }
+    let column = column.as_str();
+    write!(text, "{column:>11}")
 }
 
 /// Writes a time in seconds at the end of a text.
 pub(crate) fn write_time(text: &mut String, took: Duration) -> Result<(), AllocError> {
-    let millis = u64::try_from(took.as_millis()).unwrap_or(u64::MAX);
-    write_seconds(text, millis)?;
+    write_seconds(text, took.as_millis())?;
     text.push_str(" s")
 }
 

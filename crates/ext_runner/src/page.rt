@@ -1,20 +1,11 @@
 //! The page of a run.
 ghost use Rattle.std.specs.Prelude.{◌<◌, All, length};
 
-use crate::run_log::Listed;
-use crate::timeline::{Delay, End, Timeline};
-use ext_page::{
-    Attempt, FaultRow, PlacedNodes, RunData, RunHead, SharedValue, Wait, Waited, page_of,
-};
-use ext_table::{LockMode, NamedLock, NodeResult, Tree};
+use crate::timeline::Timeline;
+use ext_page::{Attempt, FaultRow, PlacedNodes, RunData, RunHead, SharedValue, Wait, page_of};
+use ext_table::{NodeResult, Tree};
 use std::alloc::{AllocError, Global};
 use std::time::Duration;
-
-/// How many tests that ended before a wait did, and how many behind it, are looked at for the one
-/// that held the lock.
-const BEFORE: usize = 256;
-
-const BEHIND: usize = 64;
 
 /// What is said of a run as a whole.
 #[derive(Clone, Copy)]
@@ -30,7 +21,6 @@ pub(crate) fn page_text(
     about: About<'_>,
     tree: &Tree,
     results: &[NodeResult],
-    listed: &[Listed],
     timeline: Timeline,
     took: Option<Duration>,
 ) -> Result<String, AllocError>
@@ -38,7 +28,6 @@ pub(crate) fn page_text(
 {
     let placed = PlacedNodes::of(alloc, tree, results)?;
     let head = head_of(alloc, about, took, timeline.lost)?;
-    let for_locks = lock_waits(alloc, listed, &timeline)?;
     let Timeline {
         attempts,
         faults,
@@ -46,16 +35,12 @@ pub(crate) fn page_text(
         values,
         ..
     } = timeline;
-    let mut all_waits = placed_waits(alloc, &placed, for_locks)?;
-    for wait in placed_waits(alloc, &placed, waits)? {
-        all_waits.push(wait)?;
-    }
     let run = RunData {
         head,
         locks: copied(alloc, about.lock_names)?,
         attempts: placed_attempts(alloc, &placed, attempts)?,
         faults: placed_faults(alloc, &placed, faults)?,
-        waits: all_waits,
+        waits: placed_waits(alloc, &placed, waits)?,
         values: placed_values(alloc, &placed, values)?,
         nodes: placed.nodes,
     };
@@ -160,78 +145,4 @@ fn key_of(alloc: Global, placed: &PlacedNodes, place: usize) -> Result<String, A
         Some(node) => String::from_str(alloc, node.name.as_str()),
         None => Ok(String::new(alloc)),
     }
-}
-
-/// The delays that were waits for locks.
-fn lock_waits(
-    alloc: Global,
-    listed: &[Listed],
-    timeline: &Timeline,
-) -> Result<Vec<Wait>, AllocError> {
-    let mut waits = Vec::new(alloc);
-    for delay in timeline.delays.iter() {
-        if let Some(wait) = lock_wait(listed, timeline.ends.as_slice(), delay) {
-            waits.push(wait)?;
-        }
-    }
-    Ok(waits)
-}
-
-/// The wait of a delay, for the lock of the test that kept it last. None if no test kept it: then
-/// its thread was late.
-fn lock_wait(listed: &[Listed], ends: &[End], delay: &Delay) -> Option<Wait> {
-    let waiting = listed.get(delay.node)?;
-    let (lock, by) = holder(listed, ends, delay, waiting)?;
-    Some(Wait {
-        lane: delay.lane,
-        node: delay.node,
-        begun: delay.begun,
-        ended: delay.ended,
-        waited: Waited::ForLock(lock),
-        by: Some(by),
-    })
-}
-
-/// The lock and the test that held it last before the delay ended. It may have had to close what it
-/// shares by then, and its end may be told when the lock is taken already.
-fn holder(
-    listed: &[Listed],
-    ends: &[End],
-    delay: &Delay,
-    waiting: &Listed,
-) -> Option<(Option<usize>, usize)> {
-    let from = delay.ends.saturating_sub(BEFORE);
-    let mut last = 0;
-    let mut found = None;
-    for end in ends.iter().skip(from).take(BEFORE + BEHIND) {
-        if end.ended >= last
-            && end.ended >= delay.begun
-            && end.returned <= delay.ended
-            && end.node != delay.node
-            && let Some(other) = listed.get(end.node)
-            && let Some(lock) = lock_between(waiting, other)
-        {
-            last = end.ended;
-            found = Some((lock, end.node));
-        }
-    }
-    found
-}
-
-/// The lock that keeps two tests apart, without a place if one of them is alone.
-fn lock_between(one: &Listed, other: &Listed) -> Option<Option<usize>> {
-    if one.is_isolated || other.is_isolated {
-        return Some(None);
-    }
-    for lock in one.locks.iter() {
-        if other.locks.iter().any(|held| keep_apart(lock, held)) {
-            return Some(Some(lock.name));
-        }
-    }
-    None
-}
-
-fn keep_apart(one: &NamedLock, other: &NamedLock) -> bool {
-    let read_both = matches!(one.mode, LockMode::Read) && matches!(other.mode, LockMode::Read);
-    one.name == other.name && !read_both
 }

@@ -1,4 +1,7 @@
 //! The program of an engine.
+ghost use Rattle.std.specs.Prelude.{IfOk};
+ghost use Rattle.ext_runner.specs.InnerSelecting.{AsksTable};
+
 use crate::command::{Asked, Options, read_words};
 use crate::ending::Ending;
 use crate::page::About;
@@ -89,26 +92,42 @@ pub(crate) fn run_asked<T: Drop, F: Fn(&TestTable<T>) -> anyhow::Result<Ending>>
 ) -> anyhow::Result<Ending>
     requires { F.IsAlwaysCallable run }
 {
+    match asked_table(rt, name, table, options)? {
+        Ok(table) => run_repeated(rt, &table, options.running.repeat, run),
+        Err(ending) => Ok(ending),
+    }
+}
+
+/// The table of the tests that are run, which are those that the options select, in the order that
+/// they ask for. Or else how the program ends, which runs none.
+fn asked_table<T: Drop>(
+    rt: &HostRuntime,
+    name: &str,
+    table: TestTable<T>,
+    options: &Options,
+) -> anyhow::Result<Result<TestTable<T>, Ending>>
+    ensures { IfOk result (λ asked. IfOk asked (λ selected. AsksTable options.now table.ids.items table.rows.items selected.ids.items selected.rows.items)) }
+{
     let seed = seed_of(rt, options.running.order)?;
     let table = match selected_by(rt, table, &options.selecting, seed) {
         Ok(table) => table,
-        Err(SelectingFault::Memory) => return Ok(not_run(rt, name, Err(AllocError))),
-        Err(SelectingFault::Earlier(why)) => return Ok(not_run(rt, name, Ok(why))),
+        Err(SelectingFault::Memory) => return Ok(Err(not_run(rt, name, Err(AllocError)))),
+        Err(SelectingFault::Earlier(why)) => return Ok(Err(not_run(rt, name, Ok(why)))),
     };
     if table.rows.is_empty() {
         eprintln!(rt; "{name}: no test is selected")?;
-        Ok(Ending::NothingSelected)
+        Ok(Err(Ending::NothingSelected))
     } else if options.selecting.list {
         list(rt, &table)?;
-        Ok(Ending::Passed)
+        Ok(Err(Ending::Passed))
     } else if table.rows.len() > Size::Large.contexts() {
         let (count, most) = (table.rows.len(), Size::Large.contexts());
         let why = format!(in rt.alloc();
             "{count} nodes are selected, and a run has {most} at most"
         );
-        Ok(not_run(rt, name, why))
+        Ok(Err(not_run(rt, name, why)))
     } else {
-        run_repeated(rt, &table, options.running.repeat, run)
+        Ok(Ok(table))
     }
 }
 

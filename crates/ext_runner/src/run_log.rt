@@ -3,10 +3,10 @@ use crate::live::{ended_line, progress_line, slow_line};
 use crate::node_log::{NodeLog, ReportedFault};
 use crate::results::place_text;
 use crate::timeline::Timeline;
-use ext_page::FaultRow;
+use ext_page::{FaultRow, NodeLocks, TakenLock};
 use ext_table::{
-    Call, ContextNo, Fault, FaultOrigin, Kind, LeftOut, NamedLock, NodeResult, RunListener,
-    TableListener,
+    Call, ContextNo, Fault, FaultOrigin, Kind, LeftOut, LockMode, NamedLock, NodeResult,
+    RunListener, TableListener,
 };
 use std::alloc::{AllocError, Global};
 use std::sync::{Condvar, CondvarTimeouts, Mutex, Wait};
@@ -82,7 +82,7 @@ impl<'a, R: Wait + Clock> RunLog<'a, R> {
         }
         let tests = listed.iter().filter(|node| node.is_test).count();
         let timeline = if is_timed {
-            Some(Timeline::new(rt.alloc(), listed.len())?)
+            Some(Timeline::new(rt.alloc(), locks_of(rt.alloc(), &listed)?)?)
         } else {
             None
         };
@@ -233,6 +233,17 @@ impl<R: Wait + Clock> RunListener for RunLog<'_, R> {
         }
     }
 
+    fn called(&self, node: ContextNo, call: &Call) {
+        let now = self.now();
+        let mut state = self.state.lock(self.threads);
+        if let Some(log) = state.nodes.get_mut(node) {
+            log.call(now);
+        }
+        if let Some(timeline) = &mut state.timeline {
+            timeline.call(node, call.kind, self.micros(now));
+        }
+    }
+
     fn faulted(&self, node: ContextNo, origin: FaultOrigin, fault: &Fault) {
         let reported = reported_fault(self.rt.alloc(), origin, fault);
         let mut state = self.state.lock(self.threads);
@@ -259,7 +270,7 @@ impl<R: Wait + Clock> RunListener for RunLog<'_, R> {
             log.end(now, ran.status);
         }
         if let Some(timeline) = &mut state.timeline {
-            timeline.end(ran, self.micros(now));
+            timeline.end(ran);
         }
         if !ran.is_test {
             return;
@@ -271,6 +282,25 @@ impl<R: Wait + Clock> RunListener for RunLog<'_, R> {
             self.tell_ended(listed, log);
         }
     }
+}
+
+/// The locks of the nodes of a run. Takes memory.
+fn locks_of(alloc: Global, listed: &[Listed]) -> Result<Vec<NodeLocks>, AllocError> {
+    let mut nodes = Vec::new(alloc);
+    for node in listed {
+        let mut locks = Vec::new(alloc);
+        for lock in node.locks.iter() {
+            locks.push(TakenLock {
+                lock: lock.name,
+                writes: matches!(lock.mode, LockMode::ReadWrite),
+            })?;
+        }
+        nodes.push(NodeLocks {
+            locks,
+            is_alone: node.is_isolated,
+        })?;
+    }
+    Ok(nodes)
 }
 
 /// The origin of a fault of a node's test.
@@ -314,17 +344,6 @@ fn reported_fault(
 }
 
 impl<R: Wait + Clock> TableListener for RunLog<'_, R> {
-    fn called(&self, node: ContextNo, call: &Call) {
-        let now = self.now();
-        let mut state = self.state.lock(self.threads);
-        if let Some(log) = state.nodes.get_mut(node) {
-            log.call(now);
-        }
-        if let Some(timeline) = &mut state.timeline {
-            timeline.call(node, call.kind, self.micros(now));
-        }
-    }
-
     fn asks(&self, node: ContextNo, from: ContextNo) {
         let now = self.now();
         let mut state = self.state.lock(self.threads);
@@ -359,16 +378,18 @@ impl<R: Wait + Clock> TableListener for RunLog<'_, R> {
         }
     }
 
-    fn handed(&self, node: ContextNo, _from: ContextNo, is_new: bool) {
+    fn handed(&self, node: ContextNo, from: ContextNo, number: u32, is_new: bool) {
         let now = self.now();
         let mut state = self.state.lock(self.threads);
         if let Some(log) = state.nodes.get_mut(node) {
             log.hand(now, is_new);
         }
-        if let Some(timeline) = &mut state.timeline
-            && !is_new
-        {
-            timeline.find(node, self.micros(now));
+        if let Some(timeline) = &mut state.timeline {
+            if is_new {
+                timeline.name_value(from, number);
+            } else {
+                timeline.find(node, self.micros(now));
+            }
         }
     }
 
@@ -383,7 +404,7 @@ impl<R: Wait + Clock> TableListener for RunLog<'_, R> {
         }
     }
 
-    fn closes(&self, node: ContextNo) {
+    fn closes(&self, node: ContextNo, _number: u32) {
         if !self.is_timed {
             return;
         }
@@ -394,7 +415,7 @@ impl<R: Wait + Clock> TableListener for RunLog<'_, R> {
         }
     }
 
-    fn closed(&self, node: ContextNo, fault: Option<&Fault>) {
+    fn closed(&self, node: ContextNo, number: u32, fault: Option<&Fault>) {
         if !self.is_timed {
             return;
         }
@@ -402,7 +423,7 @@ impl<R: Wait + Clock> TableListener for RunLog<'_, R> {
         let fault = text_of(self.rt.alloc(), fault);
         let mut state = self.state.lock(self.threads);
         if let Some(timeline) = &mut state.timeline {
-            timeline.finish_close(node, fault, now);
+            timeline.finish_close(node, number, fault, now);
         }
     }
 

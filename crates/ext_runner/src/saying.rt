@@ -1,9 +1,6 @@
 //! Texts on their way to a terminal.
-ghost use Rattle.std.specs.Prelude.{◌≡◌, string_bytes, IfOk};
-ghost use Rattle.ext_runner.specs.InnerTelling.{shown_text};
-
 use crate::ending::Ending;
-use ext_report::write_visible_lines;
+use ext_report::{shown_text, write_visible_lines};
 use std::alloc::{AllocError, Global};
 use std::io::{self, IsTerminal};
 
@@ -39,21 +36,4 @@ fn line_of(
 pub(crate) fn print_lines(rt: &HostRuntime, lines: String) -> io::Result<()> {
     let shown = shown_text(rt.alloc(), lines, rt.stdout().is_terminal())?;
     print!(rt; "{}", shown.as_str())
-}
-
-/// Lines as they are printed: at a terminal with each control character escaped but their line
-/// feeds, so that no text gives an order to it. Takes memory.
-pub(crate) fn shown_text(
-    alloc: Global,
-    lines: String,
-    at_terminal: bool,
-) -> Result<String, AllocError>
-    ensures { IfOk result (λ shown. string_bytes shown ≡ shown_text at_terminal (string_bytes lines)) }
-{
-    if !at_terminal {
-        return Ok(lines);
-    }
-    let mut shown = String::new(alloc);
-    write_visible_lines(&mut shown, lines.as_str())?;
-    Ok(shown)
 }

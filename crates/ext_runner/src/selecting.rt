@@ -1,7 +1,10 @@
 //! The tests of a table that are run, in their order.
-ghost use Rattle.std.specs.Prelude.{◌≡◌, IfOk, map};
-ghost use Rattle.std.specs.List.{AllZip};
+ghost use Rattle.std.specs.Prelude.{◌≡◌, ◌++◌, IfOk, List, ℕ, map, string_bytes};
+ghost use Rattle.std.specs.List.{AllZip, flat_map};
+ghost use Rattle.std.specs.Str.Lines.{lines};
 ghost use Rattle.ext_runner.specs.InnerCommand.{IsCopy};
+ghost use Rattle.ext_runner.specs.InnerEarlierRuns.{failed_ids};
+ghost use Rattle.ext_runner.specs.InnerSelecting.{AreBelow, AreBelowAny, FailedBefore, IsSeedOf, IsSelectionOf, SelectedBy, text_at};
 ghost use Rattle.ext_runner.specs.Selecting.{IsInOrder, IsSelected, node_of};
 
 use crate::command::{Order, Selecting};
@@ -92,13 +95,17 @@ pub(crate) fn selected_by<T: Drop>(
     table: TestTable<T>,
     selecting: &Selecting,
     seed: Option<u64>,
-) -> Result<TestTable<T>, SelectingFault> {
+) -> Result<TestTable<T>, SelectingFault>
+    ensures { IfOk result (λ selected. SelectedBy selecting.now seed table.ids.items table.rows.items selected.ids.items selected.rows.items) }
+{
     let selection = selection_of(rt, &table, selecting)?;
     Ok(select(rt.alloc(), table, &selection, seed)?)
 }
 
 /// The seed of the order, if there is one. It is told, so that the order can be had again.
-pub(crate) fn seed_of(rt: &HostRuntime, order: Order) -> anyhow::Result<Option<u64>> {
+pub(crate) fn seed_of(rt: &HostRuntime, order: Order) -> anyhow::Result<Option<u64>>
+    ensures { IfOk result (IsSeedOf order) }
+{
     let seed = match order {
         Order::Listed => return Ok(None),
         Order::Seed(seed) => seed,
@@ -119,7 +126,9 @@ fn selection_of<T>(
     rt: &HostRuntime,
     table: &TestTable<T>,
     selecting: &Selecting,
-) -> Result<Selection, SelectingFault> {
+) -> Result<Selection, SelectingFault>
+    ensures { IfOk result (IsSelectionOf selecting.now table.now.ids.items table.now.rows.items) }
+{
     let failed = match &selecting.failed {
         Some(file) => Some(failed_before(rt, table, file.as_str())?),
         None => None,
@@ -153,17 +162,17 @@ fn failed_before<T>(
     rt: &HostRuntime,
     table: &TestTable<T>,
     file: &str,
-) -> Result<Vec<String>, SelectingFault> {
+) -> Result<Vec<String>, SelectingFault>
+    ensures { IfOk result (λ ids. FailedBefore table.now.ids.items table.now.rows.items (map string_bytes ids.items)) }
+{
     let alloc = rt.alloc();
     let report = match fs::read_to_string(rt, file) {
         Ok(report) => report,
         Err(why) => return Err(SelectingFault::Earlier(format!(in alloc; "{file}: {why}")?)),
     };
-    let containers = failed_in(alloc, file, report.as_str(), false)?;
     let mut ids = failed_in(alloc, file, report.as_str(), true)?;
-    if !containers.is_empty() {
-        add_below(alloc, table, containers, &mut ids)?;
-    }
+    let containers = failed_in(alloc, file, report.as_str(), false)?;
+    add_below_any(alloc, table, containers, &mut ids)?;
     Ok(ids)
 }
 
@@ -173,7 +182,9 @@ fn failed_in(
     file: &str,
     report: &str,
     are_tests: bool,
-) -> Result<Vec<String>, SelectingFault> {
+) -> Result<Vec<String>, SelectingFault>
+    ensures { IfOk result (λ ids. map string_bytes ids.items ≡ failed_ids are_tests (lines report.now)) }
+{
     match failed_ids(alloc, report, are_tests) {
         Ok(ids) => Ok(ids),
         Err(EarlierFault::Memory) => Err(SelectingFault::Memory),
@@ -184,13 +195,32 @@ fn failed_in(
     }
 }
 
+/// Adds what `add_below` does, where there are such containers.
+fn add_below_any<T>(
+    alloc: Global,
+    table: &TestTable<T>,
+    containers: Vec<String>,
+    ids: &mut Vec<String>,
+) -> Result<(), AllocError>
+    ensures { IfOk result (λ _. (added : List (List ℕ)) × AreBelowAny table.now.ids.items table.now.rows.items (map string_bytes containers.items) added
+        × (map string_bytes ids.new.items ≡ map string_bytes ids.old.items ++ added)) }
+{
+    if containers.is_empty() {
+        return Ok(());
+    }
+    add_below(alloc, table, containers, ids)
+}
+
 /// Adds the ids of all nodes of a table that stand in one of these containers, or that it stands in.
 fn add_below<T>(
     alloc: Global,
     table: &TestTable<T>,
     containers: Vec<String>,
     ids: &mut Vec<String>,
-) -> Result<(), AllocError> {
+) -> Result<(), AllocError>
+    ensures { IfOk result (λ _. (added : List (List ℕ)) × AreBelow table.now.ids.items table.now.rows.items (map string_bytes containers.items) added
+        × (map string_bytes ids.new.items ≡ map string_bytes ids.old.items ++ added)) }
+{
     let below = Selection {
         texts: containers,
         exact: true,
@@ -199,12 +229,40 @@ fn add_below<T>(
         failed: None,
     };
     let nodes = nodes_of(alloc, table.rows.as_slice())?;
-    for index in chosen(alloc, table.ids.as_slice(), nodes.as_slice(), &below)? {
-        if let Some(id) = table.ids.get(index) {
-            let mut text = String::new(alloc);
-            id.write_to(&mut text)?;
-            ids.push(text)?;
-        }
+    let indices = chosen(alloc, table.ids.as_slice(), nodes.as_slice(), &below)?;
+    add_ids(alloc, table.ids.as_slice(), indices.as_slice(), ids)
+}
+
+/// Adds the texts of the ids at these indices.
+fn add_ids(
+    alloc: Global,
+    all: &[UniqueId],
+    indices: &[usize],
+    ids: &mut Vec<String>,
+) -> Result<(), AllocError>
+    ensures { IfOk result (λ _. map string_bytes ids.new.items ≡ map string_bytes ids.old.items ++ flat_map (text_at all.now) indices.now) }
+{
+    for index in indices {
+        add_id(alloc, all, *index, ids)?;
     }
     Ok(())
+}
+
+/// Adds the text of the id at this index, if there is one.
+fn add_id(
+    alloc: Global,
+    all: &[UniqueId],
+    index: usize,
+    ids: &mut Vec<String>,
+) -> Result<(), AllocError>
+    ensures { IfOk result (λ _. map string_bytes ids.new.items ≡ map string_bytes ids.old.items ++ text_at all.now index) }
+{
+    match all.get(index) {
+        Some(id) => {
+            let mut text = String::new(alloc);
+            id.write_to(&mut text)?;
+            Ok(ids.push(text)?)
+        }
+        None => Ok(()),
+    }
 }

@@ -1,14 +1,17 @@
 //! What is reported once a run is over.
 ghost use Rattle.std.specs.Prelude.{◌≡◌, ◌<◌, All, IfOk, length, map, string_bytes};
 ghost use Rattle.ext_lifecycle.specs.FaultTexts.{results_view};
+ghost use Rattle.ext_report.specs.Extras.{texts_view};
 ghost use Rattle.ext_report.specs.JsonLines.{json_with};
+ghost use Rattle.ext_report.specs.JunitXml.{junit_with};
 ghost use Rattle.ext_report.specs.Report.{report_with};
 ghost use Rattle.ext_report.specs.TreeLines.{tree_with};
-ghost use Rattle.ext_runner.specs.InnerTelling.{ending_of, with_indented_fault};
+ghost use Rattle.ext_runner.specs.InnerTelling.{earlier_texts, ending_of, with_indented_fault};
 
 use crate::command::{ColorChoice, Form, Telling};
 use crate::ending::Ending;
 use crate::live::write_time;
+use crate::node_log::NodeLog;
 use crate::page::{About, page_text};
 use crate::results::{ReportedResults, indented};
 use crate::run_log::{Listed, State};
@@ -17,13 +20,13 @@ use crate::summary::summary;
 use crate::timeline::Timeline;
 use ext_report::{
     NodeResult, any_failed, json_report_with, junit_report_with, report_text_with,
-    tree_report_with, write_visible,
+    tree_report_with, wants_colors, write_visible,
 };
 use ext_tree::Tree;
 use std::alloc::{AllocError, Global};
+use std::fs;
 use std::io::{self, ErrorKind, IsTerminal, Write};
 use std::time::Duration;
-use std::{env, fs};
 
 /// Tells of a run on standard output and in files, as is asked. A file that can't be written is told,
 /// and keeps nothing else from being written. Answers how the program ends.
@@ -41,10 +44,11 @@ pub(crate) fn tell(
     requires { All (λ r. r.node < length tree.now) reported.now.results.items }
 {
     let alloc = rt.alloc();
-    let mut are_written = write_files(rt, about.name, tree, reported, telling);
+    let logs = state.nodes.as_slice();
+    let mut are_written = write_files(rt, about.name, tree, reported, logs, telling);
     if let (Some(file), Some(timeline)) = (&telling.html, timeline) {
         let results = reported.results.as_slice();
-        let page = page_text(alloc, about, tree, results, listed, timeline, took);
+        let page = page_text(alloc, about, tree, results, timeline, took);
         are_written &= is_written(rt, about.name, file.as_str(), bytes_of(page));
     }
     if telling.durations > 0 {
@@ -74,15 +78,15 @@ fn write_files(
     name: &str,
     tree: &Tree,
     reported: &ReportedResults,
+    logs: &[NodeLog],
     telling: &Telling,
 ) -> bool
     requires { All (λ r. r.node < length tree.now) reported.now.results.items }
 {
     let mut are_written = true;
     if let Some(file) = &telling.junit {
-        let (results, extras) = (reported.results.as_slice(), reported.extras.as_slice());
-        let text = junit_report_with(rt.alloc(), tree, results, extras);
-        are_written &= is_written(rt, name, file.as_str(), bytes_of(text));
+        let bytes = xml_of(rt.alloc(), tree, reported, logs);
+        are_written &= is_written(rt, name, file.as_str(), bytes);
     }
     if let Some(file) = &telling.json {
         let bytes = json_of(rt.alloc(), tree, reported);
@@ -129,6 +133,33 @@ fn ending_of(results: &[NodeResult], are_written: bool) -> Ending
     } else {
         Ending::Passed
     }
+}
+
+/// The report in JUnit's XML, with what the attempts of flaky tests said.
+fn xml_of(
+    alloc: Global,
+    tree: &Tree,
+    reported: &ReportedResults,
+    logs: &[NodeLog],
+) -> Result<Vec<u8>, AllocError>
+    requires { All (λ r. r.node < length tree.now) reported.now.results.items }
+    ensures { IfOk result (λ bytes. bytes.items ≡ junit_with reported.now.extras.items (earlier_texts logs.now) tree.now (results_view reported.now.results.items)) }
+{
+    let (results, extras) = (reported.results.as_slice(), reported.extras.as_slice());
+    let earlier = earlier_texts(alloc, logs)?;
+    let text = junit_report_with(alloc, tree, results, extras, earlier.as_slice())?;
+    Ok(text.into_bytes())
+}
+
+/// What the attempts of each node before its last said.
+fn earlier_texts<'l>(alloc: Global, logs: &'l [NodeLog]) -> Result<Vec<&'l [String]>, AllocError>
+    ensures { IfOk result (λ earlier. texts_view earlier.items ≡ earlier_texts logs.now) }
+{
+    let mut earlier = Vec::new(alloc);
+    for log in logs {
+        earlier.push(log.earlier.as_slice())?;
+    }
+    Ok(earlier)
 }
 
 /// The report in JSON.
@@ -188,11 +219,7 @@ fn slowest(
 }
 
 /// Writes how long a test took, and what it waited for.
-fn write_slow(
-    text: &mut String,
-    id: &str,
-    log: &crate::node_log::NodeLog,
-) -> Result<(), AllocError> {
+fn write_slow(text: &mut String, id: &str, log: &NodeLog) -> Result<(), AllocError> {
     text.push_str("took ")?;
     write_time(text, log.took.unwrap_or(Duration::ZERO))?;
     text.push_str("  ")?;
@@ -220,17 +247,4 @@ pub(crate) fn is_colored(rt: &HostRuntime, color: ColorChoice, at_terminal: bool
         ColorChoice::Never => false,
         ColorChoice::Auto => at_terminal && wants_colors(rt),
     }
-}
-
-/// Whether the user wants colours.
-fn wants_colors(rt: &HostRuntime) -> bool {
-    let no_color = match env::var(rt, "NO_COLOR") {
-        Ok(value) => !value.is_empty(),
-        Err(why) => why != env::VarError::NotPresent,
-    };
-    let is_dumb = match env::var(rt, "TERM") {
-        Ok(value) => value.as_str() == "dumb",
-        Err(_) => false,
-    };
-    !no_color && !is_dumb
 }

@@ -1,11 +1,10 @@
 //! The course of a run over time, noted while it lasts, for its page. Times are microseconds since
 //! the run began.
-use ext_page::{Attempt, Closing, FaultRow, SharedValue, Wait, Waited};
+use ext_page::{
+    Attempt, Closing, FaultRow, Holders, LEAST_WAIT, NodeLocks, SharedValue, Wait, Waited,
+};
 use ext_table::{ContextNo, Kind, NodeResult, Status};
 use std::alloc::{AllocError, Global};
-
-/// How long a wait is that is noted.
-const LEAST_WAIT: u64 = 100;
 
 /// What a call asked for.
 #[derive(Clone, Copy)]
@@ -28,6 +27,8 @@ struct Calls {
 struct Course {
     lane: usize,
     started: u64,
+    /// How many tests had ended by then.
+    ends: usize,
     /// The calls of a container before its children, once those behind them began.
     before: Option<Calls>,
     /// When its attempt began that runs: the first with its first call. Of a container those of its
@@ -43,28 +44,10 @@ struct Course {
     asked: Option<Asked>,
     /// The place of the value that it shares, once it was made.
     value: Option<usize>,
-    /// When the close of that value began.
+    /// The number of that value, once its maker was handed it.
+    number: Option<u32>,
+    /// When a close of a value of its context began.
     closes: u64,
-}
-
-/// A time between the start of a test and its first call.
-#[derive(Clone, Copy)]
-pub(crate) struct Delay {
-    pub(crate) lane: usize,
-    pub(crate) node: ContextNo,
-    pub(crate) begun: u64,
-    pub(crate) ended: u64,
-    /// How many tests had ended by then.
-    pub(crate) ends: usize,
-}
-
-/// The end of a test. It gave its locks back between the two times.
-#[derive(Clone, Copy)]
-pub(crate) struct End {
-    pub(crate) node: ContextNo,
-    /// When the last of its calls ended.
-    pub(crate) returned: u64,
-    pub(crate) ended: u64,
 }
 
 /// The course of a run.
@@ -73,24 +56,22 @@ pub(crate) struct Timeline {
     courses: Vec<Course>,
     pub(crate) attempts: Vec<Attempt>,
     pub(crate) faults: Vec<FaultRow>,
-    /// Waits for values.
     pub(crate) waits: Vec<Wait>,
-    pub(crate) delays: Vec<Delay>,
-    /// The ends of tests, in the order in which they came.
-    pub(crate) ends: Vec<End>,
+    holders: Holders,
     pub(crate) values: Vec<SharedValue>,
     /// Whether something was lost for want of memory.
     pub(crate) lost: bool,
 }
 
 impl Timeline {
-    /// Nothing is known of so many nodes. Takes memory.
-    pub(crate) fn new(alloc: Global, nodes: usize) -> Result<Timeline, AllocError> {
+    /// Nothing is known of nodes with these locks. Takes memory.
+    pub(crate) fn new(alloc: Global, nodes: Vec<NodeLocks>) -> Result<Timeline, AllocError> {
         let mut courses = Vec::new(alloc);
-        for _ in 0..nodes {
+        for _ in nodes.as_slice() {
             courses.push(Course {
                 lane: 0,
                 started: 0,
+                ends: 0,
                 before: None,
                 begun: None,
                 returned: 0,
@@ -98,6 +79,7 @@ impl Timeline {
                 is_behind: false,
                 asked: None,
                 value: None,
+                number: None,
                 closes: 0,
             })?;
         }
@@ -106,17 +88,18 @@ impl Timeline {
             attempts: Vec::new(alloc),
             faults: Vec::new(alloc),
             waits: Vec::new(alloc),
-            delays: Vec::new(alloc),
-            ends: Vec::new(alloc),
+            holders: Holders::new(alloc, nodes),
             values: Vec::new(alloc),
             lost: false,
         })
     }
 
     pub(crate) fn start(&mut self, node: ContextNo, lane: usize, now: u64) {
+        let ends = self.holders.ended();
         if let Some(course) = self.courses.get_mut(node) {
             course.lane = lane;
             course.started = now;
+            course.ends = ends;
         }
     }
 
@@ -132,18 +115,32 @@ impl Timeline {
             return;
         }
         course.begun = Some(now);
-        let delay = Delay {
-            lane: course.lane,
-            node,
-            begun: course.started,
-            ended: now,
-            ends: self.ends.len(),
-        };
-        let is_test = !matches!(kind, Kind::BeforeAll | Kind::AfterAll);
-        if is_test && now.saturating_sub(course.started) >= LEAST_WAIT {
-            let kept = self.delays.push(delay);
+        if !matches!(kind, Kind::BeforeAll | Kind::AfterAll) {
+            let kept = self.note_locks(node, now);
             self.keep(kept.is_ok());
         }
+    }
+
+    /// A test has its locks. It waited for the last of them if another one kept it meanwhile.
+    fn note_locks(&mut self, node: ContextNo, now: u64) -> Result<(), AllocError> {
+        let Some(course) = self.courses.get(node) else {
+            return Ok(());
+        };
+        let (lane, begun) = (course.lane, course.started);
+        let held = self.holders.begin(node, course.ends)?;
+        if let Some(held) = held
+            && now.saturating_sub(begun) >= LEAST_WAIT
+        {
+            self.waits.push(Wait {
+                lane,
+                node,
+                begun,
+                ended: now,
+                waited: Waited::ForLock(held.lock),
+                by: Some(held.by),
+            })?;
+        }
+        Ok(())
     }
 
     /// The call that runs asks for what the node `from` shares.
@@ -182,6 +179,13 @@ impl Timeline {
         if let Some(value) = self.value_of(from) {
             value.ended = now;
             value.fault = fault;
+        }
+    }
+
+    /// The call was handed what it made for the node `from`: a value of this number.
+    pub(crate) fn name_value(&mut self, from: ContextNo, number: u32) {
+        if let Some(course) = self.courses.get_mut(from) {
+            course.number = Some(number);
         }
     }
 
@@ -244,7 +248,7 @@ impl Timeline {
     }
 
     /// A node ended so, and with it the last attempt of a test.
-    pub(crate) fn end(&mut self, ran: &NodeResult, now: u64) {
+    pub(crate) fn end(&mut self, ran: &NodeResult) {
         let node = ran.node;
         let Some(course) = self.courses.get(node) else {
             return;
@@ -265,34 +269,33 @@ impl Timeline {
             let status = status_of(ran, has_fault);
             self.note_attempt(node, lane, begun, returned, status);
         }
-        if ran.is_test && begun.is_some() {
-            let kept = self.ends.push(End {
-                node,
-                returned,
-                ended: now,
-            });
+        if ran.is_test {
+            let kept = self.holders.end(node);
             self.keep(kept.is_ok());
         }
     }
 
-    /// The close of what a node shares begins.
+    /// The close of a value of a node's context begins.
     pub(crate) fn close(&mut self, node: ContextNo, now: u64) {
         if let Some(course) = self.courses.get_mut(node) {
             course.closes = now;
         }
     }
 
-    /// The close ended, or failed with this fault. All values of a context are closed, the latest
-    /// first. What the node shares was there before its calls could keep another one, so its close
-    /// is the last.
-    pub(crate) fn finish_close(&mut self, node: ContextNo, fault: Option<String>, now: u64) {
+    /// The close of the value of this number ended, or failed with this fault. It is noted if the
+    /// value is what the node shares.
+    pub(crate) fn finish_close(
+        &mut self,
+        node: ContextNo,
+        number: u32,
+        fault: Option<String>,
+        now: u64,
+    ) {
         let (lane, begun) = match self.courses.get(node) {
-            Some(course) => (course.lane, course.closes),
-            None => return,
+            Some(course) if course.number == Some(number) => (course.lane, course.closes),
+            _ => return,
         };
-        if let Some(value) = self.value_of(node)
-            && value.fault.is_none()
-        {
+        if let Some(value) = self.value_of(node) {
             value.closing = Some(Closing {
                 lane,
                 begun,

@@ -18,9 +18,6 @@ pub enum LeftOut {
 /// what it shares. Within a call first come what it is handed, the outermost first, and then, if it
 /// is a test, its attempts. An own rule.
 pub trait TableListener: RunListener {
-    /// A call of the node begins. A test has its locks.
-    fn called(&self, _node: ContextNo, _call: &Call) {}
-
     /// The call asks for what the node `from` shares. It may wait for it, or make it.
     fn asks(&self, _node: ContextNo, _from: ContextNo) {}
 
@@ -30,8 +27,8 @@ pub trait TableListener: RunListener {
     /// The call has made it, or failed to with this fault.
     fn made(&self, _node: ContextNo, _from: ContextNo, _fault: Option<&Fault>) {}
 
-    /// The call was handed it. It has made it if it is new, or else found it.
-    fn handed(&self, _node: ContextNo, _from: ContextNo, _is_new: bool) {}
+    /// The call was handed it, a value of this number. It has made it if it is new, or else found it.
+    fn handed(&self, _node: ContextNo, _from: ContextNo, _number: u32, _is_new: bool) {}
 
     /// An attempt of the test begins: the first is 1.
     fn tries(&self, _node: ContextNo, _attempt: u32) {}
@@ -43,12 +40,12 @@ pub trait TableListener: RunListener {
     /// The call has ended.
     fn returned(&self, _node: ContextNo, _call: &Call) {}
 
-    /// A value of the node's context is closed, the latest first: what the node shares, or what a test
-    /// has kept there by its lane.
-    fn closes(&self, _node: ContextNo) {}
+    /// The value of this number in the node's context is closed, the latest first: what the node
+    /// shares, or what a test has kept there by its lane. A number is that of one value.
+    fn closes(&self, _node: ContextNo, _number: u32) {}
 
     /// It was closed, or its close failed with this fault, which is told as that of the node, too.
-    fn closed(&self, _node: ContextNo, _fault: Option<&Fault>) {}
+    fn closed(&self, _node: ContextNo, _number: u32, _fault: Option<&Fault>) {}
 
     /// The node was left out, with all nodes below it.
     fn left_out(&self, _node: ContextNo, _why: LeftOut) {}

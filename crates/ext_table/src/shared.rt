@@ -10,7 +10,7 @@ ghost use Rattle.ext_table.specs.declared.engine.Kept.{Kept};
 use crate::suite::TableSuite;
 use crate::{Engine, Kept, Scope, TableListener};
 use ext_model::{ContextNo, Fault};
-use ext_store::{Lane, Store};
+use ext_store::{Lane, Made, Store};
 use ext_tree::Key;
 use std::alloc::{AllocError, Global};
 use std::sync::Wait;
@@ -121,17 +121,17 @@ impl<E: Engine, L: TableListener> TableSuite<'_, E, L> {
         };
         self.listener.asks(node, at);
         let above = handing.values.as_slice();
-        let (value, is_new) = match self.value_of(rt, store, node, at, given, above, lane) {
-            Ok(found) => found,
+        let made = match self.value_of(rt, store, node, at, given, above, lane) {
+            Ok(made) => made,
             Err(why) => return Err(why),
         };
-        self.listener.handed(node, at, is_new);
-        if is_new {
+        self.listener.handed(node, at, made.number, made.is_new);
+        if made.is_new {
             handing.computed += 1;
         } else {
             handing.found += 1;
         }
-        handing.values.push_reserved(value);
+        handing.values.push_reserved(&made.value.0);
         Ok(())
     }
 
@@ -145,7 +145,7 @@ impl<E: Engine, L: TableListener> TableSuite<'_, E, L> {
         }
     }
 
-    /// The value that a node shares with `node`, and whether it was made now.
+    /// The value that a node shares with `node`, found or made.
     fn value_of<'s, R: Wait>(
         &self,
         rt: &R,
@@ -155,11 +155,11 @@ impl<E: Engine, L: TableListener> TableSuite<'_, E, L> {
         given: &E::Given,
         above: &[&E::Shared],
         lane: &mut Lane<Kept<E::Shared>>,
-    ) -> Result<(&'s E::Shared, bool), Fault>
+    ) -> Result<Made<'s, Kept<E::Shared>>, Fault>
         requires keys { self.now.keys.now ≡ level_keys }
         requires lane { IsLaneOf store.now.id lane.old }
         requires at { at < length store.now.tree }
-        ensures hands { IfOk result (λ r. Hands store.now (E.make_gives self.now.engine.now given.now (map (λ s. s.now) above.now)) at lane.old r.1 r.0.now lane.new) }
+        ensures hands { IfOk result (λ r. Hands store.now (E.make_gives self.now.engine.now given.now (map (λ s. s.now) above.now)) at lane.old r.is_new (r.value.now).0 lane.new) }
         ensures misses { IfErr result (λ why. Misses store.now (E.make_gives self.now.engine.now given.now (map (λ s. s.now) above.now)) at lane.old why lane.new) }
         ensures lane { IsLaneOf store.now.id lane.new }
     {
@@ -179,13 +179,13 @@ impl<E: Engine, L: TableListener> TableSuite<'_, E, L> {
         above: &[&E::Shared],
         lane: &mut Lane<Kept<E::Shared>>,
         make: F,
-    ) -> Result<(&'s E::Shared, bool), Fault>
+    ) -> Result<Made<'s, Kept<E::Shared>>, Fault>
         requires keys { self.now.keys.now ≡ level_keys }
         requires lane { IsLaneOf store.now.id lane.old }
         requires at { at < length store.now.tree }
         requires factory { F.IsAlwaysCallable make }
         requires makes { (key : _) (made : _) → FnOnceReturnsAt F.FnOnce make key made → IsMade (E.make_gives self.now.engine.now given.now (map (λ s. s.now) above.now)) made }
-        ensures hands { IfOk result (λ r. Hands store.now (E.make_gives self.now.engine.now given.now (map (λ s. s.now) above.now)) at lane.old r.1 r.0.now lane.new) }
+        ensures hands { IfOk result (λ r. Hands store.now (E.make_gives self.now.engine.now given.now (map (λ s. s.now) above.now)) at lane.old r.is_new (r.value.now).0 lane.new) }
         ensures misses { IfErr result (λ why. Misses store.now (E.make_gives self.now.engine.now given.now (map (λ s. s.now) above.now)) at lane.old why lane.new) }
         ensures lane { IsLaneOf store.now.id lane.new }
     {
@@ -193,7 +193,7 @@ impl<E: Engine, L: TableListener> TableSuite<'_, E, L> {
         let key = &self.keys[level];
         let answer = store.compute_wait(rt, lane, at, key, make);
         match store.found_or_made(answer, lane) {
-            Ok(made) => Ok((&made.value.0, made.is_new)),
+            Ok(made) => Ok(made),
             Err(why) => Err(why),
         }
     }

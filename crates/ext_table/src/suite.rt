@@ -4,7 +4,6 @@ ghost use Rattle.ext_locks.specs.Names.{texts_of};
 ghost use Rattle.ext_store.specs.Stores.{IsLaneOf};
 ghost use Rattle.ext_engine.specs.Suites.{asks};
 ghost use Rattle.ext_table.specs.InnerSharing.{level_keys};
-ghost use Rattle.ext_table.specs.Lending.{IsMoved, MovesInCall};
 ghost use Rattle.ext_table.specs.Stops.{IsVerdictOf};
 ghost use Rattle.ext_table.specs.TableCalls.{CallsBack, CallsKind, IsTried, TableCall, TriesRow, most_attempts};
 ghost use Rattle.ext_table.specs.Tables.{asked, callbacks_in, reserved_in};
@@ -61,16 +60,16 @@ impl<E: Engine, L: TableListener> CloseAction<Kept<E::Shared>> for Closing<'_, E
 
     ghost close_gives = { λ before number kept closed after. (after ≡ before) × IsClosed (E.close_gives before.engine.now kept.0) closed };
 
-    fn close(&mut self, _number: u32, kept: &Kept<E::Shared>) -> Result<(), Fault> {
-        self.listener.closes(self.node);
+    fn close(&mut self, number: u32, kept: &Kept<E::Shared>) -> Result<(), Fault> {
+        self.listener.closes(self.node, number);
         match self.engine.close(self.rt, &kept.0) {
             Ok(()) => {
-                self.listener.closed(self.node, None);
+                self.listener.closed(self.node, number, None);
                 Ok(())
             }
             Err(stop) => {
                 let fault = stop.fault(self.rt);
-                self.listener.closed(self.node, Some(&fault));
+                self.listener.closed(self.node, number, Some(&fault));
                 self.listener.faulted(self.node, FaultOrigin::Close, &fault);
                 Err(fault)
             }
@@ -314,8 +313,7 @@ impl<E: Engine, L: TableListener> TableSuite<'_, E, L> {
     ) -> Verdict
         requires { IsLaneOf store.now.id lane.old }
         ensures lane { IsLaneOf store.now.id lane.new }
-        ensures moved { MovesInCall (E.lane_gives self.now.engine.now node) call.now.kind lane.old lane.new }
-        ensures calls { CallsKind (E.test_gives self.now.engine.now) self.now.attempts self.now.rows.now call.now.kind call.now.from call.now.index (map (λ s. s.now) shared.now) result }
+        ensures calls { CallsKind (E.test_gives self.now.engine.now) (E.lane_gives self.now.engine.now node) self.now.attempts self.now.rows.now call.now.kind call.now.from call.now.index (map (λ s. s.now) shared.now) lane.old result lane.new }
     {
         match call.kind {
             Kind::Test => self.try_test(threads, store, node, call.from, lane, shared),
@@ -367,8 +365,7 @@ impl<E: Engine, L: TableListener> TableSuite<'_, E, L> {
     ) -> Verdict
         requires { IsLaneOf store.now.id lane.old }
         ensures lane { IsLaneOf store.now.id lane.new }
-        ensures moved { IsMoved (E.lane_gives self.now.engine.now node) lane.old lane.new }
-        ensures tries { TriesRow (E.test_gives self.now.engine.now) self.now.attempts (slice_get self.now.rows.now from) (map (λ s. s.now) shared.now) result }
+        ensures tries { TriesRow (E.test_gives self.now.engine.now) (E.lane_gives self.now.engine.now node) self.now.attempts (slice_get self.now.rows.now from) (map (λ s. s.now) shared.now) lane.old result lane.new }
     {
         let Some(row) = self.rows.get(from) else {
             return Verdict::Successful;
@@ -403,8 +400,7 @@ impl<E: Engine, L: TableListener> TableSuite<'_, E, L> {
         requires lane { IsLaneOf store.now.id lane.old }
         requires most { 1 ≤ most }
         ensures lane { IsLaneOf store.now.id lane.new }
-        ensures moved { IsMoved (E.lane_gives self.now.engine.now node) lane.old lane.new }
-        ensures tried { IsTried (E.test_gives self.now.engine.now given.now (map (λ s. s.now) shared.now)) most result }
+        ensures tried { IsTried (E.test_gives self.now.engine.now given.now (map (λ s. s.now) shared.now)) (E.lane_gives self.now.engine.now node) most lane.old result lane.new }
     {
         let rt = self.rt;
         let test = Scope {

@@ -20,7 +20,7 @@ module _ (Written Weaker : List ℕ → Type 0) (weaker : (text : List ℕ) → 
   done-weaker (tasks.CheckAll size) input summary is = (is.0, is.1, weaker is.0 is.2)
   done-weaker (tasks.Draw size) input summary is = (is.0, is.1, weaker is.0 is.2)
   done-weaker (tasks.CheckRaces size form) input summary is = (is.0, is.1, weaker is.0 is.2)
-  done-weaker (tasks.Lint size) input summary is = (is.0, is.1, weaker is.0 is.2)
+  done-weaker (tasks.Lint size form) input summary is = (is.0, is.1, weaker is.0 is.2)
 
   one_done-weaker : (task : Task) (input : List ℕ) (summary : Summary) → IsOneDone task input summary Written → IsOneDone task input summary Weaker
   one_done-weaker (tasks.Run options asked color asides) input summary is = λ lanes. written-weaker (ReportsOne options (plan_of_input options.size input)) summary (is lanes)
@@ -28,7 +28,7 @@ module _ (Written Weaker : List ℕ → Type 0) (weaker : (text : List ℕ) → 
   one_done-weaker (tasks.CheckAll size) input summary is = tt
   one_done-weaker (tasks.Draw size) input summary is = tt
   one_done-weaker (tasks.CheckRaces size form) input summary is = tt
-  one_done-weaker (tasks.Lint size) input summary is = tt
+  one_done-weaker (tasks.Lint size form) input summary is = tt
 
 module _ (task : Task) (input : List ℕ) (old done now : Option (List ℕ)) (kept : is_for_people task ≡ false → now ≡ done) where
   appended : (text : List ℕ) → Appends old done text → AppendsFor task old now text

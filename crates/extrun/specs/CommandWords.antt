@@ -32,14 +32,14 @@ abbrev pub check_with : Bool → Bool → Bool → Bool → ListForm → Size �
 check_with lint races tree all form size =
     if not lint then check_as races tree all form size
     else if races || tree || all then None
-    else Some (tasks.Lint size)
+    else Some (tasks.Lint size form)
 
--- The same where a form may be asked for, which is only that of races. Without one they are lines.
+-- The same where a form may be asked for, which is only that of races and notes. Without one they are lines.
 abbrev pub check_in : Option ListForm → Bool → Bool → Bool → Bool → Size → Option Task
 check_in form lint races tree all size =
-    if is_some form && not races then None else check_with lint races tree all (unwrap_or form forms.Lines) size
+    if is_some form && not races && not lint then None else check_with lint races tree all (unwrap_or form forms.Lines) size
 
--- The form of races that the text after `--report` asks for, if there is one.
+-- The form of races or notes that the text after `--report` asks for, if there is one.
 pub record IsListForm (text : Option Text) (form : Option ListForm) : Type 0 where
   pub none : text ≡ None → form ≡ None
   pub object : text ≡ Some (codes "json") → form ≡ Some forms.Json
@@ -78,8 +78,8 @@ abbrev pub AsksTask : List Row → Option Task → Request → Type 0
 AsksTask rows (Some task) request = AsksOfPlan rows (λ asked files. (asked ≡ task) × IsPlanAlone rows files) request
 AsksTask rows None request = request ≡ requests.Refused
 
--- To list the plan's races if `--races` is set, in the form that `--report` asks for, to draw it if `--tree` is set, to
--- note its mistakes if `--lint` is set, and otherwise to check it, with all faults if `--all` is set.
+-- To list the plan's races if `--races` is set, or note its mistakes if `--lint` is set, in the form that `--report`
+-- asks for, to draw it if `--tree` is set, and otherwise to check it, with all faults if `--all` is set.
 pub record AsksCheck (rows : List Row) (request : Request) : Type 0 where
   pub races : Bool
   pub tree : Bool

@@ -5,15 +5,11 @@
 --
 -- At most four nodes are named; the others are counted, as ` and 2 more`. If none is running, the line ends after
 -- `nodes`.
-use Rattle.std.specs.Prelude.{ℕ, Bool, ◌-◌, ◌==◌, codes, List, [], ◌∷◌, ◌++◌, length, map, take, if◌then◌else◌}
+use Rattle.std.specs.Prelude.{ℕ, ◌-◌, ◌==◌, codes, List, [], ◌∷◌, ◌++◌, length, map, take, if◌then◌else◌}
 use Rattle.std.specs.List.{flat_map}
 use Rattle.std.specs.Fmt.{decimal}
-use Rattle.ext_report.specs.TerminalLines.{visible_lines}
+pub use Rattle.ext_report.specs.TerminalLines.{shown_text}
 use Rattle.extrun.specs.declared.running.RunningNode.{RunningNode}
-
--- Lines as they are printed: for a terminal each control character but the line feeds is escaped.
-abbrev pub shown_text : Bool → List ℕ → List ℕ
-shown_text for_terminal lines = if for_terminal then visible_lines lines else lines
 
 -- A node that is running, by its id.
 pub record NodeOnLane : Type 0 where

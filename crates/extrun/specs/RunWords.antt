@@ -80,7 +80,7 @@ AsksRun rows (tasks.Check size) = ⊥
 AsksRun rows (tasks.CheckAll size) = ⊥
 AsksRun rows (tasks.Draw size) = ⊥
 AsksRun rows (tasks.CheckRaces size form) = ⊥
-AsksRun rows (tasks.Lint size) = ⊥
+AsksRun rows (tasks.Lint size form) = ⊥
 
 -- Without a command: a run on four lanes, over the store for several threads, of a plan of usual size.
 abbrev pub wordless_run : Task
@@ -97,7 +97,7 @@ of_run change (tasks.Check size) = tasks.Check size
 of_run change (tasks.CheckAll size) = tasks.CheckAll size
 of_run change (tasks.Draw size) = tasks.Draw size
 of_run change (tasks.CheckRaces size form) = tasks.CheckRaces size form
-of_run change (tasks.Lint size) = tasks.Lint size
+of_run change (tasks.Lint size form) = tasks.Lint size form
 
 abbrev pub is_always : ColorChoice → Bool
 is_always colors.Auto = false

@@ -41,7 +41,7 @@ IsOneReported options input summary Written =
     IsReportWritten (ReportsOne options (plan_of_input options.size input)) summary Written
 
 -- The task was done with the plan of this input. What was written is the report of a run with exactly these options,
--- the line of the plan's counts, its drawing, its races in this form or its notes; then the summary says whether there
+-- the line of the plan's counts, its drawing, or its races or notes in this form; then the summary says whether there
 -- is one.
 abbrev pub IsDone : Task → List ℕ → Summary → (List ℕ → Type 0) → Type 0
 IsDone (tasks.Run options asked color asides) input summary Written =
@@ -54,8 +54,8 @@ IsDone (tasks.Draw size) input summary Written = (text : List ℕ) × IsTextOf d
     × Written text
 IsDone (tasks.CheckRaces size form) input summary Written = (text : List ℕ)
     × IsRacesOf form (plan_of_input size input) text summary.failed × Written text
-IsDone (tasks.Lint size) input summary Written = (text : List ℕ)
-    × IsNotesOf (plan_of_input size input) text summary.failed × Written text
+IsDone (tasks.Lint size form) input summary Written = (text : List ℕ)
+    × IsNotesOf form (plan_of_input size input) text summary.failed × Written text
 
 -- If the task is a run, what was written is the one report in this sense. Other tasks run no plan.
 abbrev pub IsOneDone : Task → List ℕ → Summary → (List ℕ → Type 0) → Type 0
@@ -65,7 +65,7 @@ IsOneDone (tasks.Check size) input summary Written = Unit {0}
 IsOneDone (tasks.CheckAll size) input summary Written = Unit {0}
 IsOneDone (tasks.Draw size) input summary Written = Unit {0}
 IsOneDone (tasks.CheckRaces size form) input summary Written = Unit {0}
-IsOneDone (tasks.Lint size) input summary Written = Unit {0}
+IsOneDone (tasks.Lint size form) input summary Written = Unit {0}
 
 -- Why a run with exactly these options has no report. An input that is too long, a refused plan and a refused run are
 -- reported as such, and nothing else is.
@@ -79,7 +79,7 @@ IsUndone (tasks.Check size) input fault = RefusedUnrun fault (plan_of_input size
 IsUndone (tasks.CheckAll size) input fault = RefusedUnrun fault (plan_of_input size input)
 IsUndone (tasks.Draw size) input fault = RefusedUnrun fault (plan_of_input size input)
 IsUndone (tasks.CheckRaces size form) input fault = RefusedUnrun fault (plan_of_input size input)
-IsUndone (tasks.Lint size) input fault = RefusedUnrun fault (plan_of_input size input)
+IsUndone (tasks.Lint size form) input fault = RefusedUnrun fault (plan_of_input size input)
 
 -- What a run of this plan with exactly these options came to, if it was read: a report of it was written, which is the
 -- one report if the plan has one, or why there is none.
@@ -113,7 +113,7 @@ is_for_people (tasks.Check size) = false
 is_for_people (tasks.CheckAll size) = false
 is_for_people (tasks.Draw size) = false
 is_for_people (tasks.CheckRaces size form) = false
-is_for_people (tasks.Lint size) = false
+is_for_people (tasks.Lint size form) = false
 
 -- This text was appended and nothing else, unless it is for people.
 abbrev pub AppendsFor : Task → Option (List ℕ) → Option (List ℕ) → List ℕ → Type 0

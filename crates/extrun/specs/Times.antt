@@ -1,13 +1,7 @@
 -- How a time is told. Times are numbers of nanoseconds.
-use Rattle.std.specs.Prelude.{ℕ, ◌/◌, ◌%◌, codes, List, ◌++◌}
-use Rattle.std.specs.Fmt.{decimal}
+use Rattle.std.specs.Prelude.{ℕ, ◌/◌, codes, List, ◌++◌}
+use Rattle.ext_report.specs.Extras.{seconds}
 
--- Whole seconds and milliseconds, for instance `0.123 s`.
-unfoldable pub time_text : ℕ → ℕ → List ℕ
-time_text seconds millis =
-    decimal seconds ++ codes "." ++ decimal (millis / 100) ++ decimal (millis / 10 % 10) ++ decimal (millis % 10)
-    ++ codes " s"
-
--- The same of a time, without what is less than a millisecond.
+-- In seconds, for instance `0.123 s`, without what is less than a millisecond.
 abbrev pub seconds_text : ℕ → List ℕ
-seconds_text nanos = time_text (nanos / 1000000000) (nanos % 1000000000 / 1000000)
+seconds_text nanos = seconds (nanos / 1000000) ++ codes " s"

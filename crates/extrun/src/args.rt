@@ -72,7 +72,7 @@ pub(crate) fn race_report_option<'a>(alloc: Global) -> Arg<'a>
         .long("report")
         .value_name("FORM")
         .help(
-            "How --races writes them: `text` by lines, `json` as one\nobject; without it by lines",
+            "How --races and --lint write them: `text` by lines,\n`json` as one object; without it by\nlines",
         )
         .action(ArgAction::Set)
         .value_parser(["text", "json"].as_slice())

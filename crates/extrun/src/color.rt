@@ -3,8 +3,9 @@ ghost use Rattle.std.specs.Prelude.{◌≡◌, Bool};
 ghost use Rattle.extrun.specs.RunWords.{form_at, is_always, is_colored, shown_at, escaped_at};
 
 use crate::command::{Asides, Task};
+pub(crate) use ext_report::is_dumb;
+use ext_report::wants_colors;
 use ext_run::{Options, ReportForm};
-use std::env;
 use std::rt::Env;
 
 /// When a report for people has colours.
@@ -106,26 +107,5 @@ fn is_colored<R: Env + AllocGlobal>(rt: &R, color: ColorChoice) -> bool
         ColorChoice::Always => true,
         ColorChoice::Never => false,
         ColorChoice::Auto => wants_colors(rt),
-    }
-}
-
-/// Tests whether the user wants colours. No contract says so: the kit has none of the environment.
-fn wants_colors<R: Env + AllocGlobal>(rt: &R) -> bool {
-    !has_no_color(rt) && !is_dumb(rt)
-}
-
-/// Tests whether `NO_COLOR` is there and not empty.
-fn has_no_color<R: Env + AllocGlobal>(rt: &R) -> bool {
-    match env::var(rt, "NO_COLOR") {
-        Ok(value) => !value.is_empty(),
-        Err(fault) => fault != env::VarError::NotPresent,
-    }
-}
-
-/// Tests whether the terminal knows no orders: whether `TERM` is `dumb`.
-pub(crate) fn is_dumb<R: Env + AllocGlobal>(rt: &R) -> bool {
-    match env::var(rt, "TERM") {
-        Ok(value) => value.as_str() == "dumb",
-        Err(_) => false,
     }
 }

@@ -19,6 +19,7 @@ use crate::args::{
     make_flag, plan_file, progress_flag, race_report_option, races_flag, report_option,
     report_tree_flag, store_option,
 };
+use crate::clash::clash_in;
 use crate::color::ColorChoice;
 use crate::help::{AFTER_HELP, VERSION};
 use crate::screen::{is_broken_pipe, shown_text};
@@ -106,8 +107,11 @@ pub(crate) enum Task {
         size: Size,
         form: ListForm,
     },
-    /// Writes its notes, if it is no larger than this.
-    Lint(Size),
+    /// Writes its notes in this form, if it is no larger than this.
+    Lint {
+        size: Size,
+        form: ListForm,
+    },
 }
 
 /// What a run says on standard error, beside its report.
@@ -129,7 +133,7 @@ impl Task {
         match self {
             Task::Run { options, .. } => options.size,
             Task::Check(size) | Task::CheckAll(size) => size,
-            Task::Draw(size) | Task::CheckRaces { size, .. } | Task::Lint(size) => size,
+            Task::Draw(size) | Task::CheckRaces { size, .. } | Task::Lint { size, .. } => size,
         }
     }
 }
@@ -139,8 +143,8 @@ impl Task {
 /// - `run`, with `--lanes` of 1 to 16, `--store plain` or `cells`, `--report text`, `json` or
 ///   `junit` or else `--tree`, `--junit` and `--json` of a file, `--color` of `auto`, `always` or
 ///   `never`, `--progress`, `--durations` and `--failures`;
-/// - `check`, with `--races`, and then `--report text` or `json`, or with `--tree`, `--all` or
-///   `--lint`;
+/// - `check`, with `--races` or `--lint`, and then `--report text` or `json`, or with `--tree` or
+///   `--all`;
 /// - `id`, with one text, or with `--make` and parts.
 ///
 /// `run` and `check` take a file and `--large`, and all take `--explain` or `--brief`. No word at
@@ -347,11 +351,11 @@ fn check_request<R: AllocGlobal + Eprint>(
     let form = list_form_in(words);
     match check_in(form, lint, races, tree, all, size_in(words)) {
         Some(task) => Ok(plan_request(task, plan_alone(rt.alloc(), words)?, words)),
-        None => Ok(mistake(rt, clash_in(form, lint, races, tree))),
+        None => Ok(mistake(rt, clash_in(form.is_some(), lint, races, tree))),
     }
 }
 
-/// The form of races by `--report`, if it is given.
+/// The form of races or notes by `--report`, if it is given.
 fn list_form_in(words: &ArgMatches<'_>) -> Option<ListForm>
     ensures { IsListForm (first_value (found_of words.now) (codes "report")) result }
 {
@@ -372,7 +376,7 @@ fn list_form_of(form: &str) -> ListForm
     }
 }
 
-/// The task of `check` for a plan of this size by these flags. A form goes with `--races` alone.
+/// The task of `check` for a plan of this size by these flags. A form goes with `--races` and `--lint`.
 fn check_in(
     form: Option<ListForm>,
     lint: bool,
@@ -383,7 +387,7 @@ fn check_in(
 ) -> Option<Task>
     ensures { result ≡ check_in form lint races tree all size }
 {
-    if form.is_some() && !races {
+    if form.is_some() && !races && !lint {
         return None;
     }
     check_with(
@@ -394,16 +398,6 @@ fn check_in(
         form.unwrap_or(ListForm::Lines),
         size,
     )
-}
-
-/// Says which two words of `check` exclude each other, or that `--races` is missing for
-/// `--report`.
-fn clash_in(form: Option<ListForm>, lint: bool, races: bool, tree: bool) -> &'static str {
-    if form.is_some() && !races {
-        "the argument '--report' cannot be used without '--races'"
-    } else {
-        clash_with(lint, races, tree)
-    }
 }
 
 /// The task of `check` for a plan of this size: with `--lint`, which excludes the other flags, to
@@ -424,20 +418,7 @@ fn check_with(
     if races || tree || all {
         None
     } else {
-        Some(Task::Lint(size))
-    }
-}
-
-/// Says which two flags of `check` exclude each other, where `--lint` is one of them if it is given.
-fn clash_with(lint: bool, races: bool, tree: bool) -> &'static str {
-    if !lint {
-        clash_of(races, tree)
-    } else if races {
-        "the argument '--lint' cannot be used with '--races'"
-    } else if tree {
-        "the argument '--lint' cannot be used with '--tree'"
-    } else {
-        "the argument '--lint' cannot be used with '--all'"
+        Some(Task::Lint { size, form })
     }
 }
 
@@ -471,18 +452,6 @@ fn checks_all(other: bool, size: Size) -> Option<Task>
         None
     } else {
         Some(Task::CheckAll(size))
-    }
-}
-
-/// Says which two flags of `check` exclude each other, where `--all` is one of them unless the
-/// others are.
-fn clash_of(races: bool, tree: bool) -> &'static str {
-    if races && tree {
-        "the argument '--tree' cannot be used with '--races'"
-    } else if tree {
-        "the argument '--all' cannot be used with '--tree'"
-    } else {
-        "the argument '--all' cannot be used with '--races'"
     }
 }
 

@@ -3,8 +3,9 @@ ghost use Rattle.std.specs.Prelude.{◌<◌, All, length};
 
 use crate::screen::shown_text;
 use crate::times::{TestTimes, Times, seconds};
+use ext_page::Holders;
 use ext_report::{Extra, slowest_tests};
-use ext_run::{NodeResult, RunListener, Tree};
+use ext_run::{Call, Kind, NodeResult, RunListener, Tree};
 use std::alloc::{AllocError, Global};
 use std::sync::{Mutex, Wait};
 use std::time::{Clock, Duration, Instant};
@@ -21,9 +22,14 @@ pub(crate) struct Durations<'a, R> {
 }
 
 impl<'a, R: AllocGlobal> Durations<'a, R> {
-    /// The times of a run of so many nodes that has not begun. Takes memory.
-    pub(crate) fn new(rt: &'a R, nodes: usize) -> Result<Durations<'a, R>, AllocError> {
-        let times = Times::new(rt.alloc(), nodes)?;
+    /// The times of a run of so many nodes that has not begun, and with `holders` its waits for
+    /// locks. Takes memory.
+    pub(crate) fn new(
+        rt: &'a R,
+        nodes: usize,
+        holders: Option<Holders>,
+    ) -> Result<Durations<'a, R>, AllocError> {
+        let times = Times::new(rt.alloc(), nodes, holders)?;
         Ok(Durations {
             rt,
             times: Mutex::new(times),
@@ -40,6 +46,13 @@ impl<R: Wait + Clock> RunListener for Durations<'_, R> {
     fn started(&self, node: usize, lane: usize) {
         if let Ok(now) = Instant::now(self.rt) {
             self.times.lock(self.rt).start(node, lane, now);
+        }
+    }
+
+    fn called(&self, node: usize, call: &Call) {
+        let is_test = !matches!(call.kind, Kind::BeforeAll | Kind::AfterAll);
+        if let Ok(now) = Instant::now(self.rt) {
+            self.times.lock(self.rt).call(node, is_test, now);
         }
     }
 

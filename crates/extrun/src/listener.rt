@@ -9,14 +9,15 @@ use crate::color::is_dumb;
 use crate::command::Asides;
 use crate::durations::{Durations, tell_durations};
 use crate::failing::{is_json, tell_failures};
-use crate::page::{Course, has_locks};
+use crate::page::{Course, locks_of};
 use crate::progress::{Progress, run_beside};
 use crate::report_files::ReportFiles;
 use crate::times::TestTimes;
 use ext_model::Fault;
+use ext_page::Holders;
 use ext_run::{
-    Failures, FaultOrigin, NodeResult, Options, Plan, PlanRun, RunFault, RunListener, Summary,
-    run_plan,
+    Call, Failures, FaultOrigin, NodeResult, Options, Plan, PlanRun, RunFault, RunListener,
+    Summary, run_plan,
 };
 use std::alloc::AllocError;
 use std::io::Write;
@@ -89,6 +90,8 @@ struct Listener<'a, R> {
     progress: Option<Progress<'a, R>>,
     durations: Option<Durations<'a, R>>,
     failures: Option<Failures<'a, R>>,
+    /// The names of the plan's locks, if a page is asked for.
+    locks: Vec<String>,
 }
 
 impl<'a, R: Wait + Clock + AllocGlobal + Eprint> Listener<'a, R> {
@@ -108,13 +111,20 @@ impl<'a, R: Wait + Clock + AllocGlobal + Eprint> Listener<'a, R> {
             progress: None,
             durations: None,
             failures: None,
+            locks: Vec::new(rt.alloc()),
         };
         if asides.progress {
             let progress = Progress::new(rt, plan, asides.for_terminal, !is_dumb(rt))?;
             listener.progress = Some(progress);
         }
+        let mut holders = None;
+        if for_page {
+            let (names, nodes) = locks_of(rt.alloc(), plan)?;
+            listener.locks = names;
+            holders = Some(Holders::new(rt.alloc(), nodes));
+        }
         if asides.durations || for_files {
-            listener.durations = Some(Durations::new(rt, plan.nodes.len())?);
+            listener.durations = Some(Durations::new(rt, plan.nodes.len(), holders)?);
         }
         if asides.failures || for_page {
             listener.failures = Some(Failures::new(rt, rt.alloc()));
@@ -139,6 +149,7 @@ impl<'a, R: Wait + Clock + AllocGlobal + Eprint> Listener<'a, R> {
             rt,
             durations,
             failures,
+            locks,
             ..
         } = self;
         let (tree, for_terminal) = (plan.tree(), asides.for_terminal);
@@ -159,7 +170,7 @@ impl<'a, R: Wait + Clock + AllocGlobal + Eprint> Listener<'a, R> {
             }
             let course = Course {
                 lanes: if options.plain { 1 } else { options.lanes },
-                may_wait: !options.plain && has_locks(plan),
+                locks,
                 times,
                 faults,
             };
@@ -175,6 +186,12 @@ impl<R: Wait + Clock> RunListener for Listener<'_, R> {
         }
         if let Some(progress) = &self.progress {
             progress.started(node, lane);
+        }
+    }
+
+    fn called(&self, node: usize, call: &Call) {
+        if let Some(durations) = &self.durations {
+            durations.called(node, call);
         }
     }
 

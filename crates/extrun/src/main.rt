@@ -11,6 +11,7 @@
 ghost use Rattle.std.specs.Prelude.{◌≡◌};
 
 mod args;
+mod clash;
 mod color;
 mod command;
 mod durations;

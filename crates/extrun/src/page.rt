@@ -1,30 +1,64 @@
 //! The page of a run.
 ghost use Rattle.std.specs.Prelude.{◌<◌, All, length};
+ghost use Rattle.ext_plan_reading.specs.Plans.{plan_view};
+ghost use Rattle.ext_plan_reading.specs.ReadPlans.{ids_of_nodes};
 
 use crate::times::TestTimes;
-use ext_page::{Attempt, FaultRow, PlacedNodes, RunData, RunHead, page_of};
-use ext_run::{FaultOrigin, Kind, NodeFault, NodeResult, Plan, ReportedFaults, Tree};
+use ext_page::{Attempt, FaultRow, NodeLocks, PlacedNodes, RunData, RunHead, TakenLock, page_of};
+use ext_run::{FaultOrigin, Kind, NodeFault, NodeResult, Plan, PlanLock, ReportedFaults, Tree};
 use std::alloc::{AllocError, Global};
 
 /// What is known of a run beside its results.
 #[derive(Drop)]
 pub(crate) struct Course {
     pub(crate) lanes: usize,
-    /// Whether a test may have waited for locks.
-    pub(crate) may_wait: bool,
+    /// The names of the plan's locks.
+    pub(crate) locks: Vec<String>,
     /// When each test ran.
     pub(crate) times: TestTimes,
     pub(crate) faults: ReportedFaults,
 }
 
-/// Whether a test of a plan holds locks, or is alone.
-pub(crate) fn has_locks(plan: &Plan) -> bool {
-    for node in plan.nodes.as_slice() {
-        if node.isolated || !node.locks.is_empty() {
-            return true;
+/// The names of a plan's locks, and the locks that its nodes hold. Takes memory.
+pub(crate) fn locks_of(
+    alloc: Global,
+    plan: &Plan,
+) -> Result<(Vec<String>, Vec<NodeLocks>), AllocError> {
+    let names = plan.lock_names(alloc)?;
+    let mut nodes = Vec::new(alloc);
+    for node in 0..plan.tree().len() {
+        nodes.push(node_locks(alloc, plan, names.as_slice(), node)?)?;
+    }
+    let mut copied = Vec::new(alloc);
+    for name in names.iter() {
+        copied.push(String::from_str(alloc, name)?)?;
+    }
+    Ok((copied, nodes))
+}
+
+/// The locks that a node and those above it name.
+fn node_locks(
+    alloc: Global,
+    plan: &Plan,
+    names: &[&str],
+    node: usize,
+) -> Result<NodeLocks, AllocError>
+    requires { node < length (ids_of_nodes (plan_view plan.now).nodes) }
+{
+    let mut locks = Vec::new(alloc);
+    let mut is_alone = false;
+    for at in plan.tree().path(node).as_slice() {
+        is_alone |= plan.is_isolated(*at);
+        for lock in plan.locks_of(*at) {
+            if let Some(place) = names.iter().position(|name| *name == lock.name()) {
+                locks.push(TakenLock {
+                    lock: place,
+                    writes: matches!(lock, PlanLock::ReadWrite(_)),
+                })?;
+            }
         }
     }
-    false
+    Ok(NodeLocks { locks, is_alone })
 }
 
 /// The page of a run of the plan of this name. Each node of a plan has a result.
@@ -38,37 +72,42 @@ pub(crate) fn page_text(
     requires { All (λ r. r.node < length tree.now) results.now }
 {
     let placed = PlacedNodes::of(alloc, tree, results)?;
-    let has_lost = course.faults.lost || course.times.lost;
-    let note = note_of(alloc, has_lost, course.may_wait)?;
-    let attempts = course.times.attempts;
+    let Course {
+        lanes,
+        locks,
+        times,
+        faults,
+    } = course;
+    let TestTimes {
+        attempts,
+        waits,
+        lost,
+    } = times;
+    let note = note_of(alloc, faults.lost || lost)?;
     let run = RunData {
         head: RunHead {
             name: String::from_str(alloc, name)?,
             wall: end_of(attempts.as_slice()),
-            lanes: course.lanes,
-            note,
+            lanes,
+            note: Some(note),
         },
-        locks: Vec::new(alloc),
+        locks,
         nodes: placed.nodes,
         attempts,
-        faults: fault_rows(alloc, course.faults.faults)?,
-        waits: Vec::new(alloc),
+        faults: fault_rows(alloc, faults.faults)?,
+        waits,
         values: Vec::new(alloc),
     };
     page_of(alloc, &run)
 }
 
-/// What is said of a run in its page's head, if there is something.
-fn note_of(alloc: Global, has_lost: bool, may_wait: bool) -> Result<Option<String>, AllocError> {
-    let of_locks = "the bar of a test also has the time in which it waited for its locks";
-    let of_lost = "there was no memory for all that is shown here";
-    let note = match (has_lost, may_wait) {
-        (true, true) => format!(in alloc; "{of_lost}; {of_locks}")?,
-        (true, false) => String::from_str(alloc, of_lost)?,
-        (false, true) => String::from_str(alloc, of_locks)?,
-        (false, false) => return Ok(None),
-    };
-    Ok(Some(note))
+/// What is said of a run in its page's head.
+fn note_of(alloc: Global, has_lost: bool) -> Result<String, AllocError> {
+    let of_values = "what nodes keep in stores is not shown";
+    if has_lost {
+        return format!(in alloc; "there was no memory for all that is shown; {of_values}");
+    }
+    String::from_str(alloc, of_values)
 }
 
 /// When the last test ended.

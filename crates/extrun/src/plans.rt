@@ -250,7 +250,7 @@ where
         Task::CheckRaces { size, form } => {
             check_races(rt.alloc(), &mut reader, writer, size, form)
         }
-        Task::Lint(size) => check_lint(rt.alloc(), &mut reader, writer, size),
+        Task::Lint { size, form } => check_lint(rt.alloc(), &mut reader, writer, size, form),
     }
 }
 

@@ -70,7 +70,7 @@ impl<'a> ReportFiles<'a> {
         requires { All (λ r. r.node < length tree.now) results.now }
     {
         if let Some(name) = &self.names.junit {
-            let report = match junit_report_with(rt.alloc(), tree, results, extras) {
+            let report = match junit_report_with(rt.alloc(), tree, results, extras, &[]) {
                 Ok(text) => Ok(text.into_bytes()),
                 Err(fault) => Err(fault),
             };

@@ -1,11 +1,11 @@
 //! Texts on their way to a terminal.
-ghost use Rattle.std.specs.Prelude.{◌≡◌, string_bytes, IfOk, OnOk};
+ghost use Rattle.std.specs.Prelude.{OnOk};
 ghost use Rattle.std.specs.Io.KnownBytes.{Appends};
 ghost use Rattle.ext_report.specs.TerminalLines.{visible_lines};
-ghost use Rattle.extrun.specs.Lines.{shown_text};
 
+pub(crate) use ext_report::shown_text;
 use ext_report::write_visible_lines;
-use std::alloc::{AllocError, Global};
+use std::alloc::Global;
 use std::io::{self, ErrorKind, Write};
 
 /// A writer of texts. If it is for a terminal, it holds what it is given until it is flushed, and
@@ -83,21 +83,4 @@ fn show<W: Write>(alloc: Global, writer: &mut W, lines: &[u8]) -> io::Result<()>
     let mut shown = String::new(alloc);
     write_visible_lines(&mut shown, lines)?;
     writer.write_all(shown.as_bytes())
-}
-
-/// Lines as they are printed: for a terminal with each control character escaped but their line
-/// feeds. Takes memory.
-pub(crate) fn shown_text(
-    alloc: Global,
-    lines: String,
-    for_terminal: bool,
-) -> Result<String, AllocError>
-    ensures { IfOk result (λ shown. string_bytes shown ≡ shown_text for_terminal (string_bytes lines)) }
-{
-    if !for_terminal {
-        return Ok(lines);
-    }
-    let mut shown = String::new(alloc);
-    write_visible_lines(&mut shown, lines.as_str())?;
-    Ok(shown)
 }

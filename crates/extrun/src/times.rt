@@ -1,10 +1,10 @@
 //! When the nodes of a run started, and how long they took.
 ghost use Rattle.std.specs.Prelude.{◌≡◌, string_bytes, vec_len, IfOk};
 ghost use Rattle.std.specs.Duration.{as_nanos};
-ghost use Rattle.extrun.specs.Times.{seconds_text, time_text};
+ghost use Rattle.extrun.specs.Times.{seconds_text};
 
-use ext_page::Attempt;
-use ext_report::Extra;
+use ext_page::{Attempt, Holders, LEAST_WAIT, Wait, Waited};
+use ext_report::{Extra, write_seconds};
 use ext_run::NodeResult;
 use std::alloc::{AllocError, Global};
 use std::time::{Duration, Instant};
@@ -12,28 +12,45 @@ use std::time::{Duration, Instant};
 /// The times of the nodes of a run, in the order of the plan.
 #[derive(Drop)]
 pub(crate) struct Times {
-    started: Vec<Option<(Instant, usize)>>,
+    started: Vec<Option<Started>>,
     /// How long each node took that has ended.
     extras: Vec<Extra>,
     /// When the first node started.
     begun: Option<Instant>,
-    /// The tests that ran.
-    attempts: Vec<Attempt>,
-    /// Whether one of them was lost for want of memory.
-    lost: bool,
+    tests: TestTimes,
+    /// Who held locks, if that is asked for.
+    holders: Option<Holders>,
+}
+
+/// The start of a node.
+#[derive(Clone, Copy)]
+struct Started {
+    at: Instant,
+    lane: usize,
+    /// How many tests had ended by then.
+    ends: usize,
+    /// When its first call began. A test has its locks then.
+    called: Option<Instant>,
 }
 
 /// When the tests of a run ran.
 #[derive(Drop)]
 pub(crate) struct TestTimes {
     pub(crate) attempts: Vec<Attempt>,
-    /// Whether one was lost for want of memory.
+    /// When they waited for locks.
+    pub(crate) waits: Vec<Wait>,
+    /// Whether something was lost for want of memory.
     pub(crate) lost: bool,
 }
 
 impl Times {
-    /// The times of so many nodes, none of which has started. Takes memory.
-    pub(crate) fn new(alloc: Global, nodes: usize) -> Result<Times, AllocError>
+    /// The times of so many nodes, none of which has started. Waits for locks are noted with who held
+    /// them if `holders` are given. Takes memory.
+    pub(crate) fn new(
+        alloc: Global,
+        nodes: usize,
+        holders: Option<Holders>,
+    ) -> Result<Times, AllocError>
         ensures started { IfOk result (λ times. vec_len times.started ≡ nodes) }
         ensures extras { IfOk result (λ times. vec_len times.extras ≡ nodes) }
     {
@@ -47,8 +64,8 @@ impl Times {
             started,
             extras,
             begun: None,
-            attempts: Vec::new(alloc),
-            lost: false,
+            tests: TestTimes::new(alloc),
+            holders,
         })
     }
 
@@ -57,48 +74,101 @@ impl Times {
         if self.begun.is_none() {
             self.begun = Some(now);
         }
+        let ends = match &self.holders {
+            Some(holders) => holders.ended(),
+            None => 0,
+        };
         if let Some(started) = self.started.get_mut(node) {
-            *started = Some((now, lane));
+            *started = Some(Started {
+                at: now,
+                lane,
+                ends,
+                called: None,
+            });
         }
+    }
+
+    /// Notes that a call of a node begins now; that of a test says so. A test has its locks then, for
+    /// the last of which it waited if another one kept it meanwhile.
+    pub(crate) fn call(&mut self, node: usize, is_test: bool, now: Instant) {
+        let Some(Some(started)) = self.started.get_mut(node) else {
+            return;
+        };
+        if started.called.is_some() {
+            return;
+        }
+        started.called = Some(now);
+        let started = *started;
+        if is_test {
+            let kept = self.note_locks(node, started, now);
+            self.tests.lost |= kept.is_err();
+        }
+    }
+
+    /// Notes the wait of a test that has its locks now.
+    fn note_locks(
+        &mut self,
+        node: usize,
+        started: Started,
+        now: Instant,
+    ) -> Result<(), AllocError> {
+        let Some(holders) = &mut self.holders else {
+            return Ok(());
+        };
+        let held = holders.begin(node, started.ends)?;
+        let first = self.begun.unwrap_or(started.at);
+        let (begun, ended) = (micros(first, started.at), micros(first, now));
+        if let Some(held) = held
+            && ended.saturating_sub(begun) >= LEAST_WAIT
+        {
+            self.tests.waits.push(Wait {
+                lane: started.lane,
+                node,
+                begun,
+                ended,
+                waited: Waited::ForLock(held.lock),
+                by: Some(held.by),
+            })?;
+        }
+        Ok(())
     }
 
     /// Notes that a node has ended now.
     pub(crate) fn end(&mut self, ran: &NodeResult, now: Instant) {
-        let Some(Some((started, lane))) = self.started.get(ran.node) else {
+        let Some(Some(started)) = self.started.get(ran.node) else {
             return;
         };
-        let (started, lane) = (*started, *lane);
+        let started = *started;
         if let Some(extra) = self.extras.get_mut(ran.node) {
-            let took = now.saturating_duration_since(started);
+            let took = now.saturating_duration_since(started.at);
             *extra = Extra::new(Some(took), 0);
         }
         if ran.is_test {
-            self.note(ran, lane, started, now);
+            self.note(ran, started, now);
         }
     }
 
-    /// Notes when a test ran, if there is memory for it. It begins where its locks are asked for.
-    fn note(&mut self, ran: &NodeResult, lane: usize, started: Instant, now: Instant) {
-        let begun = self.begun.unwrap_or(started);
-        let kept = self.attempts.push(Attempt {
+    /// Notes when a test ran, if there is memory for it.
+    fn note(&mut self, ran: &NodeResult, started: Started, now: Instant) {
+        let first = self.begun.unwrap_or(started.at);
+        let begun = started.called.unwrap_or(started.at);
+        let kept = self.tests.attempts.push(Attempt {
             node: ran.node,
-            lane,
-            begun: micros(begun, started),
-            ended: micros(begun, now),
+            lane: started.lane,
+            begun: micros(first, begun),
+            ended: micros(first, now),
             status: ran.status,
         });
-        self.lost |= kept.is_err();
+        self.tests.lost |= kept.is_err();
+        if let Some(holders) = &mut self.holders {
+            self.tests.lost |= holders.end(ran.node).is_err();
+        }
     }
 
     /// How long each node took, in the order of the plan, and when each test ran.
     pub(crate) fn into_parts(self) -> (Vec<Extra>, TestTimes) {
-        let Times {
-            extras,
-            attempts,
-            lost,
-            ..
-        } = self;
-        (extras, TestTimes { attempts, lost })
+        let Times { extras, tests, .. } = self;
+        (extras, tests)
     }
 }
 
@@ -107,6 +177,7 @@ impl TestTimes {
     pub(crate) fn new(alloc: Global) -> TestTimes {
         TestTimes {
             attempts: Vec::new(alloc),
+            waits: Vec::new(alloc),
             lost: false,
         }
     }
@@ -122,13 +193,8 @@ fn micros(from: Instant, to: Instant) -> u64 {
 pub(crate) fn seconds(alloc: Global, time: Duration) -> Result<String, AllocError>
     ensures { IfOk result (λ text. string_bytes text ≡ seconds_text (as_nanos time)) }
 {
-    time_text(alloc, time.as_secs(), time.subsec_millis())
-}
-
-/// The text of whole seconds and milliseconds.
-fn time_text(alloc: Global, seconds: u64, millis: u32) -> Result<String, AllocError>
-    ensures { IfOk result (λ text. string_bytes text ≡ time_text seconds millis) }
-{
-    let (tenths, hundredths, thousandths) = (millis / 100, millis / 10 % 10, millis % 10);
-    format!(in alloc; "{seconds}.{tenths}{hundredths}{thousandths} s")
+    let mut text = String::new(alloc);
+    write_seconds(&mut text, time.as_millis())?;
+    text.push_str(" s")?;
+    Ok(text)
 }

@@ -117,6 +117,7 @@ struct Heard {
     lanes: usize,
     nodes: usize,
     starts: Counts,
+    calls: Counts,
     faults: Counts,
     ends: Counts,
     wrong: AtomicU64,
@@ -128,6 +129,7 @@ impl Heard {
             lanes: if options.plain { 1 } else { options.lanes },
             nodes,
             starts: Counts::new(),
+            calls: Counts::new(),
             faults: Counts::new(),
             ends: Counts::new(),
             wrong: AtomicU64::new(0),
@@ -146,13 +148,19 @@ impl RunListener for Heard {
     /// Comes first, on a lane of the run.
     fn started(&self, node: usize, lane: usize) {
         self.expect(lane < self.lanes);
-        self.expect(self.faults.of(node) == Some(0) && self.ends.of(node) == Some(0));
+        self.expect(self.calls.of(node) == Some(0) && self.ends.of(node) == Some(0));
         self.starts.add(node);
     }
 
-    /// Comes between the start and the end, with the next of the faults where the node has three.
-    fn faulted(&self, node: usize, origin: FaultOrigin, fault: &Fault) {
+    /// Comes between the start and the end.
+    fn called(&self, node: usize, _call: &Call) {
         self.expect(self.starts.of(node) == Some(1) && self.ends.of(node) == Some(0));
+        self.calls.add(node);
+    }
+
+    /// Comes between a call and the end, with the next of the faults where the node has three.
+    fn faulted(&self, node: usize, origin: FaultOrigin, fault: &Fault) {
+        self.expect(self.calls.of(node) > Some(0) && self.ends.of(node) == Some(0));
         let told = self.faults.add(node);
         if self.nodes == 2 {
             self.expect(is_next(told, origin, fault));
@@ -212,7 +220,7 @@ fn failing_report<R: Threads + Wait + Sync + Abort, L: RunListener + Sync>(
 }
 
 /// Asserts that of each node that was run so it is told once that it started and once that it
-/// ended, with its fault between, and nothing of the skipped one.
+/// ended, with its call and the fault of that between, and nothing of the skipped one.
 fn hears_each_node<R: Threads + Wait + Sync + Abort>(
     rt: &R,
     alloc: Global,
@@ -224,6 +232,8 @@ fn hears_each_node<R: Threads + Wait + Sync + Abort>(
     failing_report(rt, alloc, PLAN, options, &heard)?;
     let ran = [Some(1), Some(1), Some(0), Some(1)];
     same(rt, heard.starts.all(), ran, "the starts");
+    let calls = [Some(0), Some(1), Some(0), Some(1)];
+    same(rt, heard.calls.all(), calls, "the calls");
     let faults = [Some(0), Some(1), Some(0), Some(1)];
     same(rt, heard.faults.all(), faults, "the faults");
     same(rt, heard.ends.all(), ran, "the ends");
@@ -232,8 +242,8 @@ fn hears_each_node<R: Threads + Wait + Sync + Abort>(
     Ok(())
 }
 
-/// In a plain run and on four lanes the listener is told once of each node's start, fault and end,
-/// in this order, and nothing of a skipped one.
+/// In a plain run and on four lanes the listener is told once of each node's start, call, fault and
+/// end, in this order, and nothing of a skipped one.
 /// Tests `run_plan`.
 #[test]
 fn listener_is_told_once_of_each_node_that_ran(rt: HostRuntime) -> Result<(), Fail> {
@@ -253,6 +263,8 @@ fn hears_three_faults<R: Threads + Wait + Sync + Abort>(
     let heard = Heard::of(options, 2);
     let report = failing_report(rt, alloc, THREE_FAULTS, options, &heard)?;
     same(rt, report.as_str(), THREE_FAULTS_REPORT, "the report");
+    let calls = [Some(0), Some(3), Some(0), Some(0)];
+    same(rt, heard.calls.all(), calls, "the calls");
     let faults = [Some(0), Some(3), Some(0), Some(0)];
     same(rt, heard.faults.all(), faults, "the faults");
     let wrong = heard.wrong.load(Ordering::SeqCst);
@@ -271,7 +283,7 @@ fn listener_is_told_all_faults_of_a_test(rt: HostRuntime) -> Result<(), Fail> {
 
 /// Holds the first of two tests up, while it has its locks, until the other one has started and for
 /// a while more, and counts the starts on either lane. It counts what is missed: the start of the
-/// other one, or that no more than one is held up at a time.
+/// other one, that its call begins behind that, or that no more than one is held up at a time.
 #[derive(Drop)]
 struct HoldsUp<'a, C> {
     clock: &'a C,
@@ -294,6 +306,13 @@ impl<C> HoldsUp<'_, C> {
 impl<C: Clock> RunListener for HoldsUp<'_, C> {
     fn started(&self, _node: usize, lane: usize) {
         self.starts.add(lane);
+    }
+
+    /// The other test has its locks, and so none is held up.
+    fn called(&self, _node: usize, _call: &Call) {
+        if self.held.load(Ordering::SeqCst) == 1 {
+            self.miss();
+        }
     }
 
     fn faulted(&self, _node: usize, _origin: FaultOrigin, _fault: &Fault) {
@@ -334,7 +353,7 @@ fn one_waits<R: Threads + Wait + Sync + Abort + Clock>(
 }
 
 /// Of two tests that may not run at once, by a lock or since one is isolated, both are told as
-/// started before the first one ends.
+/// started before the first one ends, and a call of the second after it.
 /// Tests `run_plan` and `run_tree`.
 #[test]
 fn listener_is_told_of_a_test_that_waits_for_a_lock(rt: HostRuntime) -> Result<(), Fail> {

@@ -81,7 +81,7 @@ fn results(alloc: Global) -> Result<Vec<NodeResult>, Fail> {
 const IN_XML: &str = r#"<?xml version="1.0" encoding="UTF-8"?>
 <testsuites time="3661.999" tests="5" failures="2" errors="0" skipped="1">
   <testsuite name="A" time="1.304" tests="3" failures="1" errors="0" skipped="0">
-    <testcase classname="A" name="a()" time="1.234"><flakyFailure type="failed" message="failed at attempt 1"/><flakyFailure type="failed" message="failed at attempt 2"/></testcase>
+    <testcase classname="A" name="a()" time="1.234"><flakyFailure type="failed" message="not &lt;yet&gt;"><stackTrace>not &lt;yet&gt;&#10;no</stackTrace></flakyFailure><flakyFailure type="failed" message="failed at attempt 2"/></testcase>
     <testcase classname="A" name="b()" time="0.070"><failure type="failed" message="too &lt;late&gt;">too &lt;late&gt;</failure></testcase>
     <testcase classname="A" name="c()"></testcase>
   </testsuite>
@@ -128,11 +128,21 @@ tests 4 successful 2 aborted 0 failed 1 skipped 1
 computed 0 found 0 closed 0 close faults 0
 ";
 
+/// What the first attempt of context 2 said; of its second nothing is known.
+fn said(alloc: Global) -> Result<Vec<String>, Fail> {
+    let mut said = Vec::new(alloc);
+    said.push(String::from_str(alloc, "not <yet>\nno")?)?;
+    Ok(said)
+}
+
 /// Asserts what the reports of these results tell.
 fn tells<R: Abort>(rt: &R, alloc: Global, tree: &Tree, results: &[NodeResult]) -> Result<(), Fail> {
     assert!(rt; results.iter().all(|r| r.node < tree.len()));
     let extras = extras_of(alloc, &KNOWN)?;
-    let xml = junit_report_with(alloc, tree, results, &extras)?;
+    let said = said(alloc)?;
+    let nothing: &[String] = &[];
+    let earlier = [nothing, nothing, said.as_slice()];
+    let xml = junit_report_with(alloc, tree, results, &extras, &earlier)?;
     same(rt, xml.as_str(), IN_XML, "the report in XML");
     let text = report_text_with(alloc, tree, results, &extras)?;
     same(rt, text.as_str(), IN_TEXT, "the report as text");

@@ -10,9 +10,8 @@ pub returns-in-Ok-hand_all-clause-call : goal.returns-in-Ok-hand_all-clause-call
 returns-in-Ok-hand_all-clause-call g c = inl (record {
   handed = handed_by c.hand_all.new.handing c.hand_all.new.lane;
   hands = c.in-Ok-hand_all.ensures.all;
-  moved = c.verdict_on-verdict.ensures.moved;
   verdict = c.verdict_on-verdict.result;
-  calls = subst (λ values. CallsKind (g.E.Engine.test_gives c.args.self.now.engine.now) c.args.self.now.attempts c.args.self.now.rows.now c.args.call.now.kind c.args.call.now.from c.args.call.now.index (map (λ s. s.now) values) c.verdict_on-verdict.result) c.as_slice.ensures.value c.verdict_on-verdict.ensures.calls;
+  calls = subst (λ values. CallsKind (g.E.Engine.test_gives c.args.self.now.engine.now) (g.E.Engine.lane_gives c.args.self.now.engine.now c.args.node) c.args.self.now.attempts c.args.self.now.rows.now c.args.call.now.kind c.args.call.now.from c.args.call.now.index (map (λ s. s.now) values) c.hand_all.new.lane c.verdict_on-verdict.result c.verdict_on-verdict.new.lane) c.as_slice.ensures.value c.verdict_on-verdict.ensures.calls;
   outcome_is = refl;
 })
 
