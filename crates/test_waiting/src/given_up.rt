@@ -203,6 +203,33 @@ fn compute<R: Clock + Wait>(
     }
 }
 
+/// Ends a claim in the class so that all who sleep are woken. Says whether it was had.
+fn wake_all(store: &Store<Letter>, lane: &mut Lane<Letter>, number: KeyNo) -> bool
+    requires lane { IsLaneOf store.now.id lane.old }
+    requires context { 2 < length store.now.tree }
+    requires key { number < length store.now.id.keys }
+    ensures { IsLaneOf store.now.id lane.new }
+{
+    let Ok(claim) = store.begin_numbered(lane, 1, number) else {
+        return false;
+    };
+    store.abandon(lane, claim);
+    true
+}
+
+/// Wakes the lane that sleeps.
+fn end_sleep(store: &Store<Letter>, lane: &mut Lane<Letter>, number: KeyNo)
+    requires lane { IsLaneOf store.now.id lane.old }
+    requires context { 2 < length store.now.tree }
+    requires key { number < length store.now.id.keys }
+{
+    for _ in 0..BEGINS {
+        if wake_all(store, lane, number) {
+            break;
+        }
+    }
+}
+
 /// Begins computes in the method until the lane that sleeps went on, or a factory is called.
 fn begin_until_woken<R: Clock + Wait>(
     rt: &R,
@@ -215,6 +242,7 @@ fn begin_until_woken<R: Clock + Wait>(
     requires lane { IsLaneOf store.now.id lane.old }
     requires context { 2 < length store.now.tree }
     requires key { number < length store.now.id.keys }
+    ensures { IsLaneOf store.now.id lane.new }
 {
     for _ in 0..BEGINS {
         if round.puts_go_on.load(Ordering::SeqCst) != 1 {
@@ -232,8 +260,8 @@ fn begin_until_woken<R: Clock + Wait>(
     }
 }
 
-/// Has another lane sleep, and begins computes until it goes on. Where nothing wakes it the test
-/// fails.
+/// Has another lane sleep, and begins computes until it goes on, or as often as a round has it. Then
+/// it is woken.
 fn wake_by_giving_up<R: Abort + Clock + Wait>(
     rt: &R,
     store: &Store<Letter>,
@@ -249,6 +277,8 @@ fn wake_by_giving_up<R: Abort + Clock + Wait>(
     {
         round.start_puts(rt);
         begin_until_woken(rt, store, lane, key, number, round);
+        round.end_puts();
+        end_sleep(store, lane, number);
     }
     round.end_puts();
     round.gate.watch(rt);
